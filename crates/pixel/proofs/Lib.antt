@@ -1,0 +1,2 @@
+-- Laws of channels and stored pixels.
+pub mod Channels

@@ -1,0 +1,48 @@
+use Prim.Native.Nat.{_-_}
+use native.Mathlib.Omega.{arith}
+use Rattle.pixel.specs.Alpha.{near}
+use borrow.Author.Needs.{needs}
+use Rattle.pixel.proofs.blend.AlphaMode.alpha.Statement.{statement}
+use Rattle.pixel.proofs.blend.AlphaMode.alpha.Tie as tie
+
+enum-told : tie.Need-enum-told
+enum-told c = search needs
+
+enum-told-2 : tie.Need-enum-told-2
+enum-told-2 c = search needs
+
+enum-told-3 : tie.Need-enum-told-3
+enum-told-3 c = search needs
+
+product-requires : tie.Need-product-requires
+product-requires c κs = search needs
+
+near-requires : tie.Need-near-requires
+near-requires c κs = search needs
+
+cast-result : tie.Need-cast-result
+unfolding near
+cast-result c = omega (arith, c .near .ensures)
+
+returns : tie.Need-returns
+returns c = search needs
+
+returns-2 : tie.Need-returns-2
+returns-2 c = search needs
+
+returns-3 : tie.Need-returns-3
+returns-3 c = rw (c .before .before .enum-told3 .given .1) (cc)
+
+pub alpha-spec : {M : Type 1} → statement M
+alpha-spec =
+    tie.close
+    (tie.spec
+    enum-told
+    enum-told-2
+    enum-told-3
+    product-requires
+    near-requires
+    cast-result
+    returns
+    returns-2
+    returns-3)

@@ -1,0 +1,47 @@
+use mathlib.Core.Path.{_≡_, ap, _∙_}
+use Prim.Native.Nat.{_+_, _-_, _*_}
+use native.Mathlib.Omega.{arith}
+use Rattle.pixel.specs.Blending.{blendedChannel}
+use Rattle.pixel.specs.Alpha.{near}
+use borrow.Author.Needs.{needs}
+use Rattle.pixel.proofs.blend.blend_channel.Statement.{statement}
+use Rattle.pixel.proofs.blend.blend_channel.Tie as tie
+
+product-requires : tie.Need-product-requires
+product-requires c κs = search needs
+
+product-requires-2 : tie.Need-product-requires-2
+product-requires-2 c κs = search needs
+
+add-near : tie.Need-add-near
+add-near c = search needs
+
+near-requires : tie.Need-near-requires
+near-requires c κs = search needs
+
+cast-result : tie.Need-cast-result
+cast-result c = search needs
+
+-- what `near` was asked
+quotient : (c : tie.After-near) → c .near .result ≡ near (c .before .before .before .args .s * c .before .before .before .args .fs + c .before .before .before .args .d * c .before .before .before .args .fd)
+quotient c = c .near .ensures ∙ ap near (cc)
+
+returns : tie.Need-returns
+unfolding blendedChannel
+returns c = omega (arith, quotient (c .before))
+
+returns-2 : tie.Need-returns-2
+unfolding blendedChannel
+returns-2 c = omega (arith, quotient (c .before))
+
+pub blend-channel-spec : {M : Type 1} → statement M
+blend-channel-spec =
+    tie.close
+    (tie.spec
+    product-requires
+    product-requires-2
+    add-near
+    near-requires
+    cast-result
+    returns
+    returns-2)

@@ -1,0 +1,29 @@
+-- Nearest division by 255, and the alpha modes (01, "Pixels"; 001, alpha modes).
+use Prim.Native.Nat.{ℕ, _+_, _*_, _/_}
+use mathlib.Core.Bool.{Bool, cond}
+use lib.Dec.{eqb, leb}
+use Rattle.pixel.specs.declared.colour.Colour.{Colour}
+use Rattle.pixel.specs.declared.blend.AlphaMode.{AlphaMode}
+use Rattle.pixel.specs.declared.blend.AlphaMode.the-variants.{Pixel, Global, Mixed}
+
+-- the whole part of (n + 127) / 255
+unfoldable pub near : ℕ → ℕ
+near n = (n + 127) / 255
+
+-- a number is the code of an alpha mode
+abbrev pub isAlphaMode : ℕ → Bool
+isAlphaMode code = leb code 2
+
+-- the mode of a code: 0 pixel, 1 global, 2 mixed; a number that is no code, which fault 24 keeps out of every register, counts as 2
+abbrev pub alphaModeOf : ℕ → AlphaMode
+alphaModeOf code = cond (eqb code 0) Pixel (cond (eqb code 1) Global Mixed)
+
+-- the alpha of a pixel under a mode, with the surface's global alpha
+abbrev pub alphaBy : AlphaMode → ℕ → ℕ → ℕ
+alphaBy Pixel global pixel = pixel
+alphaBy Global global pixel = global
+alphaBy Mixed global pixel = near (pixel * global)
+
+-- a colour with its alpha under a mode
+abbrev pub withAlpha : AlphaMode → ℕ → Colour → Colour
+withAlpha mode global c = record { alpha = alphaBy mode global (c .alpha); red = c .red; green = c .green; blue = c .blue }

@@ -1,0 +1,6 @@
+-- Formats, colours, blending.
+pub mod Formats
+pub mod Colours
+pub mod Alpha
+pub mod Blending
+pub mod Rules

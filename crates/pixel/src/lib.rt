@@ -1,0 +1,15 @@
+// Pixels: what the formats store, and how two colours are blended.
+pub mod blend;
+pub mod colour;
+pub mod format;
+
+pub use blend::AlphaMode;
+pub use blend::Factor;
+pub use blend::Rule;
+pub use blend::RuleName;
+pub use colour::Colour;
+pub use format::Argb8888;
+pub use format::Format;
+pub use format::Layout;
+pub use format::Rgb565;
+pub use format::Rgb888;

@@ -1,0 +1,2 @@
+-- Runs of bytes.
+pub mod Range

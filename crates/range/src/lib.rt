@@ -1,0 +1,47 @@
+// Runs of bytes, by their first byte and the one past their last.
+ghost use mathlib.Core.Path.{_≡_};
+ghost use Prim.Native.Nat.{min, max};
+ghost use Rattle.range.specs.Range.{runOf, inside, shared};
+
+pub struct Range {
+    pub start: usize,
+    pub end: usize,
+}
+
+fn least(a: usize, b: usize) -> usize
+    ensures { λ r. ⌜ r ≡ min a b ⌝ }
+{
+    if a < b { a } else { b }
+}
+
+fn greatest(a: usize, b: usize) -> usize
+    ensures { λ r. ⌜ r ≡ max a b ⌝ }
+{
+    if a < b { b } else { a }
+}
+
+impl Range {
+    // The run of `length` bytes from `start` on. Both are 32 bits wide, so that the end fits.
+    pub fn new(start: u32, length: u32) -> Self
+        ensures { λ r. ⌜ r ≡ runOf start length ⌝ }
+    {
+        Range {
+            start: start as usize,
+            end: (start as usize) + (length as usize),
+        }
+    }
+
+    // Whether the run lies wholly in another.
+    pub fn is_inside(self, other: Range) -> bool
+        ensures { λ r. ⌜ r ≡ inside self other ⌝ }
+    {
+        (other.start <= self.start) & (self.end <= other.end)
+    }
+
+    // Whether some byte lies in both runs.
+    pub fn shares(self, other: Range) -> bool
+        ensures { λ r. ⌜ r ≡ shared self other ⌝ }
+    {
+        greatest(self.start, other.start) < least(self.end, other.end)
+    }
+}
