@@ -22,6 +22,14 @@ pub narrowed-none : (c : ℕ) → c < 256 → narrowed 0 c ≡ 0
 unfolding narrowed
 narrowed-none c small = omega arith
 
+-- a narrowed byte fits in its channel
+pub narrowed-small : (width c : ℕ) → width ≤ 8 → c < 256 → narrowed width c < 2 ^ width
+unfolding narrowed
+narrowed-small width c most small =
+    let e : width + (8 - width) ≡ 8 = omega arith in
+    let p : 2 ^ width * 2 ^ (8 - width) ≡ 256 = sym (pow-add 2 width (8 - width)) ∙ ap (λ (n : ℕ). 2 ^ n) e in
+    div-lt-iff-lt-mul (pow-pos (8 - width)) .1 (rw p small)
+
 module _ (width : ℕ) (some : 4 ≤ width) (most : width ≤ 8) (c : ℕ) (fits : c < 2 ^ width) where
   -- what widening adds below the channel's bits stays below them
   added-small : c / 2 ^ (2 * width - 8) < 2 ^ (8 - width)

@@ -1,2 +1,3 @@
 -- Laws of channels and stored pixels.
 pub mod Channels
+pub mod Stored

@@ -1,0 +1,30 @@
+-- Every output pixel comes from a pixel of the source.
+use Prim.Native.Nat.{ℕ, _-_, _<_}
+use mathlib.Core.Bool.{Bool, true, false}
+use native.Mathlib.Omega.{arith}
+use Rattle.transform.specs.declared.Rotation.{Rotation}
+use Rattle.transform.specs.declared.Rotation.the-variants.{Upright, Clockwise, Half, CounterClockwise}
+use Rattle.transform.specs.declared.Flip.{Flip}
+use Rattle.transform.specs.declared.Transform.{Transform}
+use Rattle.transform.specs.declared.Size.{Size}
+use Rattle.transform.specs.declared.Point.{Point}
+use Rattle.transform.specs.Transform.{Within, rotatedSize, unrotated, mirrored, unflipped, sourceOf}
+
+pub unrotated-within : (r : Rotation) (s : Size) (p : Point) → Within (rotatedSize r s) p → Within s (unrotated r s p)
+unrotated-within Upright s p h = h
+unrotated-within Clockwise s p h = record { across = h .down; down = omega (arith, h .across) }
+unrotated-within Half s p h = record { across = omega (arith, h .across); down = omega (arith, h .down) }
+unrotated-within CounterClockwise s p h = record { across = omega (arith, h .down); down = h .across }
+
+pub mirrored-below : (on : Bool) (n i : ℕ) → i < n → mirrored on n i < n
+mirrored-below true n i h = omega arith
+mirrored-below false n i h = h
+
+pub source-within : (t : Transform) (s : Size) (p : Point) → Within (rotatedSize (t .rotation) s) p → Within s (sourceOf t s p)
+unfolding sourceOf
+source-within t s p h =
+    let q = unrotated-within (t .rotation) s p h in
+    record {
+      across = mirrored-below (t .flip .horizontal) (s .width) (unrotated (t .rotation) s p .x) (q .across);
+      down = mirrored-below (t .flip .vertical) (s .height) (unrotated (t .rotation) s p .y) (q .down);
+    }

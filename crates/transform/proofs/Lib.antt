@@ -1,0 +1,2 @@
+-- Laws of flips and rotations.
+pub mod Inside

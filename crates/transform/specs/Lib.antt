@@ -1,0 +1,2 @@
+-- Flips and quarter turns.
+pub mod Transform

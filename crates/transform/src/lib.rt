@@ -1,0 +1,99 @@
+// Flips and rotation by quarter turns: where each output pixel comes from.
+ghost use mathlib.Core.Path.{_≡_};
+ghost use Prim.Native.Nat.{_<_};
+ghost use Rattle.transform.specs.Transform.{Within, rotatedSize, unrotated, mirrored, unflipped, sourceOf};
+
+// A rotation clockwise by 0 to 3 quarter turns.
+pub enum Rotation {
+    Upright,
+    Clockwise,
+    Half,
+    CounterClockwise,
+}
+
+pub struct Flip {
+    pub horizontal: bool,
+    pub vertical: bool,
+}
+
+// A flip, then a rotation.
+pub struct Transform {
+    pub flip: Flip,
+    pub rotation: Rotation,
+}
+
+pub struct Size {
+    pub width: usize,
+    pub height: usize,
+}
+
+pub struct Point {
+    pub x: usize,
+    pub y: usize,
+}
+
+impl Size {
+    // The size of a picture of this size, rotated.
+    pub fn rotated(self, rotation: Rotation) -> Size
+        ensures { λ r. ⌜ r ≡ rotatedSize rotation self ⌝ }
+    {
+        match rotation {
+            Rotation::Upright => self,
+            Rotation::Clockwise => Size {
+                width: self.height,
+                height: self.width,
+            },
+            Rotation::Half => self,
+            Rotation::CounterClockwise => Size {
+                width: self.height,
+                height: self.width,
+            },
+        }
+    }
+}
+
+// Place i of n, counted from the other end if flipped.
+fn mirror(on: bool, n: usize, i: usize) -> usize
+    requires { ⌜ i < n ⌝ }
+    ensures { λ r. ⌜ r ≡ mirrored on n i ⌝ }
+{
+    if on { n - 1 - i } else { i }
+}
+
+impl Rotation {
+    // The pixel of the unrotated picture, of this size, that is pixel `at` of the rotated one.
+    fn origin(self, size: Size, at: Point) -> Point
+        requires { ⌜ Within (rotatedSize self size) at ⌝ }
+        ensures { λ r. ⌜ r ≡ unrotated self size at ⌝ }
+    {
+        let w = size.width;
+        let h = size.height;
+        let x = at.x;
+        let y = at.y;
+        match self {
+            Rotation::Upright => at,
+            Rotation::Clockwise => Point { x: y, y: h - 1 - x },
+            Rotation::Half => Point {
+                x: w - 1 - x,
+                y: h - 1 - y,
+            },
+            Rotation::CounterClockwise => Point { x: w - 1 - y, y: x },
+        }
+    }
+}
+
+impl Transform {
+    // The source pixel, of a source of this size, that is output pixel `at`.
+    pub fn source_of(self, size: Size, at: Point) -> Point
+        requires { ⌜ Within (rotatedSize (self .rotation) size) at ⌝ }
+        ensures { λ r. ⌜ r ≡ sourceOf self size at ⌝ }
+    {
+        let rotation = self.rotation;
+        let flip = self.flip;
+        let p = rotation.origin(size, at);
+        Point {
+            x: mirror(flip.horizontal, size.width, p.x),
+            y: mirror(flip.vertical, size.height, p.y),
+        }
+    }
+}
