@@ -82,18 +82,27 @@ impl Rotation {
     }
 }
 
+impl Flip {
+    // The pixel of the unflipped picture, of this size, that is pixel `at` of the flipped one.
+    fn origin(self, size: Size, at: Point) -> Point
+        requires { ⌜ Within size at ⌝ }
+        ensures { λ r. ⌜ r ≡ unflipped self size at ⌝ }
+    {
+        Point {
+            x: mirror(self.horizontal, size.width, at.x),
+            y: mirror(self.vertical, size.height, at.y),
+        }
+    }
+}
+
 impl Transform {
-    // The source pixel, of a source of this size, that is output pixel `at`.
+    // The source pixel, of a source of this size, that is output pixel `at`. The flip comes first, so it is undone last.
     pub fn source_of(self, size: Size, at: Point) -> Point
         requires { ⌜ Within (rotatedSize (self .rotation) size) at ⌝ }
         ensures { λ r. ⌜ r ≡ sourceOf self size at ⌝ }
     {
-        let rotation = self.rotation;
         let flip = self.flip;
-        let p = rotation.origin(size, at);
-        Point {
-            x: mirror(flip.horizontal, size.width, p.x),
-            y: mirror(flip.vertical, size.height, p.y),
-        }
+        let rotation = self.rotation;
+        flip.origin(size, rotation.origin(size, at))
     }
 }
