@@ -1,0 +1,160 @@
+-- Lists of calls, computed: every refusal with its number, and which comes first where two conditions hold at once. No theorem speaks of that
+-- order, so it is held fast here. The way to draw is a small one that reads common and window and draws in the window.
+use mathlib.Core.Path.{_≡_, refl}
+use mathlib.Core.List.{List, [], _∷_, _++_}
+use mathlib.Core.Bool.{Bool, cond}
+use Prim.Native.Nat.{ℕ, zero, suc, _+_, _%_}
+use native.Mathlib.Omega.{arith}
+use lib.ListN.{length, take, getD, set, length-set, replicate}
+use lib.Dec.{ltb}
+use borrow.Rule.Slice.PartMut.{midOf, putMid}
+use Rattle.model.specs.Windows.{window, byte, overlapAny}
+use Rattle.model.specs.Calls.{Setup, Call, opens, submit, run, pending, Verdict, opened, accepted, completed, ready, refused}
+use Rattle.model.specs.Drawing.{Way, Confined}
+use Rattle.model.specs.State.{Model, fresh, Owns, totalBytes, countOf}
+use Rattle.model.specs.Refusals.{table, firstOf}
+use Rattle.model.specs.Model.{unless, effect, answers, after, executed, end}
+use Rattle.model.specs.Alone.{own, drawAll, replayedAlone}
+use Rattle.model.specs.TwoRuns.{none, more, same, rewritten, Twins}
+use Rattle.model.specs.Claims.{Unmoved}
+use Rattle.model.proofs.Locality.{local-if, local-window}
+use Rattle.model.proofs.Theorems.{claims}
+
+-- ---- a way to draw: a batch whose first byte is 0 is faulty; another adds that byte and common's first to the window's first
+
+abbrev faultless : List ℕ → Bool
+faultless bytes = ltb 0 (getD bytes 0 0)
+
+abbrev good : Verdict
+good = record { status = 0x00010001; fault = 0; offset = 0 }
+
+abbrev bad : Verdict
+bad = record { status = 0x00000002; fault = 23; offset = 4 }
+
+abbrev sum : List ℕ → List ℕ → List ℕ → List ℕ
+sum bytes common window = set window 0 ((getD bytes 0 0 + getD common 0 0 + getD window 0 0) % 256)
+
+abbrev toy : Way
+toy = record {
+  verdict = λ w common bytes. cond (faultless bytes) good bad;
+  draw = λ w common bytes m. cond (faultless bytes) (putMid (w .start) (w .length) m (sum bytes (take common m) (midOf (w .start) (w .length) m))) m;
+}
+
+-- so the claims' premise can be met
+toy-confined : Confined toy
+toy-confined w common bytes =
+    local-if w common (faultless bytes) (λ m. putMid (w .start) (w .length) m (sum bytes (take common m) (midOf (w .start) (w .length) m)))
+    (λ e. local-window w common (sum bytes) (λ c x _ l. rw length-set l))
+
+-- ---- 3 to 9
+
+abbrev setup : Setup
+setup = record { ring = 128; memory = 40; common = 8 }
+
+-- common 100 0 .., then four windows of eight bytes that begin with 1, 2, 3, 4
+abbrev eight : ℕ → List ℕ
+eight x = x ∷ replicate 7 0
+
+abbrev memory : List ℕ
+memory = eight 100 ++ eight 1 ++ eight 2 ++ eight 3 ++ eight 4
+
+abbrev openings : List Call
+openings =
+    run ∷ pending 0 ∷ submit 0 [] ∷
+    opens (window 8 0) ∷ opens (window 36 5) ∷ opens (window 7 1) ∷ opens (window 8 8) ∷ opens (window 15 2) ∷
+    opens (window 16 8) ∷ opens (window 24 8) ∷ opens (window 32 8) ∷ opens (window 8 0) ∷ []
+
+-- 9 nothing ready; 5 before 6; 4 empty, past the end, in common, in a window; the last window ends with memory; 3 before 4
+opened-so : answers toy setup 128 openings (fresh memory) ≡
+    refused 9 ∷ refused 5 ∷ refused 5 ∷
+    refused 4 ∷ refused 4 ∷ refused 4 ∷ opened 0 ∷ refused 4 ∷
+    opened 1 ∷ opened 2 ∷ opened 3 ∷ refused 3 ∷ []
+unfolding answers unless effect table firstOf overlapAny totalBytes countOf
+opened-so = refl
+
+abbrev batches : List Call
+batches =
+    submit 4 (1 ∷ 2 ∷ 3 ∷ []) ∷ submit 0 [] ∷ submit 0 (1 ∷ 2 ∷ 3 ∷ []) ∷ submit 0 (replicate 132 7) ∷
+    submit 0 (replicate 128 7) ∷ submit 1 (replicate 132 7) ∷ submit 1 (replicate 4 7) ∷ pending 0 ∷ run ∷ pending 0 ∷
+    submit 0 (replicate 16 1) ∷ submit 1 (replicate 16 2) ∷ submit 2 (replicate 16 3) ∷ submit 3 (replicate 16 4) ∷
+    submit 0 (replicate 16 5) ∷ submit 1 (replicate 16 0) ∷ submit 2 (replicate 16 7) ∷ submit 3 (replicate 16 8) ∷
+    submit 4 (replicate 4 9) ∷ submit 1 (1 ∷ []) ∷ submit 1 (replicate 4 9) ∷ pending 1 ∷
+    run ∷ submit 2 (replicate 20 9) ∷ submit 2 (replicate 16 9) ∷
+    run ∷ run ∷ run ∷ run ∷ run ∷ run ∷ run ∷ run ∷ run ∷ pending 4 ∷ []
+
+-- 5 before 6; 6 for 0, 3 and 132 bytes; one batch fills the ring; 6 before 8; 8; eight wait and fill the ring: 5 before 7, 6 before 7, 7 before 8;
+-- 8 with a slot free, and the same bytes that are left fit; a faulty batch; 9 at the end; 5 for pending
+submitted-so : answers toy setup 128 batches (end toy setup 128 openings memory) ≡
+    refused 5 ∷ refused 6 ∷ refused 6 ∷ refused 6 ∷
+    accepted 0 ∷ refused 6 ∷ refused 8 ∷ ready 1 ∷ completed 0 0 good ∷ ready 0 ∷
+    accepted 1 ∷ accepted 2 ∷ accepted 3 ∷ accepted 4 ∷
+    accepted 5 ∷ accepted 6 ∷ accepted 7 ∷ accepted 8 ∷
+    refused 5 ∷ refused 6 ∷ refused 7 ∷ ready 2 ∷
+    completed 0 1 good ∷ refused 8 ∷ accepted 9 ∷
+    completed 1 2 good ∷ completed 2 3 good ∷ completed 3 4 good ∷ completed 0 5 good ∷ completed 1 6 bad ∷ completed 2 7 good ∷ completed 3 8 good ∷ completed 2 9 good ∷ refused 9 ∷ refused 5 ∷ []
+unfolding answers after unless effect table firstOf overlapAny totalBytes countOf
+submitted-so = refl
+
+drawn-so : end toy setup 128 (openings ++ batches) memory .memory ≡ eight 100 ++ eight 58 ++ eight 104 ++ eight 66 ++ eight 216
+unfolding after unless effect table firstOf overlapAny totalBytes countOf
+drawn-so = refl
+
+-- client 1 replayed alone: its window as above, the others' as at the start
+alone-so : replayedAlone toy setup 128 1 (openings ++ batches) memory ≡ eight 100 ++ eight 1 ++ eight 104 ++ eight 3 ++ eight 4
+unfolding after executed unless effect table firstOf overlapAny totalBytes countOf own drawAll
+alone-so = refl
+
+-- ---- 10: a lent ring or memory of another length, before all else
+
+abbrev few : List Call
+few = submit 0 (1 ∷ []) ∷ run ∷ opens (window 8 8) ∷ submit 0 (replicate 4 7) ∷ run ∷ pending 0 ∷ pending 1 ∷ []
+
+ring-so : answers toy setup 127 few (fresh memory) ≡ refused 10 ∷ refused 10 ∷ opened 0 ∷ refused 10 ∷ refused 10 ∷ ready 0 ∷ refused 5 ∷ []
+unfolding answers unless effect table firstOf overlapAny totalBytes countOf
+ring-so = refl
+
+memory-so : answers toy setup 128 few (fresh (memory ++ (0 ∷ []))) ≡ refused 5 ∷ refused 10 ∷ opened 0 ∷ accepted 0 ∷ refused 10 ∷ ready 1 ∷ refused 5 ∷ []
+unfolding answers unless effect table firstOf overlapAny totalBytes countOf
+memory-so = refl
+
+-- ---- tickets go on from 4,294,967,295 to 0
+
+abbrev late : Model
+late = record { windows = window 8 8 ∷ []; waiting = []; accepted = 4294967295; memory = memory }
+
+wraps-so : answers toy setup 128 (submit 0 (replicate 4 7) ∷ submit 0 (replicate 4 8) ∷ run ∷ run ∷ []) late ≡
+    accepted 4294967295 ∷ accepted 0 ∷ completed 0 4294967295 good ∷ completed 0 0 good ∷ []
+unfolding answers unless effect table firstOf overlapAny totalBytes countOf
+wraps-so = refl
+
+-- ---- two runs: other batches of client 0's, a refused one too, and another byte in the window that it opens
+
+abbrev few′ : List Call
+few′ = submit 0 (2 ∷ []) ∷ run ∷ opens (window 8 8) ∷ submit 0 (replicate 4 0) ∷ run ∷ pending 0 ∷ pending 1 ∷ []
+
+abbrev memory′ : List ℕ
+memory′ = eight 100 ++ eight 50 ++ eight 2 ++ eight 3 ++ eight 4
+
+other-bytes : (i : ℕ) → ¬ (Owns (end toy setup 128 few memory) 0 i) → byte memory i ≡ byte memory′ i
+unfolding after unless effect table firstOf overlapAny totalBytes countOf
+other-bytes zero n = refl
+other-bytes (suc zero) n = refl
+other-bytes (suc (suc zero)) n = refl
+other-bytes (suc (suc (suc zero))) n = refl
+other-bytes (suc (suc (suc (suc zero)))) n = refl
+other-bytes (suc (suc (suc (suc (suc zero))))) n = refl
+other-bytes (suc (suc (suc (suc (suc (suc zero)))))) n = refl
+other-bytes (suc (suc (suc (suc (suc (suc (suc zero))))))) n = refl
+other-bytes (suc (suc (suc (suc (suc (suc (suc (suc zero)))))))) n = absurd (n (refl, (omega arith, omega arith)))
+other-bytes (suc (suc (suc (suc (suc (suc (suc (suc (suc i))))))))) n = refl
+
+twins : Twins toy setup 128 0 few few′ memory memory′
+twins = record {
+  listed =
+      more (rewritten (1 ∷ []) (2 ∷ []) refl) (more (same _) (more (same _) (more (rewritten (replicate 4 7) (replicate 4 0) refl) (more (same _) (more (same _) (more (same _) none))))));
+  size = refl;
+  bytes = other-bytes;
+}
+
+unmoved-so : Unmoved toy setup 128 0 few few′ memory memory′
+unmoved-so = claims toy setup 128 .unmoved toy-confined 0 few few′ memory memory′ twins

@@ -1,0 +1,11 @@
+pub mod Tests
+pub mod Refusals
+pub mod Clients
+pub mod Sound
+pub mod Alone
+pub mod TwoRuns
+pub mod Queue
+pub mod Theorems
+pub mod Locality
+pub mod Simulation
+pub mod Examples

@@ -1,0 +1,20 @@
+-- The claims hold.
+use Prim.Native.Nat.{ℕ}
+use Rattle.model.specs.Calls.{Setup}
+use Rattle.model.specs.Drawing.{Way}
+use Rattle.model.specs.Claims.{Claims}
+use Rattle.model.proofs.Sound as sound
+use Rattle.model.proofs.Alone as alone
+use Rattle.model.proofs.TwoRuns as two-runs
+use Rattle.model.proofs.Queue as queue
+use Rattle.model.proofs.Refusals as refusals
+
+pub claims : (way : Way) (setup : Setup) (ring : ℕ) → Claims way setup ring
+claims way setup ring = record {
+  separate = λ confined calls memory. alone.separate way confined setup ring memory calls;
+  unmoved = λ confined client calls calls′ memory memory′. two-runs.unmoved way confined setup ring client calls calls′ memory memory′;
+  holds = sound.holds way setup ring;
+  in-order = queue.in-order way setup ring;
+  in-time = queue.in-time way setup ring;
+  harmless = refusals.harmless way setup ring;
+}

@@ -1,0 +1,43 @@
+-- What is called and what is answered (01, "Engine, desks, queue"). Numbers in calls are any naturals.
+use mathlib.Core.List.{List, [], _∷_}
+use Prim.Native.Nat.{ℕ, suc}
+use Rattle.model.specs.Windows.{Window}
+
+-- 01, "Engine, desks, queue": "Set up with a ring length, a memory length and a common length", in bytes.
+pub record Setup : Type 0 where
+  pub ring : ℕ
+  pub memory : ℕ
+  pub common : ℕ
+
+-- The calls after set up, with what the model is fed of them (01, "The book of demand 3": "the calls with their arguments (not record,
+-- ring or memory)").
+pub data Call : Type 0 where
+  opens : Window → Call
+  submit : (client : ℕ) (bytes : List ℕ) → Call
+  run : Call
+  pending : (client : ℕ) → Call
+
+-- What validating a batch gives (01, "Faults of a taken batch"): the status word, the fault's number and its offset in the batch
+-- (01: place), the last two 0 without a fault.
+pub record Verdict : Type 0 where
+  pub status : ℕ
+  pub fault : ℕ
+  pub offset : ℕ
+
+-- What is answered (01, "Engine, desks, queue"): by open the client's id, by submit the ticket, by run its completion, by pending the
+-- number of the client's ready batches. "A refusal gives only its number."
+pub data Answer : Type 0 where
+  opened : (client : ℕ) → Answer
+  accepted : (ticket : ℕ) → Answer
+  completed : (client ticket : ℕ) → Verdict → Answer
+  ready : (count : ℕ) → Answer
+  refused : (number : ℕ) → Answer
+
+-- How many of the answers are completions: the successful runs of 01, "Engine, desks, queue".
+unfoldable pub completions : List Answer → ℕ
+completions [] = 0
+completions (completed c t v ∷ rest) = suc (completions rest)
+completions (opened c ∷ rest) = completions rest
+completions (accepted t ∷ rest) = completions rest
+completions (ready n ∷ rest) = completions rest
+completions (refused n ∷ rest) = completions rest

@@ -1,0 +1,83 @@
+-- What is claimed of the model (01, "The book of demand 3": "of the list as a whole"), for any way to draw, any set up, any lent ring
+-- length, any starting memory and any list of calls, refused ones included. proofs/Theorems.antt proves `Claims`.
+use mathlib.Core.Path.{_≡_}
+use mathlib.Core.Bool.{true}
+use mathlib.Core.List.{List, [], _∷_, _++_, List·Memᴰ}
+use Prim.Native.Nat.{ℕ, suc, _%_, _≤_, _<_}
+use lib.ListN.{length, take}
+use Rattle.model.specs.Windows.{Window, byte}
+use Rattle.model.specs.Calls.{Setup, Call, opens, submit, opened, accepted, refused, completions}
+use Rattle.model.specs.Drawing.{Way, Confined}
+use Rattle.model.specs.State.{Batch, batch, Model, fresh, isOpen, windowOf, Owns, takenSlots, takenBytes}
+use Rattle.model.specs.Model.{Step, step, answers, after, executed, end}
+use Rattle.model.specs.Alone.{replayedAlone}
+use Rattle.model.specs.TwoRuns.{Each, SameAnswer, Twins}
+
+-- The batches' tickets are n, n + 1, .., modulo 4,294,967,296 (01, "Engine, desks, queue": "Accepted batches get tickets 0, 1, 2, ..").
+abbrev pub Numbered : ℕ → List Batch → Type 0
+Numbered n [] = Unit {0}
+Numbered n (b ∷ bs) = (b .ticket ≡ n % 4294967296) × Numbered (suc n) bs
+
+-- ring: the length of the lent ring; memory: the lent memory at the start.
+module _ (way : Way) (setup : Setup) (ring : ℕ) where
+  module _ (calls : List Call) (memory : List ℕ) where
+    -- Short for the model after the calls, and for what they executed.
+    abbrev pub final : Model
+    final = end way setup ring calls memory
+
+    abbrev pub done : List Batch
+    done = executed way setup ring calls (fresh memory)
+
+    -- Each open client's window holds what its own executed batches, replayed alone, make of the starting memory. Bytes in no window are as at
+    -- the start, and so is the common area; memory keeps its length.
+    pub record Separate : Type 0 where
+      pub window : (client i : ℕ) → Owns final client i → byte (final .memory) i ≡ byte (replayedAlone way setup ring client calls memory) i
+      pub no-window : (i : ℕ) → ((client : ℕ) → ¬ (Owns final client i)) → byte (final .memory) i ≡ byte memory i
+      pub common : (i : ℕ) → i < setup .common → byte (final .memory) i ≡ byte memory i
+      pub size : length (final .memory) ≡ length memory
+
+    -- What was executed and then what waits is all that was ever accepted, in the order of the tickets. At most eight wait, in the ring's room.
+    pub record InOrder : Type 0 where
+      pub all : length (done ++ final .waiting) ≡ final .accepted
+      pub tickets : Numbered 0 (done ++ final .waiting)
+      pub slots : takenSlots final ≤ 8
+      pub room : takenBytes final ≤ setup .ring
+
+    -- A batch that is accepted now is among the first eight that later calls execute, once eight of their runs have succeeded
+    -- (01, "Engine, desks, queue": "taken at the latest by the eighth successful run after it"). `List·Memᴰ x xs`: x stands in the list.
+    abbrev pub InTime : (later : List Call) → Type 0
+    InTime later = (client ticket : ℕ) (bytes : List ℕ) →
+        let submitted : Step = step way setup ring (submit client bytes) final in
+        submitted .answer ≡ accepted ticket →
+        8 ≤ completions (answers way setup ring later (submitted .after)) →
+        List·Memᴰ (batch client ticket bytes) (take 8 (executed way setup ring later (submitted .after)))
+
+    -- A client that is opened now with a window has that window after any later calls: the one that it opens in the list.
+    abbrev pub Holds : (later : List Call) → Type 0
+    Holds later = (client : ℕ) (w : Window) →
+        let opening : Step = step way setup ring (opens w) final in
+        let last : Model = after way setup ring later (opening .after) in
+        opening .answer ≡ opened client → (isOpen last client ≡ true) × (windowOf last client ≡ w)
+
+  -- Two runs: the answers are the same but for status, fault and offset of that client's own batches, and so is every byte outside its
+  -- window. Both open the same windows.
+  pub record Unmoved (client : ℕ) (calls calls′ : List Call) (memory memory′ : List ℕ) : Type 0 where
+    pub told : Each (SameAnswer client) (answers way setup ring calls (fresh memory)) (answers way setup ring calls′ (fresh memory′))
+    pub windows : final calls memory .windows ≡ final calls′ memory′ .windows
+    pub size : length (final calls memory .memory) ≡ length (final calls′ memory′ .memory)
+    pub bytes : (i : ℕ) → ¬ (Owns (final calls memory) client i) → byte (final calls memory .memory) i ≡ byte (final calls′ memory′ .memory) i
+
+  -- A refused call leaves the whole model as it was and executes nothing. Its number is 3 to 10: 1 and 2 are set up's, 11 never comes.
+  abbrev pub Harmless : Call → Model → Type 0
+  Harmless call model = (number : ℕ) → step way setup ring call model .answer ≡ refused number →
+      (step way setup ring call model .after ≡ model) × (step way setup ring call model .executed ≡ []) × (3 ≤ number) × (number ≤ 10)
+
+-- The claims. The first two ask that a batch is drawn by its window and common alone; the others ask nothing.
+pub record Claims (way : Way) (setup : Setup) (ring : ℕ) : Type 0 where
+  pub separate : Confined way → (calls : List Call) (memory : List ℕ) → Separate way setup ring calls memory
+  pub unmoved : Confined way → (client : ℕ) (calls calls′ : List Call) (memory memory′ : List ℕ) →
+      Twins way setup ring client calls calls′ memory memory′ → Unmoved way setup ring client calls calls′ memory memory′
+  pub holds : (calls later : List Call) (memory : List ℕ) → Holds way setup ring calls memory later
+  pub in-order : (calls : List Call) (memory : List ℕ) → InOrder way setup ring calls memory
+  pub in-time : (calls later : List Call) (memory : List ℕ) → InTime way setup ring calls memory later
+  pub harmless : (call : Call) (model : Model) → Harmless way setup ring call model

@@ -1,0 +1,71 @@
+-- What the model keeps (01, "The book of demand 3": "It keeps windows, waiting batches in order .., the number accepted, and memory").
+use mathlib.Core.Path.{_≡_}
+use mathlib.Core.List.{List, [], _∷_}
+use mathlib.Core.Bool.{Bool, true, cond}
+use Prim.Native.Nat.{ℕ, _+_}
+use lib.ListN.{length, getD}
+use lib.Dec.{ltb, eqb}
+use Rattle.model.specs.Windows.{Window, window, In}
+
+-- An accepted batch: its client (01: desk), its ticket and its bytes (01, "The book of demand 3": "each with desk and ticket").
+pub record Batch : Type 0 where
+  pub client : ℕ
+  pub ticket : ℕ
+  pub bytes : List ℕ
+
+-- Short for the record.
+abbrev pub batch : ℕ → ℕ → List ℕ → Batch
+batch client ticket bytes = record { client = client; ticket = ticket; bytes = bytes }
+
+-- 01, "The book of demand 3". Client k's window is at place k; waiting batches stand in the order in which run takes them.
+pub record Model : Type 0 where
+  pub windows : List Window
+  pub waiting : List Batch
+  pub accepted : ℕ
+  pub memory : List ℕ
+
+-- 01, "The book of demand 3": "at first no window, nothing waiting, 0", and the memory that is lent.
+abbrev pub fresh : List ℕ → Model
+fresh memory = record { windows = []; waiting = []; accepted = 0; memory = memory }
+
+-- ---- clients: nothing but these looks one up, so that another way to keep them changes these alone
+
+-- 01, "Engine, desks, queue": "ids are 0 to 3 in order of opening", so a client is open if its id is below the number of windows.
+abbrev pub isOpen : Model → ℕ → Bool
+isOpen model client = ltb client (length (model .windows))
+
+-- An open client's window; asked only of open clients.
+abbrev pub windowOf : Model → ℕ → Window
+windowOf model client = getD (model .windows) client (window 0 0)
+
+-- The id that the next open gives (01, "The book of demand 3": "its id is the number of windows before it").
+abbrev pub nextClient : Model → ℕ
+nextClient model = length (model .windows)
+
+-- The windows that are taken (01, "Engine, desks, queue", the table, 3 and 4).
+abbrev pub openWindows : Model → List Window
+openWindows model = model .windows
+
+-- The client is open and byte i lies in its window (01, "Engine, desks, queue").
+abbrev pub Owns : Model → ℕ → ℕ → Type 0
+Owns model client i = (isOpen model client ≡ true) × In (windowOf model client) i
+
+-- ---- waiting batches
+
+-- A slot is taken by each batch that waits (01, "The book of demand 3": "no slot is free when eight batches wait").
+abbrev pub takenSlots : Model → ℕ
+takenSlots model = length (model .waiting)
+
+-- The batches' lengths, summed.
+unfoldable pub totalBytes : List Batch → ℕ
+totalBytes [] = 0
+totalBytes (b ∷ bs) = length (b .bytes) + totalBytes bs
+
+-- The waiting lengths (01, "The book of demand 3": "free ring bytes are the ring less the waiting lengths").
+abbrev pub takenBytes : Model → ℕ
+takenBytes model = totalBytes (model .waiting)
+
+-- How many of the batches are the client's (01, "The book of demand 3": "Pending counts the desk's waiting batches").
+unfoldable pub countOf : ℕ → List Batch → ℕ
+countOf client [] = 0
+countOf client (b ∷ bs) = cond (eqb (b .client) client) 1 0 + countOf client bs

@@ -1,0 +1,12 @@
+-- A word of a batch, or that there is none (01: a reader "never reads past its valid length").
+use Prim.Native.Nat.{ℕ}
+use mathlib.Core.List.{List}
+use mathlib.Core.Bool.{cond}
+use lib.ListN.{length, getD}
+use lib.Dec.{ltb}
+use Rattle.ring.specs.declared.Read.{Read}
+use Rattle.ring.specs.declared.Read.the-variants.{Word, Past}
+
+-- word k of a list of words
+abbrev pub wordAt : List ℕ → ℕ → Read
+wordAt words k = cond (ltb k (length words)) (Word (getD words k 0)) Past

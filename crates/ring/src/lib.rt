@@ -1,0 +1,106 @@
+// Batches in the ring: one read as an unbroken run of words, one copied in.
+ghost use mathlib.Core.Path.{_≡_};
+ghost use Prim.Native.Nat.{_+_, _≤_, _<_};
+ghost use mathlib.Core.Bool.{_&&_};
+ghost use lib.ListN.{length, getD};
+ghost use lib.Dec.{ltb, leb};
+ghost use Rattle.word.specs.Splice.{spliced};
+ghost use Rattle.ring.specs.Segment.{Lies, segment, batchWords};
+ghost use Rattle.ring.specs.Read.{wordAt};
+ghost use Rattle.ring.specs.Copied.{copied};
+
+// A word of a batch, or that the batch has no such word.
+pub enum Read {
+    Word(u32),
+    Past,
+}
+
+// Whether a batch of `size` bytes at `offset` lies in a ring of `length` bytes.
+fn lies_in(length: usize, offset: usize, size: usize) -> bool
+    ensures { λ r. ⌜ r ≡ ltb offset length && leb size length ⌝ }
+{
+    (offset < length) & (size <= length)
+}
+
+// Byte i of the batch that starts at `offset`.
+fn byte_at(ring: &[u8], offset: usize, i: usize) -> u8
+    requires { ⌜ (offset < length (now ring)) × (i < length (now ring)) ⌝ }
+    ensures { λ r. ⌜ r ≡ getD (segment (now (ring .entry)) offset (length (now (ring .entry)))) i 0 ⌝ }
+{
+    let tail = ring.len() - offset;
+    if i < tail {
+        ring[offset + i]
+    } else {
+        ring[i - tail]
+    }
+}
+
+// How many words a batch has: none if it does not lie in the ring.
+pub fn word_count(ring: &[u8], offset: usize, size: usize) -> usize
+    ensures { λ r. ⌜ r ≡ length (batchWords (now (ring .entry)) offset size) ⌝ }
+{
+    if lies_in(ring.len(), offset, size) {
+        size / 4
+    } else {
+        0
+    }
+}
+
+// Word k of a batch, for any ring and numbers.
+pub fn read_word(ring: &[u8], offset: usize, size: usize, k: usize) -> Read
+    ensures { λ r. ⌜ r ≡ wordAt (batchWords (now (ring .entry)) offset size) k ⌝ }
+{
+    if word_count(ring, offset, size) <= k {
+        return Read::Past;
+    }
+    let i = 4 * k;
+    let tail = ring.len() - offset;
+    if i + 4 <= tail {
+        return Read::Word(word::read_le32(ring, offset + i));
+    }
+    if tail <= i {
+        return Read::Word(word::read_le32(ring, i - tail));
+    }
+    // The ring's end lies inside the word.
+    Read::Word(word::join_le32(
+        byte_at(ring, offset, i),
+        byte_at(ring, offset, i + 1),
+        byte_at(ring, offset, i + 2),
+        byte_at(ring, offset, i + 3),
+    ))
+}
+
+// Copies bytes over as many others.
+fn copy(to: &mut [u8], from: &[u8])
+    requires { ⌜ length (now to) ≡ length (now from) ⌝ }
+    ensures { λ _. ⌜ now (to .exit) ≡ now (from .entry) ⌝ }
+{
+    let mut i = 0;
+    while i < to.len() {
+        to[i] = from[i];
+        i += 1;
+    }
+}
+
+// Copies bytes over those from `at` on.
+fn copy_at(to: &mut [u8], at: usize, from: &[u8])
+    requires { ⌜ at + length (now from) ≤ length (now to) ⌝ }
+    ensures { λ _. ⌜ now (to .exit) ≡ spliced at (now (from .entry)) (now (to .entry)) ⌝ }
+{
+    let end = at + from.len();
+    copy(&mut to[at..end], from);
+}
+
+// Copies a batch into the ring from `offset` on, in one part or two.
+pub fn copy_in(ring: &mut [u8], offset: usize, batch: &[u8])
+    requires { ⌜ Lies (now ring) offset (length (now batch)) ⌝ }
+    ensures { λ _. ⌜ now (ring .exit) ≡ copied (now (ring .entry)) offset (now (batch .entry)) ⌝ }
+{
+    let tail = ring.len() - offset;
+    if batch.len() <= tail {
+        copy_at(ring, offset, batch);
+        return;
+    }
+    copy_at(ring, offset, &batch[..tail]);
+    copy_at(ring, 0, &batch[tail..]);
+}
