@@ -47,7 +47,7 @@ pub fn word_count(ring: &[u8], offset: usize, size: usize) -> usize
 }
 
 // Word k of a batch, for any ring and numbers.
-pub fn read_word(ring: &[u8], offset: usize, size: usize, k: usize) -> Read
+fn word_at(ring: &[u8], offset: usize, size: usize, k: usize) -> Read
     ensures { λ r. ⌜ r ≡ wordAt (batchWords (now (ring .entry)) offset size) k ⌝ }
 {
     if word_count(ring, offset, size) <= k {
@@ -68,6 +68,33 @@ pub fn read_word(ring: &[u8], offset: usize, size: usize, k: usize) -> Read
         byte_at(ring, offset, i + 2),
         byte_at(ring, offset, i + 3),
     ))
+}
+
+// One batch in the ring, shown as an unbroken run of words.
+pub struct Reader<'a> {
+    pub ring: &'a [u8],
+    pub offset: usize,
+    pub size: usize,
+}
+
+pub fn reader_of<'a>(ring: &'a [u8], offset: usize, size: usize) -> Reader<'a>
+    ensures { λ r. ⌜ (r .ring ≡ ring .entry) × (r .offset ≡ offset) × (r .size ≡ size) ⌝ }
+{
+    Reader { ring, offset, size }
+}
+
+// Word k of the reader's batch.
+pub fn word_of<'a>(reader: Reader<'a>, k: usize) -> Read
+    ensures { λ r. ⌜ r ≡ wordAt (batchWords (now (reader .entry .ring)) (reader .entry .offset) (reader .entry .size)) k ⌝ }
+{
+    word_at(reader.ring, reader.offset, reader.size, k)
+}
+
+// Word k of a batch, through a reader. Its parameters are plain, so that who calls it needs no proof by hand.
+pub fn read_word(ring: &[u8], offset: usize, size: usize, k: usize) -> Read
+    ensures { λ r. ⌜ r ≡ wordAt (batchWords (now (ring .entry)) offset size) k ⌝ }
+{
+    word_of(reader_of(ring, offset, size), k)
 }
 
 // Copies bytes over as many others.
