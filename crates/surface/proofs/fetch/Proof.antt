@@ -1,0 +1,49 @@
+use mathlib.Core.Path.{_≡_, refl, _∙_}
+use Prim.Native.Nat.{_+_, _-_}
+use native.Mathlib.Omega.{arith}
+use denote.Ref.{now}
+use Rattle.pixel.specs.Formats.{bytesOf}
+use Rattle.surface.proofs.Sizes.{bytes-most}
+use Rattle.surface.proofs.Parts.{length-mid}
+use Rattle.surface.proofs.Pixels.{pixel-part}
+use borrow.Author.Needs.{needs}
+use Rattle.surface.proofs.fetch.Statement.{statement}
+use Rattle.surface.proofs.fetch.Tie as tie
+
+bytes-requires : tie.Need-bytes-requires
+bytes-requires c κs = search needs
+
+add-end : tie.Need-add-end
+add-end c = search needs
+
+sub-number-of : tie.Need-sub-number-of
+sub-number-of c = search needs
+
+part-number-of-start : tie.Need-part-number-of-start
+part-number-of-start c = search needs
+
+part-number-of-end : tie.Need-part-number-of-end
+part-number-of-end c = search needs
+
+number-of-requires : tie.Need-number-of-requires
+number-of-requires c κs =
+    let s = c .before .before .before in
+    omega (arith, bytes-most (s .args .format), length-mid (s .args .at) (s .args .at + c .before .bytes .result - s .args .at) (now (s .args .memory)) (omega arith))
+
+returns : tie.Need-returns
+returns c =
+    let s = c .before .before .before .before in
+    let n : s .args .at + c .before .before .bytes .result - s .args .at ≡ bytesOf (s .args .format) = omega arith in
+    c .number-of .ensures ∙ pixel-part (bytesOf (s .args .format)) _ (s .args .at) (s .args .at) (now (s .args .memory)) n refl
+
+pub fetch-spec : {M : Type 1} → statement M
+fetch-spec =
+    tie.close
+    (tie.spec
+    bytes-requires
+    add-end
+    sub-number-of
+    part-number-of-start
+    part-number-of-end
+    number-of-requires
+    returns)

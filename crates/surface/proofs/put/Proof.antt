@@ -1,0 +1,55 @@
+use mathlib.Core.Path.{_≡_, refl, ap, _∙_}
+use Prim.Native.Nat.{ℕ, _-_, _/_, _%_, _^_, _≤_}
+use native.Mathlib.Omega.{arith}
+use native.Mathlib.Numerals.{add-one}
+use native.Mathlib.Nat.{pow-suc, div-div-eq-div-mul}
+use lib.ListN.{length, length-set}
+use denote.Ref.{now}
+use borrow.Author.Needs.{needs}
+use Rattle.word.specs.Word.{byteOf}
+use Rattle.surface.specs.Memory.{mapi, within}
+use Rattle.surface.proofs.Parts.{none-within, set-within, all-within}
+use Rattle.surface.proofs.put.Statement.{statement}
+use Rattle.surface.proofs.put.Tie as tie
+
+abbrev Inv-loop : tie.InvT-loop
+Inv-loop bytes₀ number rest₀ k₀ bytes rest k = (k ≤ length bytes₀) × (rest ≡ number / 256 ^ k) × (bytes ≡ mapi (within 0 k (λ j old. byteOf number j)) bytes₀) × (length bytes ≡ length bytes₀)
+
+abbrev μ-loop : tie.MeasureT-loop
+μ-loop bytes₀ number rest₀ k₀ bytes rest k = length bytes₀ - k
+
+loop-holds : tie.Need-loop-holds Inv-loop μ-loop
+loop-holds c = (search needs, search needs, none-within 0 _ _, refl)
+
+cast-bytes : tie.Need-cast-bytes Inv-loop μ-loop
+cast-bytes c = search needs
+
+slice-write-bytes : tie.Need-slice-write-bytes Inv-loop μ-loop
+slice-write-bytes c = search needs
+
+add-k : tie.Need-add-k Inv-loop μ-loop
+add-k c = search needs
+
+loop-less : tie.Need-loop-less Inv-loop μ-loop
+loop-less c = search needs
+
+loop-again : tie.Need-loop-again Inv-loop μ-loop
+unfolding byteOf
+loop-again c =
+    let l = c .before .loop in (
+      search needs,
+      ap (λ (n : ℕ). n / 256) (l .inv .1) ∙ rw (add-one, pow-suc, div-div-eq-div-mul),
+      set-within 0 (l .k) _ _ (l .bytes) (l .k) (l .rest % 256) (l .inv .2) (omega arith) (ap (λ (n : ℕ). n % 256) (l .inv .1)),
+      length-set (l .bytes) (l .k) (l .rest % 256) ∙ l .inv .3,
+    )
+
+same-length : tie.Need-same-length Inv-loop μ-loop
+same-length c = search needs
+
+returns : tie.Need-returns Inv-loop μ-loop
+returns c =
+    let end : length (now (c .before .before .args .bytes)) ≤ c .before .loop .k = omega arith in
+    c .before .loop .inv .2 ∙ all-within _ _ (c .before .loop .k) end
+
+pub put-spec : {M : Type 1} → statement M
+put-spec = tie.close (tie.spec Inv-loop μ-loop loop-holds cast-bytes slice-write-bytes add-k loop-less loop-again same-length returns)

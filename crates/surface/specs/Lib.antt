@@ -1,0 +1,5 @@
+-- Rectangles of pixels in memory.
+pub mod Surface
+pub mod Memory
+pub mod Rows
+pub mod Drawn

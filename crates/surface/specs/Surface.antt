@@ -1,0 +1,29 @@
+-- Where a rectangle of pixels lies in memory (01, "Faults of a taken batch": the span). All sums are of numbers that do not wrap.
+use mathlib.Core.Path.{_≡_}
+use Prim.Native.Nat.{ℕ, _+_, _-_, _*_, _<_}
+use Rattle.range.specs.declared.Range.{Range}
+use Rattle.range.specs.Range.{runOf}
+use Rattle.pixel.specs.Formats.{bytesOf}
+use Rattle.surface.specs.declared.Surface.{Surface}
+
+-- bytes of a row: its pixels, without what the stride leaves between rows
+abbrev pub rowLength : Surface → ℕ
+rowLength s = s .width * bytesOf (s .format)
+
+-- the first byte of row y
+abbrev pub rowStart : Surface → ℕ → ℕ
+rowStart s y = s .address + y * s .stride
+
+-- the first byte of pixel (x, y)
+abbrev pub pixelStart : Surface → ℕ → ℕ → ℕ
+pixelStart s x y = rowStart s y + x * bytesOf (s .format)
+
+-- from the address over stride x (height - 1) + width x bytes a pixel
+unfoldable pub span : Surface → Range
+span s = runOf (s .address) ((s .height - 1) * s .stride + rowLength s)
+
+-- byte i is byte j of row y
+pub record InRow (s : Surface) (i y j : ℕ) : Type 0 where
+  pub row : y < s .height
+  pub column : j < rowLength s
+  pub is : i ≡ rowStart s y + j
