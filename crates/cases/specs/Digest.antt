@@ -1,0 +1,6 @@
+-- Many values as one number, so that one line can answer for all of them.
+use Prim.Native.Nat.{ℕ, _+_, _*_, _%_}
+
+-- the number so far, of 32 bits, and the next value
+abbrev pub mixed : ℕ → ℕ → ℕ
+mixed digest value = (digest * 31 + value) % 4294967296

@@ -1,0 +1,31 @@
+-- Numbers as text: hexadecimal digits in ASCII, the highest first.
+use Prim.Native.Nat.{ℕ, _+_, _-_, _/_, _%_}
+use mathlib.Core.Bool.{Bool, cond}
+use mathlib.Core.List.{List, [], _∷_, _++_}
+use lib.Dec.{ltb}
+use Rattle.word.specs.Word.{beBytes}
+
+-- the character of a digit below 16: 0 to 9, then a to f
+abbrev pub digitOf : ℕ → ℕ
+digitOf value = cond (ltb value 10) (48 + value) (97 + (value - 10))
+
+-- a byte: two digits
+unfoldable pub hexByte : ℕ → List ℕ
+hexByte byte = digitOf (byte / 16) ∷ digitOf (byte % 16) ∷ []
+
+-- bytes in order
+unfoldable pub hexBytes : List ℕ → List ℕ
+hexBytes [] = []
+hexBytes (byte ∷ bytes) = hexByte byte ++ hexBytes bytes
+
+-- a number of 32 bits: eight digits
+unfoldable pub hexWord : ℕ → List ℕ
+hexWord word = hexBytes (beBytes word)
+
+-- a number of 64 bits: sixteen digits
+unfoldable pub hexLong : ℕ → List ℕ
+hexLong number = hexWord (number / 4294967296) ++ hexWord (number % 4294967296)
+
+-- a truth value: 01 or 00
+unfoldable pub hexFlag : Bool → List ℕ
+hexFlag value = hexByte (cond value 1 0)

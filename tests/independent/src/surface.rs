@@ -1,0 +1,123 @@
+//! Runs of bytes, and rectangles of pixels in memory (01, "Faults of a taken batch" and "Pixels").
+use crate::pixel::{Colour, Format};
+use crate::words;
+use std::ops::Range;
+
+/// A run of bytes, as the first and the one past the last.
+pub type Run = Range<u64>;
+
+/// The run of some bytes from a start on.
+pub fn run(start: u32, length: u32) -> Run {
+    let start = u64::from(start);
+    start..start + u64::from(length)
+}
+
+/// Whether a run lies wholly in another: it begins and ends in it. (The papers have no empty runs to judge; one counts as
+/// inside where it stands between the other's ends.)
+pub fn is_inside(run: &Run, other: &Run) -> bool {
+    (other.start..=other.end).contains(&run.start) && (other.start..=other.end).contains(&run.end)
+}
+
+/// Whether two runs share a byte: one of them has the other's first byte.
+pub fn shares(run: &Run, other: &Run) -> bool {
+    let empty = run.is_empty() || other.is_empty();
+    !empty && (run.contains(&other.start) || other.contains(&run.start))
+}
+
+#[derive(Clone, Copy)]
+pub struct Surface {
+    pub address: u32,
+    pub stride: u16,
+    pub width: u16,
+    pub height: u16,
+    pub format: &'static Format,
+}
+
+impl Surface {
+    /// Bytes of a row, without what the stride leaves between rows.
+    pub fn row_length(&self) -> u64 {
+        (0..self.width).map(|_| self.format.bytes as u64).sum()
+    }
+
+    /// The first byte of a row, reached row by row.
+    pub fn row_start(&self, y: u16) -> u64 {
+        (0..y).fold(u64::from(self.address), |at, _| at + u64::from(self.stride))
+    }
+
+    /// The first byte of a pixel, reached pixel by pixel.
+    pub fn pixel_start(&self, x: u16, y: u16) -> u64 {
+        (0..x).fold(self.row_start(y), |at, _| at + self.format.bytes as u64)
+    }
+
+    /// The rows as runs of bytes, from the top.
+    pub fn rows(&self) -> impl Iterator<Item = Run> {
+        let length = self.row_length();
+        let starts = (0..self.height).scan(u64::from(self.address), {
+            let stride = u64::from(self.stride);
+            move |next, _| {
+                let start = *next;
+                *next += stride;
+                Some(start)
+            }
+        });
+        starts.map(move |start| start..start + length)
+    }
+
+    /// From the first row's first byte to the last row's last. (A surface of no rows is never drawn, fault 25; it counts as
+    /// one of one row.)
+    pub fn span(&self) -> Run {
+        let start = u64::from(self.address);
+        start..self.rows().last().map_or(start + self.row_length(), |row| row.end)
+    }
+}
+
+/// The stored pixel at an address, if it lies in memory.
+pub fn fetch(memory: &[u8], at: u64, format: &Format) -> Option<u32> {
+    let at = usize::try_from(at).ok()?;
+    let bytes = memory.get(at..at.checked_add(format.bytes)?)?;
+    let mut four = [0; 4];
+    four[..format.bytes].copy_from_slice(bytes);
+    Some(u32::from_le_bytes(four))
+}
+
+/// The colour of the pixel at an address.
+pub fn load(memory: &[u8], at: u64, format: &Format) -> Option<Colour> {
+    fetch(memory, at, format).map(|pixel| format.unpack(pixel))
+}
+
+/// Memory after a colour was stored as the pixel at an address.
+pub fn stored(memory: &[u8], at: u64, format: &Format, colour: Colour) -> Option<Vec<u8>> {
+    let bytes = format.pack(colour).to_le_bytes();
+    words::replaced(memory, usize::try_from(at).ok()?, &bytes[..format.bytes])
+}
+
+#[cfg(test)]
+mod tests {
+    use super::*;
+    use crate::pixel::{format, FORMATS};
+
+    /// S1 of 01: the span of 4 by 3 ARGB8888 at 16, stride 24, is 16 to 79.
+    #[test]
+    fn spans() {
+        let surface = Surface { address: 16, stride: 24, width: 4, height: 3, format: &FORMATS[0] };
+        assert_eq!(surface.span(), 16..80);
+        assert_eq!(surface.pixel_start(3, 2), 76);
+    }
+
+    #[test]
+    fn runs() {
+        assert!(shares(&run(0, 5), &run(4, 1)) && !shares(&run(0, 5), &run(5, 1)) && !shares(&run(2, 0), &run(0, 5)));
+        assert!(is_inside(&run(1, 4), &run(0, 5)) && !is_inside(&run(1, 5), &run(0, 5)));
+    }
+
+    /// Bytes B, G, R, A; B, G, R; and 565 low byte first.
+    #[test]
+    fn bytes_in_memory() {
+        let colour = [1, 2, 3, 4];
+        assert_eq!(stored(&[9; 5], 1, format(0x00).unwrap(), colour), Some(vec![9, 4, 3, 2, 1]));
+        assert_eq!(stored(&[9; 5], 1, format(0x08).unwrap(), colour), Some(vec![9, 4, 3, 2, 9]));
+        assert_eq!(stored(&[9; 5], 1, format(0x0E).unwrap(), [255, 16, 69, 165]), Some(vec![9, 0x34, 0x12, 9, 9]));
+        assert_eq!(load(&[9, 0x34, 0x12], 1, format(0x0E).unwrap()), Some([255, 16, 69, 165]));
+        assert_eq!(load(&[9, 0x34], 1, format(0x0E).unwrap()), None);
+    }
+}
