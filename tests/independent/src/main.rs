@@ -7,6 +7,9 @@ mod leaf_cases;
 mod pixel;
 mod pixel_cases;
 mod questions;
+mod queue;
+mod queue_cases;
+mod queue_questions;
 mod random;
 mod ring;
 mod stream;
@@ -19,7 +22,11 @@ use std::process::ExitCode;
 use stream::Stream;
 
 /// The program crates, and what makes the cases of each.
-const CRATES: [(&str, fn() -> Stream); 2] = [("leaf_cases", leaf_cases::cases), ("pixel_cases", pixel_cases::cases)];
+const CRATES: [(&str, fn() -> Stream); 3] = [
+    ("leaf_cases", leaf_cases::cases),
+    ("pixel_cases", pixel_cases::cases),
+    ("queue_cases", queue_cases::cases),
+];
 
 fn write(stream: &Stream, dir: &Path) -> std::io::Result<()> {
     std::fs::create_dir_all(dir)?;

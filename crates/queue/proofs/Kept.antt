@@ -1,0 +1,126 @@
+-- A valid record stays valid through every call that is not refused.
+use mathlib.Core.Path.{_≡_, refl, ap, sym, _∙_}
+use mathlib.Core.List.{[], _∷_, _++_}
+use mathlib.Core.Bool.{true, cond, _&&_, false}
+use Prim.Native.Nat.{ℕ, _+_, _-_, _≤_, _<_}
+use native.Mathlib.Numerals.{add-one}
+use native.Mathlib.Omega.{arith}
+use lib.ListN.{length, length-set}
+use lib.Seq.{take-suc-set, length-take-le}
+use lib.Dec.{eqb}
+use borrow.Author.Tests.{lt-ltb, le-leb}
+use Rattle.word.proofs.Tests.{and-true}
+use Rattle.record.specs.declared.Setup.{Setup}
+use Rattle.record.specs.declared.Window.{Window}
+use Rattle.record.specs.declared.Client.{Client}
+use Rattle.record.specs.declared.Record.{Record}
+use Rattle.record.specs.Slots.{ready, sum, total, countOf}
+use Rattle.record.specs.Tickets.{lastGiven, inOrder}
+use Rattle.record.specs.Clients.{openClients, openWindows, windowsOf, noneBad, countsRight}
+use Rattle.record.specs.Queue.{takenSlots, waiting}
+use Rattle.record.specs.Rules.{ringRule, memoryRule, clientsRule, readRule, numberRules, windowsRule, ticketsRule, endToEnd, endToEndRule, lengthsAllowed, lengthsRule, ofOpen, ownersRule, pendingRule, valid}
+use Rattle.record.proofs.Slots.{ready-most}
+use Rattle.record.proofs.Opened.{windows-snoc, none-snoc, open-more, open-none, counts-snoc}
+use Rattle.record.proofs.Rules.{ring-good, Valid, valid-facts, valid-made, numbers-kept, sum-waiting}
+use Rattle.queue.specs.Calls.{fresh, withClient}
+use Rattle.queue.proofs.Calls.{noSetup}
+use Rattle.queue.proofs.Refusals.{SetUpAllowed, OpenAllowed}
+
+-- what every record of the code has
+pub record Sized (engine : Record) : Type 0 where
+  pub clients : length (engine .clients) ≡ 4
+  pub slots : length (engine .slots) ≡ 8
+  pub next : engine .next < 4294967296
+
+pub few-taken : (engine : Record) → Sized engine → takenSlots engine ≤ 8
+few-taken engine s = omega (arith, ready-most (engine .slots), s .slots)
+
+-- ---- set up
+
+pub fresh-sized : (setup : Setup) → Sized (fresh setup)
+unfolding fresh
+fresh-sized setup = record { clients = refl; slots = refl; next = omega arith }
+
+pub fresh-valid : (setup : Setup) → SetUpAllowed setup → valid (fresh setup) ≡ true
+unfolding fresh valid windowsOf noneBad ready sum lastGiven inOrder endToEnd lengthsAllowed ofOpen countsRight
+fresh-valid setup a =
+    let good = ring-good setup (a .ring) in
+    rw (a .ring, a .memory, lt-ltb 0 (setup .ring) (good .some), le-leb 0 (setup .ring) (omega arith))
+
+-- a refused set up hands out a record that every call refuses
+pub no-engine : valid (fresh noSetup) ≡ false
+unfolding fresh valid
+no-engine = refl
+
+-- nothing waits in it
+pub fresh-waiting : (setup : Setup) → waiting (fresh setup) ≡ []
+unfolding fresh ready inOrder
+fresh-waiting setup = refl
+
+-- ---- open
+
+module _ (engine : Record) (w : Window) (s : Sized engine) where
+  pub open-sized : Sized (withClient engine w)
+  unfolding withClient
+  open-sized = record { clients = length-set (engine .clients) (engine .opened) (record { window = w; pending = 0 }) ∙ s .clients; slots = s .slots; next = s .next }
+
+  module _ (few : engine .opened < 4) where
+    abbrev newClient : Client
+    newClient = record { window = w; pending = 0 }
+
+    clients-more : openClients (withClient engine w) ≡ openClients engine ++ (newClient ∷ [])
+    unfolding withClient
+    clients-more = rw (add-one (engine .opened)) (take-suc-set (engine .clients) (engine .opened) newClient (omega (arith, s .clients)))
+
+    -- the new window is the last
+    pub open-windows : openWindows (withClient engine w) ≡ openWindows engine ++ (w ∷ [])
+    open-windows = rw clients-more (windows-snoc (openClients engine) newClient)
+
+  -- and the batches are as they were
+  pub open-waiting : waiting (withClient engine w) ≡ waiting engine
+  unfolding withClient
+  open-waiting = refl
+
+  number-rules : OpenAllowed engine w → numberRules (withClient engine w) ≡ true
+  unfolding withClient
+  number-rules a =
+      let x = and-true (ringRule engine && memoryRule engine && clientsRule engine) (readRule engine) (numbers-kept engine (a .ok)) in
+      let y = and-true (ringRule engine && memoryRule engine) (clientsRule engine) (x .0) in
+      rw (y .0, le-leb (engine .opened + 1) 4 (omega (arith, a .few)), x .1)
+
+  owner-rule : ofOpen engine (waiting engine) ≡ true → ownersRule (withClient engine w) ≡ true
+  unfolding withClient
+  owner-rule e = open-more engine (withClient engine w) (waiting engine) (omega arith) e
+
+  window-rule : noneBad (engine .setup) (openWindows (withClient engine w)) ≡ true → windowsRule (withClient engine w) ≡ true
+  unfolding withClient
+  window-rule e = e
+
+  count-rule : countsRight 0 (openClients (withClient engine w)) (ready (engine .slots)) ≡ true → pendingRule (withClient engine w) ≡ true
+  unfolding withClient
+  count-rule e = e
+
+  batch-rules : Valid engine → (ticketsRule (withClient engine w) ≡ true) × (endToEndRule (withClient engine w) ≡ true) × (lengthsRule (withClient engine w) ≡ true)
+      × (total (waiting (withClient engine w)) ≤ withClient engine w .setup .ring)
+  unfolding withClient
+  batch-rules v = (v .given, v .ends, v .lengths, v .within)
+
+  pub open-valid : OpenAllowed engine w → valid (withClient engine w) ≡ true
+  open-valid a =
+      let v = valid-facts engine (a .ok) in
+      let b = batch-rules v in
+      let long : length (openClients engine) ≡ engine .opened = length-take-le (engine .opened) (engine .clients) (omega (arith, a .few, s .clients)) in
+      let none : countOf (engine .opened) (ready (engine .slots)) ≡ 0 =
+      sum-waiting engine v (few-taken engine s) (λ b. cond (eqb (b .client) (engine .opened)) 1 0) ∙ open-none engine (engine .opened) (waiting engine) (omega arith) (v .owners)
+      in
+      let z : 0 + length (openClients engine) ≡ engine .opened = omega arith in
+      let counts = counts-snoc 0 (openClients engine) (record { window = w; pending = 0 }) (ready (engine .slots)) (v .counts) (sym (ap (λ (x : ℕ). countOf x (ready (engine .slots))) z ∙ none)) in
+      valid-made (withClient engine w)
+      (number-rules a)
+      (window-rule (rw (open-windows (a .few)) (none-snoc (engine .setup) (openWindows engine) w (v .windows) (a .good))))
+      (b .0)
+      (b .1)
+      (b .2)
+      (b .3)
+      (owner-rule (v .owners))
+      (count-rule (rw (clients-more (a .few)) counts))

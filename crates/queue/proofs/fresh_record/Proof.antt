@@ -1,0 +1,12 @@
+use mathlib.Core.Path.{refl}
+use Prim.Native.Nat.{_-_}
+use Rattle.queue.specs.Calls.{fresh}
+use Rattle.queue.proofs.fresh_record.Statement.{statement}
+use Rattle.queue.proofs.fresh_record.Tie as tie
+
+returns : tie.Need-returns
+unfolding fresh
+returns c = refl
+
+pub fresh-record-spec : {M : Type 1} → statement M
+fresh-record-spec = tie.close (tie.spec returns)

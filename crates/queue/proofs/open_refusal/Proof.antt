@@ -1,0 +1,44 @@
+use mathlib.Core.Path.{_≡_, sym, _∙_}
+use mathlib.Core.Bool.{true}
+use Prim.Native.Nat.{_-_}
+use borrow.Author.Tests.{not-true, not-false}
+use Rattle.record.specs.Rules.{valid}
+use Rattle.record.proofs.Rules.{valid-facts}
+use Rattle.queue.proofs.Refusals.{eleven}
+use Rattle.queue.specs.Refusals.{firstOf}
+use borrow.Author.Needs.{needs}
+use Rattle.queue.proofs.open_refusal.Statement.{statement}
+use Rattle.queue.proofs.open_refusal.Tie as tie
+
+right : (c : tie.Else1) → valid (c .before .before .args .engine) ≡ true
+right c = sym (c .before .is-valid .ensures) ∙ not-false _ (c .if1 .left)
+
+is-valid-requires : tie.Need-is-valid-requires
+is-valid-requires c κs = search needs
+
+returns : tie.Need-returns
+returns c = eleven _ (valid (c .before .before .args .engine)) (sym (c .before .is-valid .ensures) ∙ not-true _ (c .if1 .taken))
+
+bad-window-requires : tie.Need-bad-window-requires
+bad-window-requires c κs = valid-facts (c .before .before .before .before .args .engine) (right (c .before .before)) .numbers .clients
+
+first-of-requires : tie.Need-first-of-requires
+first-of-requires c κs = search needs
+
+first-of-requires-2 : tie.Need-first-of-requires-2
+first-of-requires-2 c κs = search needs
+
+returns-2 : tie.Need-returns-2
+unfolding firstOf
+returns-2 c = rw (right (c .before .before .before .before .before), c .first-of2 .ensures, c .before .first-of .ensures, c .before .before .bad-window .ensures)
+
+pub open-refusal-spec : {M : Type 1} → statement M
+open-refusal-spec =
+    tie.close
+    (tie.spec
+    is-valid-requires
+    returns
+    bad-window-requires
+    first-of-requires
+    first-of-requires-2
+    returns-2)

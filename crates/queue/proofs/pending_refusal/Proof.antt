@@ -1,0 +1,26 @@
+use Prim.Native.Nat.{_-_}
+use Rattle.queue.specs.Refusals.{firstOf}
+use borrow.Author.Needs.{needs}
+use Rattle.queue.proofs.pending_refusal.Statement.{statement}
+use Rattle.queue.proofs.pending_refusal.Tie as tie
+
+is-open-requires : tie.Need-is-open-requires
+is-open-requires c κs = search needs
+
+first-of-requires : tie.Need-first-of-requires
+first-of-requires c κs = search needs
+
+is-valid-requires : tie.Need-is-valid-requires
+is-valid-requires c κs = search needs
+
+first-of-requires-2 : tie.Need-first-of-requires-2
+first-of-requires-2 c κs = search needs
+
+returns : tie.Need-returns
+unfolding firstOf
+returns c = rw (c .first-of2 .ensures, c .before .is-valid .ensures, c .before .before .first-of .ensures, c .before .before .before .is-open .ensures)
+
+pub pending-refusal-spec : {M : Type 1} → statement M
+pending-refusal-spec =
+    tie.close
+    (tie.spec is-open-requires first-of-requires is-valid-requires first-of-requires-2 returns)

@@ -1,0 +1,54 @@
+use mathlib.Core.Path.{sym, _∙_}
+use Prim.Native.Nat.{_-_}
+use lib.ListN.{length}
+use native.Mathlib.Omega.{arith}
+use Rattle.queue.proofs.Calls.{submit-refused, submit-done}
+use Rattle.queue.proofs.Refusals.{SubmitAllowed, submit-allowed}
+use Rattle.queue.proofs.Room.{client-small, pending-small, submit-lies}
+use borrow.Author.Needs.{needs}
+use Rattle.queue.proofs.submit.Statement.{statement}
+use Rattle.queue.proofs.submit.Tie as tie
+
+allowed : (c : tie.Else1) → SubmitAllowed (c .before .before .before .before .args .engine) (length (c .before .before .before .before .args .ring .now)) (c .before .before .before .before .args .client) (length (c .before .before .before .before .args .batch .now))
+allowed c = submit-allowed (c .before .before .before .before .args .engine) (length (c .before .before .before .before .args .ring .now)) (c .before .before .before .before .args .client) (length (c .before .before .before .before .args .batch .now)) (sym (c .before .submit-refusal .ensures) ∙ c .if1 .left)
+
+submit-refusal-requires : tie.Need-submit-refusal-requires
+submit-refusal-requires c κs = search needs
+
+returns : tie.Need-returns
+returns c = submit-refused (c .before .before .before .before .args .engine) (c .before .before .before .before .args .ring .now) (c .before .before .before .before .args .client) (c .before .before .before .before .args .batch .now) (c .before .submit-refusal .result) (c .before .submit-refusal .ensures) (c .if1 .taken)
+
+write-offset-requires : tie.Need-write-offset-requires
+write-offset-requires c κs = let a = allowed c in (a .ok, omega (arith, a .slot))
+
+copy-in-requires : tie.Need-copy-in-requires
+copy-in-requires c κs = rw (c .before .write-offset .ensures) (submit-lies (c .before .before .before .before .before .before .args .engine) (c .before .before .before .before .before .before .args .ring .now) (c .before .before .before .before .before .before .args .client) (length (c .before .before .before .before .before .before .args .batch .now)) (allowed (c .before .before)))
+
+with-batch-requires : tie.Need-with-batch-requires
+with-batch-requires c κs = let a = allowed (c .before .before .before .before .before) in
+    let e = c .before .before .before .before .before .before .before .before .before .args .engine in
+    let d = c .before .before .before .before .before .before .before .before .before .args .client in
+    (client-small e (a .ok) d (a .owner), omega (arith, pending-small e (a .ok) d (a .owner), a .slot), a .slot)
+
+same-length : tie.Need-same-length
+same-length c = search needs
+
+returns-2 : tie.Need-returns-2
+returns-2 c =
+    let e = c .before .before .before .before .before .before .before .before .before .before .args in
+    let w = c .before .before .before .before .before .write-offset in
+    submit-done (e .engine) (e .ring .now) (e .client) (e .batch .now) (c .before .before .before .before .before .before .before .submit-refusal .result) (c .before .before .before .before .before .before .before .submit-refusal .ensures) (c .before .before .before .before .before .before .if1 .left) (c .with-batch .result) _
+    (rw (w .ensures) at (c .with-batch .ensures))
+    (rw (w .ensures) at (c .before .before .before .copy-in .ensures))
+
+pub submit-spec : {M : Type 1} → statement M
+submit-spec =
+    tie.close
+    (tie.spec
+    submit-refusal-requires
+    returns
+    write-offset-requires
+    copy-in-requires
+    with-batch-requires
+    same-length
+    returns-2)

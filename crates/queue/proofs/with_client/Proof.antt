@@ -1,0 +1,22 @@
+use mathlib.Core.Path.{refl}
+use Prim.Native.Nat.{_-_}
+use Rattle.queue.specs.Calls.{withClient}
+use borrow.Author.Needs.{needs}
+use Rattle.queue.proofs.with_client.Statement.{statement}
+use Rattle.queue.proofs.with_client.Tie as tie
+
+mul-clients : tie.Need-mul-clients
+mul-clients c = search needs
+
+array-set-from-clients : tie.Need-array-set-from-clients
+array-set-from-clients c = search needs
+
+add-after : tie.Need-add-after
+add-after c = search needs
+
+returns : tie.Need-returns
+unfolding withClient
+returns c = refl
+
+pub with-client-spec : {M : Type 1} → statement M
+with-client-spec = tie.close (tie.spec mul-clients array-set-from-clients add-after returns)

@@ -1,0 +1,55 @@
+-- When a call is refused (01, "Engine, desks, queue", the table and the order below it: "11 first, then 10, then as listed downward").
+use mathlib.Core.List.{List, [], _∷_}
+use mathlib.Core.Bool.{Bool, cond, not}
+use Prim.Native.Nat.{ℕ}
+use lib.Dec.{ltb, eqb, leb}
+use Rattle.record.specs.declared.Setup.{Setup}
+use Rattle.record.specs.declared.Window.{Window}
+use Rattle.record.specs.declared.Record.{Record}
+use Rattle.record.specs.Setup.{badRing, badMemory, badLength}
+use Rattle.record.specs.Clients.{isOpen, openWindows, badWindow}
+use Rattle.record.specs.Queue.{takenSlots, freeBytes}
+use Rattle.record.specs.Rules.{valid}
+
+infix 70 _when_
+-- A row of the table: its number, and whether its condition holds.
+pub data Row : Type 0 where
+  _when_ : ℕ → Bool → Row
+
+-- The first row whose condition holds; 0 if there is none: the call is not refused.
+unfoldable pub firstOf : List Row → ℕ
+firstOf [] = 0
+firstOf ((number when holds) ∷ rows) = cond holds number (firstOf rows)
+
+-- set up
+abbrev pub setUpTable : Setup → List Row
+setUpTable setup =
+    1 when badRing setup
+    ∷ 2 when badMemory setup
+    ∷ []
+
+-- open
+abbrev pub openTable : Record → Window → List Row
+openTable engine w =
+    11 when not (valid engine)
+    ∷ 3 when leb 4 (engine .opened)
+    ∷ 4 when badWindow (engine .setup) (openWindows engine) w
+    ∷ []
+
+-- submit; given: the length of the lent ring; size: the batch's length
+abbrev pub submitTable : Record → (given client size : ℕ) → List Row
+submitTable engine given client size =
+    11 when not (valid engine)
+    ∷ 10 when not (eqb given (engine .setup .ring))
+    ∷ 5 when not (isOpen engine client)
+    ∷ 6 when badLength (engine .setup .ring) size
+    ∷ 7 when leb 8 (takenSlots engine)
+    ∷ 8 when ltb (freeBytes engine) size
+    ∷ []
+
+-- pending
+abbrev pub pendingTable : Record → (client : ℕ) → List Row
+pendingTable engine client =
+    11 when not (valid engine)
+    ∷ 5 when not (isOpen engine client)
+    ∷ []

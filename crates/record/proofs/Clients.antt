@@ -1,0 +1,80 @@
+-- Laws of the open clients, one client at a time.
+use mathlib.Core.Path.{_≡_, ap, _∙_}
+use mathlib.Core.List.{List, [], _∷_}
+use mathlib.Core.Bool.{Bool, true, false, _&&_, _||_, not}
+use Prim.Native.Nat.{ℕ, _+_, _≤_, _<_}
+use native.Mathlib.Numerals.{add-one}
+use native.Mathlib.Omega.{arith}
+use lib.ListN.{length, take, drop, getD, length-take, drop-of-length-le}
+use lib.Seq.{drop-cons, getD-take}
+use lib.Dec.{eqb}
+use borrow.Author.Tests.{not-true, not-false}
+use Rattle.range.specs.declared.Range.{Range}
+use Rattle.range.specs.Range.{inside, shared}
+use Rattle.record.specs.declared.Setup.{Setup}
+use Rattle.record.specs.declared.Batch.{Batch}
+use Rattle.record.specs.declared.Client.{Client}
+use Rattle.record.specs.declared.Window.{Window}
+use Rattle.record.specs.Slots.{countOf}
+use Rattle.record.specs.Clients.{noClient, windowsOf, bytesOf, firstBytes, sharesAny, badWindow, noneBad, countsRight}
+
+-- the tests behind a bad window
+pub bad-made : (setup : Setup) (others : List Window) (w : Window) (bytes : Range) (a b c : Bool) → bytes ≡ bytesOf w →
+    a ≡ inside bytes (firstBytes (setup .memory)) → b ≡ shared bytes (firstBytes (setup .common)) → c ≡ sharesAny bytes others →
+    (eqb (w .length) 0 || not a || b || c) ≡ badWindow setup others w
+bad-made setup others w bytes a b c is ea eb ec =
+    rw (ea ∙ ap (λ (r : Range). inside r (firstBytes (setup .memory))) is, eb ∙ ap (λ (r : Range). shared r (firstBytes (setup .common))) is, ec ∙ ap (λ (r : Range). sharesAny r others) is)
+
+module _ (cs : List Client) (n k : ℕ) (h : k < n) (l : n ≤ length cs) where
+  head-at : drop k (take n cs) ≡ getD cs k noClient ∷ drop (k + 1) (take n cs)
+  head-at = drop-cons (take n cs) k noClient (simp length-take (omega arith)) ∙ rw (getD-take n cs k noClient h, add-one k)
+
+  -- a turn of each loop: its test, and what that says of the clients from place k on
+  module _ (bytes other : Range) (is : other ≡ bytesOf (getD cs k noClient .window)) (t : Bool) (told : t ≡ shared bytes other) where
+    shares-step : sharesAny bytes (windowsOf (drop k (take n cs))) ≡ (t || sharesAny bytes (windowsOf (drop (k + 1) (take n cs))))
+    unfolding sharesAny windowsOf
+    shares-step = rw (head-at, told ∙ ap (λ (q : Range). shared bytes q) is)
+
+    pub shares-found : t ≡ true → true ≡ sharesAny bytes (windowsOf (drop k (take n cs)))
+    shares-found e = rw (shares-step, e)
+
+    pub shares-next : t ≡ false → sharesAny bytes (windowsOf (drop (k + 1) (take n cs))) ≡ sharesAny bytes (windowsOf (drop k (take n cs)))
+    shares-next e = rw (shares-step, e)
+
+  module _ (setup : Setup) (t : Bool) (told : t ≡ badWindow setup (windowsOf (drop (k + 1) (take n cs))) (getD cs k noClient .window)) where
+    none-step : noneBad setup (windowsOf (drop k (take n cs))) ≡ (not t && noneBad setup (windowsOf (drop (k + 1) (take n cs))))
+    unfolding noneBad windowsOf
+    none-step = rw (head-at, told)
+
+    pub none-found : t ≡ true → false ≡ noneBad setup (windowsOf (drop k (take n cs)))
+    none-found e = rw (none-step, e)
+
+    pub none-next : t ≡ false → noneBad setup (windowsOf (drop (k + 1) (take n cs))) ≡ noneBad setup (windowsOf (drop k (take n cs)))
+    none-next e = rw (none-step, e)
+
+  module _ (bs : List Batch) (m : ℕ) (told : m ≡ countOf k bs) where
+    counts-step : countsRight k (drop k (take n cs)) bs ≡ (eqb (getD cs k noClient .pending) m && countsRight (k + 1) (drop (k + 1) (take n cs)) bs)
+    unfolding countsRight
+    counts-step = rw (head-at, told, add-one k)
+
+    pub counts-found : not (eqb (getD cs k noClient .pending) m) ≡ true → false ≡ countsRight k (drop k (take n cs)) bs
+    counts-found e = rw (counts-step, not-true (eqb (getD cs k noClient .pending) m) e)
+
+    pub counts-next : not (eqb (getD cs k noClient .pending) m) ≡ false → countsRight (k + 1) (drop (k + 1) (take n cs)) bs ≡ countsRight k (drop k (take n cs)) bs
+    counts-next e = rw (counts-step, not-false (eqb (getD cs k noClient .pending) m) e)
+
+module _ (cs : List Client) (n k : ℕ) (h : n ≤ k) where
+  past : drop k (take n cs) ≡ []
+  past = drop-of-length-le (take n cs) {i = k} (simp length-take (omega arith))
+
+  pub shares-end : (bytes : Range) → sharesAny bytes (windowsOf (drop k (take n cs))) ≡ false
+  unfolding sharesAny windowsOf
+  shares-end bytes = rw past
+
+  pub none-end : (setup : Setup) → noneBad setup (windowsOf (drop k (take n cs))) ≡ true
+  unfolding noneBad windowsOf
+  none-end setup = rw past
+
+  pub counts-end : (bs : List Batch) → countsRight k (drop k (take n cs)) bs ≡ true
+  unfolding countsRight
+  counts-end bs = rw past

@@ -1,0 +1,160 @@
+-- What each rule says, as facts.
+use mathlib.Core.Path.{_≡_, refl, ap, _∙_}
+use mathlib.Core.Bool.{true, false, _&&_, _||_, not}
+use Prim.Native.Nat.{ℕ, _+_, _-_, _%_, _≤_, _<_}
+use lib.ListN.{length}
+use native.Mathlib.Omega.{arith}
+use lib.Dec.{ltb, eqb}
+use borrow.Author.Tests.{ltb-true, ltb-false, leb-true, eqb-true, eqb-false, not-true, not-false, le-leb}
+use Rattle.word.proofs.Tests.{and-true, or-false}
+use Rattle.record.specs.declared.Setup.{Setup}
+use Rattle.record.specs.declared.Record.{Record}
+use Rattle.record.specs.Setup.{badRing, badMemory, badLength}
+use Rattle.record.specs.declared.Batch.{Batch}
+use Rattle.record.specs.Slots.{ready, sum, total}
+use Rattle.record.specs.Queue.{takenSlots, takenBytes, freeBytes, writeOffset, waiting}
+use Rattle.record.specs.Rules.{ringRule, memoryRule, clientsRule, readRule, numberRules, windowsRule, ticketsRule, endToEndRule, lengthsRule, totalRule, ownersRule, batchRules, pendingRule, valid}
+use Rattle.ring.specs.Segment.{wrapped}
+use Rattle.ring.proofs.Wrapped.{wrapped-in}
+use Rattle.record.proofs.Line.{after-last}
+use mathlib.Core.List.{List, [], _∷_, _++_}
+use native.Mathlib.Nat.{add-zero}
+use Rattle.record.proofs.Order.{sum-order, length-order}
+
+pub record RingGood (ring : ℕ) : Type 0 where
+  pub some : 0 < ring
+  pub small : ring ≤ 32768
+  pub whole : ring % 128 ≡ 0
+
+pub ring-good : (setup : Setup) → badRing setup ≡ false → RingGood (setup .ring)
+ring-good setup e =
+    let n : ℕ = setup .ring in
+    let x = or-false (eqb n 0 || ltb 32768 n) (not (eqb (n % 128) 0)) e in
+    let y = or-false (eqb n 0) (ltb 32768 n) (x .0) in
+    let z : n ≡ 0 → ⊥ = eqb-false n 0 (y .0) in
+    record { some = omega arith; small = ltb-false 32768 n (y .1); whole = eqb-true (n % 128) 0 (not-false (eqb (n % 128) 0) (x .1)) }
+
+pub record MemoryGood (setup : Setup) : Type 0 where
+  pub small : setup .memory ≤ 16777216
+  pub shared : setup .common ≤ setup .memory
+
+pub memory-good : (setup : Setup) → badMemory setup ≡ false → MemoryGood setup
+memory-good setup e =
+    let x = or-false (ltb 16777216 (setup .memory)) (ltb (setup .memory) (setup .common)) e in
+    record { small = ltb-false _ _ (x .0); shared = ltb-false _ _ (x .1) }
+
+pub record LengthGood (ring size : ℕ) : Type 0 where
+  pub some : 0 < size
+  pub four : size % 4 ≡ 0
+  pub within : size ≤ ring
+
+pub length-good : (ring size : ℕ) → badLength ring size ≡ false → LengthGood ring size
+length-good ring size e =
+    let x = or-false (eqb size 0 || not (eqb (size % 4) 0)) (ltb ring size) e in
+    let y = or-false (eqb size 0) (not (eqb (size % 4) 0)) (x .0) in
+    let z : size ≡ 0 → ⊥ = eqb-false size 0 (y .0) in
+    record { some = omega arith; four = eqb-true (size % 4) 0 (not-false (eqb (size % 4) 0) (y .1)); within = ltb-false ring size (x .1) }
+
+pub record Numbers (engine : Record) : Type 0 where
+  pub ring : RingGood (engine .setup .ring)
+  pub memory : MemoryGood (engine .setup)
+  pub clients : engine .opened ≤ 4
+  pub four : engine .read % 4 ≡ 0
+  pub below : engine .read < engine .setup .ring
+
+pub numbers : (engine : Record) → numberRules engine ≡ true → Numbers engine
+numbers engine e =
+    let x = and-true (ringRule engine && memoryRule engine && clientsRule engine) (readRule engine) e in
+    let y = and-true (ringRule engine && memoryRule engine) (clientsRule engine) (x .0) in
+    let z = and-true (ringRule engine) (memoryRule engine) (y .0) in
+    let r = and-true (eqb (engine .read % 4) 0) (ltb (engine .read) (engine .setup .ring)) (x .1) in
+    record {
+      ring = ring-good (engine .setup) (not-true (badRing (engine .setup)) (z .0));
+      memory = memory-good (engine .setup) (not-true (badMemory (engine .setup)) (z .1));
+      clients = leb-true _ _ (y .1);
+      four = eqb-true _ _ (r .0);
+      below = ltb-true _ _ (r .1);
+    }
+
+-- a record whose numbers are wrong, and one whose numbers are right
+module _ (engine : Record) where
+  pub valid-not : numberRules engine ≡ false → false ≡ valid engine
+  unfolding valid
+  valid-not e = rw e
+
+  pub valid-rest : numberRules engine ≡ true → (windowsRule engine && batchRules engine && pendingRule engine) ≡ valid engine
+  unfolding valid
+  valid-rest e = rw e
+
+-- ---- every rule of a valid record
+
+pub record Valid (engine : Record) : Type 0 where
+  pub numbers : Numbers engine
+  pub windows : windowsRule engine ≡ true
+  pub given : ticketsRule engine ≡ true
+  pub ends : endToEndRule engine ≡ true
+  pub lengths : lengthsRule engine ≡ true
+  pub within : total (waiting engine) ≤ engine .setup .ring
+  pub owners : ownersRule engine ≡ true
+  pub counts : pendingRule engine ≡ true
+
+pub valid-facts : (engine : Record) → valid engine ≡ true → Valid engine
+unfolding valid
+valid-facts engine e =
+    let x = and-true (numberRules engine && windowsRule engine && batchRules engine) (pendingRule engine) e in
+    let y = and-true (numberRules engine && windowsRule engine) (batchRules engine) (x .0) in
+    let z = and-true (numberRules engine) (windowsRule engine) (y .0) in
+    let a = and-true (ticketsRule engine && endToEndRule engine && lengthsRule engine && totalRule engine) (ownersRule engine) (y .1) in
+    let b = and-true (ticketsRule engine && endToEndRule engine && lengthsRule engine) (totalRule engine) (a .0) in
+    let c = and-true (ticketsRule engine && endToEndRule engine) (lengthsRule engine) (b .0) in
+    let d = and-true (ticketsRule engine) (endToEndRule engine) (c .0) in
+    record {
+      numbers = numbers engine (z .0);
+      windows = z .1;
+      given = d .0;
+      ends = d .1;
+      lengths = c .1;
+      within = leb-true _ _ (b .1);
+      owners = a .1;
+      counts = x .1;
+    }
+
+-- the number rules are kept, and every other one: the record is valid
+pub valid-made : (engine : Record) → numberRules engine ≡ true → windowsRule engine ≡ true → ticketsRule engine ≡ true → endToEndRule engine ≡ true →
+    lengthsRule engine ≡ true → total (waiting engine) ≤ engine .setup .ring → ownersRule engine ≡ true → pendingRule engine ≡ true → valid engine ≡ true
+unfolding valid
+valid-made engine n w g e l t o c = rw (n, w, g, e, l, le-leb (total (waiting engine)) (engine .setup .ring) t, o, c)
+
+pub numbers-kept : (engine : Record) → valid engine ≡ true → numberRules engine ≡ true
+unfolding valid
+numbers-kept engine e =
+    let x = and-true (numberRules engine && windowsRule engine && batchRules engine) (pendingRule engine) e in
+    let y = and-true (numberRules engine && windowsRule engine) (batchRules engine) (x .0) in
+    and-true (numberRules engine) (windowsRule engine) (y .0) .0
+
+-- the batches in order are all that are ready, so sums over the slots are sums over them
+module _ (engine : Record) (v : Valid engine) (few : takenSlots engine ≤ 8) where
+  pub sum-waiting : (f : Batch → ℕ) → sum f (ready (engine .slots)) ≡ sum f (waiting engine)
+  sum-waiting f = sum-order f (takenSlots engine) (engine .next) (engine .slots) refl (omega arith) (v .given)
+
+  -- free room is the ring less the waiting lengths
+  pub free-room : freeBytes engine ≡ engine .setup .ring - total (waiting engine)
+  free-room = rw (sum-waiting (λ b. b .length))
+
+  pub taken-within : takenBytes engine ≤ engine .setup .ring
+  taken-within = rw (sum-waiting (λ b. b .length)) (v .within)
+
+  pub length-waiting : length (waiting engine) ≡ takenSlots engine
+  length-waiting = length-order (takenSlots engine) (engine .next) (engine .slots)
+
+  -- the next batch goes after the newest one, and to the read offset if none is ready
+  pub write-newest : (bs : List Batch) (b : Batch) → waiting engine ≡ bs ++ (b ∷ []) → writeOffset engine ≡ wrapped (engine .setup .ring) (b .offset + b .length)
+  write-newest bs b is =
+      ap (λ (x : ℕ). wrapped (engine .setup .ring) (engine .read + x)) (sum-waiting (λ x. x .length) ∙ ap total is)
+      ∙ after-last (engine .setup .ring) (engine .read) (v .numbers .below) bs b (rw is at (v .within)) (rw is at (v .ends))
+
+  pub write-first : waiting engine ≡ [] → writeOffset engine ≡ engine .read
+  unfolding sum
+  write-first is =
+      ap (λ (x : ℕ). wrapped (engine .setup .ring) (engine .read + x)) (sum-waiting (λ x. x .length) ∙ ap total is)
+      ∙ rw add-zero (wrapped-in (engine .setup .ring) (engine .read) (v .numbers .below))

@@ -1,0 +1,189 @@
+-- Laws of the oldest batch when it is taken: it is the first in ticket order, the others stay, and the record stays valid.
+use mathlib.Core.Path.{_≡_, ap, _∙_}
+use mathlib.Core.List.{List, [], _∷_}
+use mathlib.Core.Bool.{true, cond, _&&_, not}
+use mathlib.Core.Logic.{⊎-elim}
+use Prim.Native.Nat.{ℕ, zero, suc, _+_, _-_, _%_, _≤_, _<_}
+use native.Mathlib.Nat.{add-zero}
+use native.Mathlib.Omega.{arith}
+use lib.ListN.{length, getD, set}
+use lib.Seq.{getD-take, take-set-lt, length-take-le}
+use lib.Dec.{eqb}
+use borrow.Author.Tests.{ltb-true, lt-ltb, eqb-true, eq-eqb, ne-eqb, not-true}
+use Rattle.word.proofs.Tests.{split, and-true}
+use Rattle.ring.specs.Segment.{wrapped}
+use Rattle.ring.proofs.Wrapped.{wrapped-in, wrapped-over, wrapped-below}
+use Rattle.record.specs.declared.Batch.{Batch}
+use Rattle.record.specs.declared.Slot.{Slot}
+use Rattle.record.specs.declared.Client.{Client}
+use Rattle.record.specs.declared.Window.{Window}
+use Rattle.record.specs.declared.Record.{Record}
+use Rattle.record.specs.Setup.{badLength}
+use Rattle.record.specs.Slots.{free, ready, sum, total, countOf}
+use Rattle.record.specs.Tickets.{ticketBefore, place, batchWith, inOrder}
+use Rattle.record.specs.Clients.{isOpen, noClient, openClients, countsRight}
+use Rattle.record.specs.Queue.{takenSlots, waiting}
+use Rattle.record.specs.Rules.{ringRule, memoryRule, clientsRule, readRule, numberRules, windowsRule, ticketsRule, endToEndRule, lengthsAllowed, lengthsRule, ofOpen, ownersRule, pendingRule, valid}
+use Rattle.record.proofs.Order.{Oldest, oldest, order-freed, sum-split, sum-has}
+use Rattle.record.proofs.Line.{Headed, headed}
+use Rattle.record.proofs.Opened.{windows-set, open-more, counts-same}
+use Rattle.record.proofs.Rules.{LengthGood, length-good, Valid, valid-facts, valid-made, numbers-kept}
+
+-- one batch fewer of one client
+counts-lowered : (id k : ℕ) (cs : List Client) (bs after : List Batch) (w : Window) → k < length cs →
+    ((j : ℕ) → countOf j bs ≡ cond (eqb (id + k) j) 1 0 + countOf j after) → countsRight id cs bs ≡ true →
+    countsRight id (set cs k (record { window = w; pending = getD cs k noClient .pending - 1 })) after ≡ true
+unfolding countsRight
+counts-lowered id k [] bs after w l h e = absurd (omega arith)
+counts-lowered id zero (c ∷ cs) bs after w l h e =
+    let both = and-true (eqb (c .pending) (countOf id bs)) (countsRight (suc id) cs bs) e in
+    let old = eqb-true (c .pending) (countOf id bs) (both .0) in
+    let one : countOf id bs ≡ 1 + countOf id after = h id ∙ rw (eq-eqb (id + 0) id (omega arith)) in
+    let rest = counts-same (suc id) cs bs after (λ j p. let z = h j in let q : countOf j bs ≡ 0 + countOf j after = z ∙ rw (ne-eqb (id + 0) j (omega arith)) in omega arith) (both .1) in
+    rw (eq-eqb (c .pending - 1) (countOf id after) (omega arith)) rest
+counts-lowered id (suc k) (c ∷ cs) bs after w l h e =
+    let both = and-true (eqb (c .pending) (countOf id bs)) (countsRight (suc id) cs bs) e in
+    let same : countOf id bs ≡ 0 + countOf id after = h id ∙ rw (ne-eqb (id + suc k) id (omega arith)) in
+    let like : countOf id after ≡ countOf id bs = omega arith in
+    let z : suc id + k ≡ id + suc k = omega arith in
+    rw (like, both .0) (counts-lowered (suc id) k cs bs after w (omega arith) (rw z h) (both .1))
+
+-- k batches are ready beside the oldest one
+module _ (engine : Record) (ok : valid engine ≡ true) (k : ℕ) (some : takenSlots engine ≡ suc k) (few : k < 8) (four : length (engine .clients) ≡ 4) where
+  v : Valid engine
+  v = valid-facts engine ok
+
+  abbrev pub ticket : ℕ
+  ticket = ticketBefore (engine .next) (suc k)
+
+  abbrev pub first : Batch
+  first = batchWith ticket (engine .slots)
+
+  abbrev pub rest : List Batch
+  rest = inOrder k (engine .next) (engine .slots)
+
+  -- the slots without it
+  abbrev pub left : List Slot
+  left = set (engine .slots) (place ticket (engine .slots)) free
+
+  pub waiting-first : waiting engine ≡ first ∷ rest
+  unfolding inOrder
+  waiting-first = rw some
+
+  found : Oldest (engine .next) k (engine .slots)
+  found = oldest (engine .next) k (engine .slots) (omega arith) (rw some at (v .given))
+
+  pub first-place : place ticket (engine .slots) < length (engine .slots)
+  first-place = found .found
+
+  left-few : length (ready left) ≡ k
+  left-few = omega (arith, found .fewer)
+
+  -- in ticket order they are the others
+  pub left-order : inOrder (length (ready left)) (engine .next) left ≡ rest
+  left-order = rw left-few (order-freed (engine .next) k (engine .slots) (place ticket (engine .slots)) (omega arith) (found .has) k (omega arith))
+
+  left-sum : (f : Batch → ℕ) → sum f (ready (engine .slots)) ≡ f first + sum f (ready left)
+  left-sum f =
+      sum-split f (engine .slots) (place ticket (engine .slots))
+      ∙ ap (λ (x : ℕ). x + sum f (ready left)) (sum-has f ticket (getD (engine .slots) (place ticket (engine .slots)) free .state) (found .has))
+
+  whole : first .length + total rest ≤ engine .setup .ring
+  unfolding sum
+  whole = rw waiting-first at (v .within)
+
+  line : Headed (engine .setup .ring) (engine .read) (v .numbers .below) 0 first rest
+  line =
+      let begin : wrapped (engine .setup .ring) (engine .read + 0) ≡ engine .read = rw add-zero (wrapped-in (engine .setup .ring) (engine .read) (v .numbers .below)) in
+      let fits = whole in
+      headed (engine .setup .ring) (engine .read) (v .numbers .below) 0 first rest (omega arith) (rw begin (rw waiting-first at (v .ends)))
+
+  -- it lies at the read offset
+  pub first-at : first .offset ≡ engine .read
+  first-at = line .at ∙ rw add-zero (wrapped-in (engine .setup .ring) (engine .read) (v .numbers .below))
+
+  sizes : (not (badLength (engine .setup .ring) (first .length)) ≡ true) × (lengthsAllowed (engine .setup .ring) rest ≡ true)
+  unfolding lengthsAllowed
+  sizes = and-true (not (badLength (engine .setup .ring) (first .length))) (lengthsAllowed (engine .setup .ring) rest) (rw waiting-first at (v .lengths))
+
+  pub first-good : LengthGood (engine .setup .ring) (first .length)
+  first-good = length-good (engine .setup .ring) (first .length) (not-true (badLength (engine .setup .ring) (first .length)) (sizes .0))
+
+  owned : (isOpen engine (first .client) ≡ true) × (ofOpen engine rest ≡ true)
+  unfolding ofOpen
+  owned = and-true (isOpen engine (first .client)) (ofOpen engine rest) (rw waiting-first at (v .owners))
+
+  -- its client is open
+  pub first-owner : first .client < engine .opened
+  first-owner = ltb-true (first .client) (engine .opened) (owned .0)
+
+  -- the record without it
+  abbrev pub lowered : Client
+  lowered = record { window = getD (engine .clients) (first .client) noClient .window; pending = getD (engine .clients) (first .client) noClient .pending - 1 }
+
+  abbrev pub taken : Record
+  taken = record {
+    setup = engine .setup;
+    clients = set (engine .clients) (first .client) lowered;
+    opened = engine .opened;
+    slots = left;
+    read = wrapped (engine .setup .ring) (engine .read + first .length);
+    next = engine .next;
+  }
+
+  taken-clients : openClients taken ≡ set (openClients engine) (first .client) lowered
+  taken-clients = take-set-lt (engine .opened) (engine .clients) (first .client) lowered first-owner
+
+  at-four : wrapped (engine .setup .ring) (engine .read + first .length) % 4 ≡ 0
+  at-four =
+      let n : ℕ = engine .setup .ring in
+      let x : ℕ = engine .read + first .length in
+      let good = first-good .four in
+      let whole = v .numbers .ring .whole in
+      let begin = v .numbers .four in
+      ⊎-elim (λ (p : x < n). rw (wrapped-in n x p) (omega arith)) (λ (p : n ≤ x). rw (wrapped-over n x p) (omega arith)) (split x n)
+
+  numbers-taken : numberRules taken ≡ true
+  numbers-taken =
+      let x = and-true (ringRule engine && memoryRule engine && clientsRule engine) (readRule engine) (numbers-kept engine ok) in
+      let on : ℕ = wrapped (engine .setup .ring) (engine .read + first .length) in
+      let below : on < engine .setup .ring = wrapped-below (engine .setup .ring) (engine .read + first .length) (omega (arith, v .numbers .below, whole)) in
+      rw (x .0, eq-eqb (on % 4) 0 at-four, lt-ltb on (engine .setup .ring) below)
+
+  windows-taken : windowsRule taken ≡ true
+  windows-taken =
+      rw (taken-clients, ← getD-take (engine .opened) (engine .clients) (first .client) noClient first-owner, windows-set (openClients engine) (first .client) _) (v .windows)
+
+  tickets-taken : ticketsRule taken ≡ true
+  tickets-taken = rw left-few (found .rest)
+
+  ends-taken : endToEndRule taken ≡ true
+  ends-taken =
+      let z : 0 + first .length ≡ first .length = omega arith in
+      rw left-order (rw z at (line .rest))
+
+  lengths-taken : lengthsRule taken ≡ true
+  lengths-taken = rw left-order (sizes .1)
+
+  total-taken : total (waiting taken) ≤ engine .setup .ring
+  total-taken = rw left-order (omega (arith, whole))
+
+  owners-taken : ownersRule taken ≡ true
+  owners-taken = rw left-order (open-more engine taken rest (omega arith) (owned .1))
+
+  counts-taken : pendingRule taken ≡ true
+  counts-taken =
+      let long : length (openClients engine) ≡ engine .opened = length-take-le (engine .opened) (engine .clients) (omega (arith, v .numbers .clients)) in
+      let z : 0 + first .client ≡ first .client = omega arith in
+      let fewer : (j : ℕ) → countOf j (ready (engine .slots)) ≡ cond (eqb (0 + first .client) j) 1 0 + countOf j (ready left) =
+      λ j. left-sum (λ x. cond (eqb (x .client) j) 1 0) ∙ rw z
+      in
+      rw (taken-clients, ← getD-take (engine .opened) (engine .clients) (first .client) noClient first-owner)
+      (counts-lowered 0 (first .client) (openClients engine) (ready (engine .slots)) (ready left) _ (omega (arith, first-owner)) fewer (v .counts))
+
+  -- it stays valid, and the others wait in their order
+  pub taken-valid : valid taken ≡ true
+  taken-valid = valid-made taken numbers-taken windows-taken tickets-taken ends-taken lengths-taken total-taken owners-taken counts-taken
+
+  pub taken-waiting : waiting taken ≡ rest
+  taken-waiting = left-order

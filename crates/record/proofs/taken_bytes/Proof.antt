@@ -1,0 +1,66 @@
+use mathlib.Core.Path.{_≡_}
+use Prim.Native.Nat.{ℕ, _+_, _-_, _≤_, _<_}
+use lib.ListN.{length, drop}
+use native.Mathlib.Omega.{arith}
+use borrow.Author.Needs.{needs}
+use Rattle.record.specs.Slots.{ready, total}
+use Rattle.record.proofs.Slots.{sum-step, sum-end}
+use Rattle.record.proofs.taken_bytes.Statement.{statement}
+use Rattle.record.proofs.taken_bytes.Tie as tie
+
+abbrev Inv-loop : tie.InvT-loop
+Inv-loop slots n₀ i₀ n i = (i ≤ 8) × (n + total (ready (drop i slots)) ≡ total (ready slots))
+
+abbrev μ-loop : tie.MeasureT-loop
+μ-loop slots n₀ i₀ n i = 8 - i
+
+loop-holds : tie.Need-loop-holds Inv-loop μ-loop
+loop-holds c = omega arith
+
+mul-bytes-one : tie.Need-mul-bytes-one Inv-loop μ-loop
+mul-bytes-one c = omega arith
+
+array-copy-out-bytes-one : tie.Need-array-copy-out-bytes-one Inv-loop μ-loop
+array-copy-out-bytes-one c = omega arith
+
+bytes-one-requires : tie.Need-bytes-one-requires Inv-loop μ-loop
+bytes-one-requires c κs = search needs
+
+add-n : tie.Need-add-n Inv-loop μ-loop
+add-n c = let st = c .before .before .before .before in
+    let i : ℕ = c .before .before .before .loop .i in
+    let h : i < length (st .args .t1) = omega (arith, st .good .0 .1 .0 .1) in
+    omega (arith, sum-step (st .args .t1) i h (λ b. b .length), c .bytes-one .ensures)
+
+add-i : tie.Need-add-i Inv-loop μ-loop
+add-i c = omega arith
+
+loop-less : tie.Need-loop-less Inv-loop μ-loop
+loop-less c = omega arith
+
+loop-again : tie.Need-loop-again Inv-loop μ-loop
+loop-again c = let st = c .before .before .before .before in
+    let i : ℕ = c .before .before .before .loop .i in
+    let h : i < length (st .args .t1) = omega (arith, st .good .0 .1 .0 .1) in
+    (omega arith, omega (arith, sum-step (st .args .t1) i h (λ b. b .length), c .bytes-one .ensures))
+
+returns : tie.Need-returns Inv-loop μ-loop
+returns c = let g = c .before .before .good .0 .1 .0 .1 in
+    let e = sum-end (c .before .before .args .t1) (c .before .loop .i) (omega arith) (λ b. b .length) in
+    omega arith
+
+pub taken-bytes-spec : {M : Type 1} → statement M
+taken-bytes-spec =
+    tie.close
+    (tie.spec
+    Inv-loop
+    μ-loop
+    loop-holds
+    mul-bytes-one
+    array-copy-out-bytes-one
+    bytes-one-requires
+    add-n
+    add-i
+    loop-less
+    loop-again
+    returns)

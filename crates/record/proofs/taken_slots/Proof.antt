@@ -1,0 +1,63 @@
+use mathlib.Core.Path.{_≡_}
+use Prim.Native.Nat.{ℕ, _+_, _-_, _≤_, _<_}
+use lib.ListN.{length, drop}
+use native.Mathlib.Omega.{arith}
+use borrow.Author.Needs.{needs}
+use Rattle.record.specs.Slots.{ready}
+use Rattle.record.proofs.Slots.{count-step, count-end}
+use Rattle.record.proofs.taken_slots.Statement.{statement}
+use Rattle.record.proofs.taken_slots.Tie as tie
+
+abbrev Inv-loop : tie.InvT-loop
+Inv-loop slots n₀ i₀ n i = (i ≤ 8) × (n ≤ i) × (n + length (ready (drop i slots)) ≡ length (ready slots))
+
+abbrev μ-loop : tie.MeasureT-loop
+μ-loop slots n₀ i₀ n i = 8 - i
+
+loop-holds : tie.Need-loop-holds Inv-loop μ-loop
+loop-holds c = omega arith
+
+mul-ready-one : tie.Need-mul-ready-one Inv-loop μ-loop
+mul-ready-one c = omega arith
+
+array-copy-out-ready-one : tie.Need-array-copy-out-ready-one Inv-loop μ-loop
+array-copy-out-ready-one c = omega arith
+
+ready-one-requires : tie.Need-ready-one-requires Inv-loop μ-loop
+ready-one-requires c κs = search needs
+
+add-n : tie.Need-add-n Inv-loop μ-loop
+add-n c = omega (arith, c .ready-one .ensures .1)
+
+add-i : tie.Need-add-i Inv-loop μ-loop
+add-i c = omega arith
+
+loop-less : tie.Need-loop-less Inv-loop μ-loop
+loop-less c = omega arith
+
+loop-again : tie.Need-loop-again Inv-loop μ-loop
+loop-again c = let st = c .before .before .before .before in
+    let i : ℕ = c .before .before .before .loop .i in
+    let h : i < length (st .args .t1) = omega (arith, st .good .0 .1 .0 .1) in
+    (omega arith, omega (arith, c .ready-one .ensures .1), omega (arith, count-step (st .args .t1) i h, c .ready-one .ensures .0))
+
+returns : tie.Need-returns Inv-loop μ-loop
+returns c = let g = c .before .before .good .0 .1 .0 .1 in
+    let e = count-end (c .before .before .args .t1) (c .before .loop .i) (omega arith) in
+    (omega arith, omega arith, g)
+
+pub taken-slots-spec : {M : Type 1} → statement M
+taken-slots-spec =
+    tie.close
+    (tie.spec
+    Inv-loop
+    μ-loop
+    loop-holds
+    mul-ready-one
+    array-copy-out-ready-one
+    ready-one-requires
+    add-n
+    add-i
+    loop-less
+    loop-again
+    returns)

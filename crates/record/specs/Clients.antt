@@ -1,0 +1,68 @@
+-- Clients (01: desks) and their windows (01, "Engine, desks, queue"). Nothing but `isOpen` and `openClients` says which are open: what a
+-- place that is not open holds is free.
+use mathlib.Core.List.{List, [], _∷_}
+use mathlib.Core.Bool.{Bool, true, false, _||_, _&&_, not}
+use Prim.Native.Nat.{ℕ, suc}
+use lib.ListN.{length, getD, take}
+use lib.Dec.{ltb, eqb}
+use Rattle.range.specs.declared.Range.{Range}
+use Rattle.range.specs.Range.{runOf, inside, shared}
+use Rattle.record.specs.declared.Setup.{Setup}
+use Rattle.record.specs.declared.Window.{Window}
+use Rattle.record.specs.declared.Client.{Client}
+use Rattle.record.specs.declared.Batch.{Batch}
+use Rattle.record.specs.declared.Record.{Record}
+use Rattle.record.specs.Slots.{countOf}
+
+-- "ids are 0 to 3 in order of opening"
+abbrev pub isOpen : Record → ℕ → Bool
+isOpen engine client = ltb client (engine .opened)
+
+-- the open clients, in the order of their ids
+abbrev pub openClients : Record → List Client
+openClients engine = take (engine .opened) (engine .clients)
+
+-- what a place holds that was never opened
+abbrev pub noClient : Client
+noClient = record { window = record { start = 0; length = 0 }; pending = 0 }
+
+-- an open client's place
+abbrev pub clientAt : Record → ℕ → Client
+clientAt engine client = getD (engine .clients) client noClient
+
+-- the clients' windows
+unfoldable pub windowsOf : List Client → List Window
+windowsOf [] = []
+windowsOf (c ∷ cs) = c .window ∷ windowsOf cs
+
+-- the windows that are taken
+abbrev pub openWindows : Record → List Window
+openWindows engine = windowsOf (openClients engine)
+
+-- the bytes of memory that a window holds
+abbrev pub bytesOf : Window → Range
+bytesOf w = runOf (w .start) (w .length)
+
+-- the first bytes of memory: all of it, or the common area
+abbrev pub firstBytes : ℕ → Range
+firstBytes n = record { start = 0; end = n }
+
+-- some of the bytes are a window's
+unfoldable pub sharesAny : Range → List Window → Bool
+sharesAny bytes [] = false
+sharesAny bytes (w ∷ ws) = shared bytes (bytesOf w) || sharesAny bytes ws
+
+-- 4: "window empty, past memory's end, or sharing a byte with common or another window"
+abbrev pub badWindow : Setup → (others : List Window) → Window → Bool
+badWindow setup others w =
+    eqb (w .length) 0 || not (inside (bytesOf w) (firstBytes (setup .memory))) || shared (bytesOf w) (firstBytes (setup .common)) || sharesAny (bytesOf w) others
+
+-- 4 is true of none of the windows. Sharing goes both ways, so each is asked of those after it.
+unfoldable pub noneBad : Setup → List Window → Bool
+noneBad setup [] = true
+noneBad setup (w ∷ ws) = not (badWindow setup ws w) && noneBad setup ws
+
+-- the clients, whose ids go on from `id`, have as many batches pending as are theirs
+unfoldable pub countsRight : (id : ℕ) → List Client → List Batch → Bool
+countsRight id [] batches = true
+countsRight id (c ∷ cs) batches = eqb (c .pending) (countOf id batches) && countsRight (suc id) cs batches

@@ -1,0 +1,30 @@
+-- What is taken and what is free, each from one definition (01, "Engine, desks, queue"; "The book of demand 3": "free ring bytes are the
+-- ring less the waiting lengths").
+use mathlib.Core.List.{List}
+use Prim.Native.Nat.{ℕ, _+_, _-_}
+use lib.ListN.{length}
+use Rattle.ring.specs.Segment.{wrapped}
+use Rattle.record.specs.declared.Batch.{Batch}
+use Rattle.record.specs.declared.Record.{Record}
+use Rattle.record.specs.Slots.{ready, total}
+use Rattle.record.specs.Tickets.{inOrder}
+
+-- how many slots are ready
+abbrev pub takenSlots : Record → ℕ
+takenSlots engine = length (ready (engine .slots))
+
+-- how many ring bytes their batches have
+abbrev pub takenBytes : Record → ℕ
+takenBytes engine = total (ready (engine .slots))
+
+-- how many ring bytes are free
+abbrev pub freeBytes : Record → ℕ
+freeBytes engine = engine .setup .ring - takenBytes engine
+
+-- where the next batch goes: "after the newest one (at the read offset if none is ready), going on at byte 0 after the last byte"
+abbrev pub writeOffset : Record → ℕ
+writeOffset engine = wrapped (engine .setup .ring) (engine .read + takenBytes engine)
+
+-- the ready batches in ticket order, the oldest first: of n ready batches it has the ticket n before the next to be given
+abbrev pub waiting : Record → List Batch
+waiting engine = inOrder (takenSlots engine) (engine .next) (engine .slots)

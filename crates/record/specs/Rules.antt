@@ -1,0 +1,85 @@
+-- The record rules, one by one (01, "Engine, desks, queue", below the table). A call on a record that breaks one is refused with 11.
+use mathlib.Core.List.{List, [], _∷_}
+use mathlib.Core.Bool.{Bool, true, _&&_, not}
+use Prim.Native.Nat.{ℕ, _+_, _%_}
+use lib.Dec.{leb, ltb, eqb}
+use Rattle.ring.specs.Segment.{wrapped}
+use Rattle.record.specs.declared.Batch.{Batch}
+use Rattle.record.specs.declared.Record.{Record}
+use Rattle.record.specs.Setup.{badRing, badMemory, badLength}
+use Rattle.record.specs.Slots.{ready, total}
+use Rattle.record.specs.Tickets.{lastGiven}
+use Rattle.record.specs.Clients.{isOpen, openClients, openWindows, noneBad, countsRight}
+use Rattle.record.specs.Queue.{takenSlots, waiting}
+
+-- "the conditions of 1, 2 and 4 don't occur": of 1
+abbrev pub ringRule : Record → Bool
+ringRule engine = not (badRing (engine .setup))
+
+-- the same of 2
+abbrev pub memoryRule : Record → Bool
+memoryRule engine = not (badMemory (engine .setup))
+
+-- and of 4, for every open client
+abbrev pub windowsRule : Record → Bool
+windowsRule engine = noneBad (engine .setup) (openWindows engine)
+
+-- "at most four desks"
+abbrev pub clientsRule : Record → Bool
+clientsRule engine = leb (engine .opened) 4
+
+-- "the read offset is a multiple of 4 below the ring length"
+abbrev pub readRule : Record → Bool
+readRule engine = eqb (engine .read % 4) 0 && ltb (engine .read) (engine .setup .ring)
+
+-- "tickets are consecutive and the newest is the one before the next to be given": with n ready batches, each of the n tickets before the
+-- next one is that of some ready batch, so that each batch has one of them and no two have the same
+abbrev pub ticketsRule : Record → Bool
+ticketsRule engine = lastGiven (takenSlots engine) (engine .next) (engine .slots)
+
+-- "ready batches, in ticket order, lie end to end from it"
+unfoldable pub endToEnd : (ring offset : ℕ) → List Batch → Bool
+endToEnd ring offset [] = true
+endToEnd ring offset (b ∷ bs) = eqb (b .offset) offset && endToEnd ring (wrapped ring (offset + b .length)) bs
+
+-- that of the ready batches
+abbrev pub endToEndRule : Record → Bool
+endToEndRule engine = endToEnd (engine .setup .ring) (engine .read) (waiting engine)
+
+-- "with lengths allowed by 6"
+unfoldable pub lengthsAllowed : (ring : ℕ) → List Batch → Bool
+lengthsAllowed ring [] = true
+lengthsAllowed ring (b ∷ bs) = not (badLength ring (b .length)) && lengthsAllowed ring bs
+
+-- that of the ready batches
+abbrev pub lengthsRule : Record → Bool
+lengthsRule engine = lengthsAllowed (engine .setup .ring) (waiting engine)
+
+-- "in total at most the ring"
+abbrev pub totalRule : Record → Bool
+totalRule engine = leb (total (waiting engine)) (engine .setup .ring)
+
+-- "each of an open desk"
+unfoldable pub ofOpen : Record → List Batch → Bool
+ofOpen engine [] = true
+ofOpen engine (b ∷ bs) = isOpen engine (b .client) && ofOpen engine bs
+
+-- that of the ready batches
+abbrev pub ownersRule : Record → Bool
+ownersRule engine = ofOpen engine (waiting engine)
+
+-- "pending counts equal the ready batches"
+abbrev pub pendingRule : Record → Bool
+pendingRule engine = countsRight 0 (openClients engine) (ready (engine .slots))
+
+-- the rules of the numbers
+abbrev pub numberRules : Record → Bool
+numberRules engine = ringRule engine && memoryRule engine && clientsRule engine && readRule engine
+
+-- the rules of the ready batches
+abbrev pub batchRules : Record → Bool
+batchRules engine = ticketsRule engine && endToEndRule engine && lengthsRule engine && totalRule engine && ownersRule engine
+
+-- every rule is kept
+unfoldable pub valid : Record → Bool
+valid engine = numberRules engine && windowsRule engine && batchRules engine && pendingRule engine

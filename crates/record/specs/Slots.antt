@@ -1,0 +1,51 @@
+-- The slots and the ready batches in them (01, "Engine, desks, queue": "A slot is free, or ready with its desk and ticket,
+-- offset and length").
+use mathlib.Core.List.{List, [], _∷_}
+use mathlib.Core.Bool.{Bool, true, false, cond}
+use Prim.Native.Nat.{ℕ, suc, _+_}
+use lib.Dec.{eqb}
+use Rattle.record.specs.declared.Batch.{Batch}
+use Rattle.record.specs.declared.Slot.{Slot}
+use Rattle.record.specs.declared.SlotState.{SlotState}
+use Rattle.record.specs.declared.SlotState.the-variants.{Free, Ready}
+
+-- a slot that is free
+abbrev pub free : Slot
+free = record { state = Free }
+
+-- a slot that is ready with a batch
+abbrev pub readyWith : Batch → Slot
+readyWith b = record { state = Ready b }
+
+-- what a slot adds to the ready batches of the slots after it
+abbrev pub added : SlotState → List Batch → List Batch
+added Free bs = bs
+added (Ready b) bs = b ∷ bs
+
+-- the ready batches, slot by slot
+unfoldable pub ready : List Slot → List Batch
+ready [] = []
+ready (s ∷ ss) = added (s .state) (ready ss)
+
+-- a number of each batch, summed
+unfoldable pub sum : (Batch → ℕ) → List Batch → ℕ
+sum f [] = 0
+sum f (b ∷ bs) = f b + sum f bs
+
+-- the batches' lengths, summed
+abbrev pub total : List Batch → ℕ
+total bs = sum (λ b. b .length) bs
+
+-- how many of the batches are the client's
+abbrev pub countOf : ℕ → List Batch → ℕ
+countOf client bs = sum (λ b. cond (eqb (b .client) client) 1 0) bs
+
+-- the state is free
+abbrev pub isFreeState : SlotState → Bool
+isFreeState Free = true
+isFreeState (Ready b) = false
+
+-- the lowest free slot; the number of slots if none is free
+unfoldable pub lowestFree : List Slot → ℕ
+lowestFree [] = 0
+lowestFree (s ∷ ss) = cond (isFreeState (s .state)) 0 (suc (lowestFree ss))

@@ -1,0 +1,368 @@
+// The engine record: set-up numbers, clients, slots, read offset and next ticket, and the check of its rules.
+ghost use mathlib.Core.Path.{_≡_};
+ghost use mathlib.Core.Bool.{not, _&&_};
+ghost use mathlib.Core.List.{[]};
+ghost use Prim.Native.Nat.{_+_, _-_, _%_, _≤_, _<_};
+ghost use lib.ListN.{length, take, drop};
+ghost use lib.Dec.{leb, ltb, eqb};
+ghost use Rattle.ring.specs.Segment.{wrapped};
+ghost use Rattle.record.specs.Setup.{badRing, badMemory, badLength};
+ghost use Rattle.record.specs.Slots.{added, ready, total, countOf, isFreeState, lowestFree};
+ghost use Rattle.record.specs.Tickets.{ticketBefore, stateHas, place, stateBatch};
+ghost use Rattle.record.specs.Clients.{isOpen, windowsOf, sharesAny, badWindow, noneBad, countsRight};
+ghost use Rattle.record.specs.Rules.{readRule, numberRules, batchRules, valid};
+use range::Range;
+
+// The numbers of set up, in bytes.
+pub struct Setup {
+    pub ring: usize,
+    pub memory: usize,
+    pub common: usize,
+}
+
+// A run of bytes of memory.
+pub struct Window {
+    pub start: u32,
+    pub length: u32,
+}
+
+// A client (01: desk): its window, and how many of its batches are ready.
+pub struct Client {
+    pub window: Window,
+    pub pending: u32,
+}
+
+// A ready batch: whose it is, and where it lies in the ring.
+pub struct Batch {
+    pub client: u32,
+    pub ticket: u32,
+    pub offset: usize,
+    pub length: usize,
+}
+
+pub enum SlotState {
+    Free,
+    Ready(Batch),
+}
+
+pub struct Slot {
+    pub state: SlotState,
+}
+
+// The engine record (01: record), handed in and out by value. `opened` clients are open, those at the first places.
+pub struct Record {
+    pub setup: Setup,
+    pub clients: [Client; 4],
+    pub opened: usize,
+    pub slots: [Slot; 8],
+    pub read: usize,
+    pub next: u32,
+}
+
+pub fn bad_ring(setup: Setup) -> bool
+    ensures { λ r. ⌜ r ≡ badRing setup ⌝ }
+{
+    let ring = setup.ring;
+    (ring == 0) | (32768 < ring) | !(ring % 128 == 0)
+}
+
+pub fn bad_memory(setup: Setup) -> bool
+    ensures { λ r. ⌜ r ≡ badMemory setup ⌝ }
+{
+    (16777216 < setup.memory) | (setup.memory < setup.common)
+}
+
+pub fn bad_length(ring: usize, size: usize) -> bool
+    ensures { λ r. ⌜ r ≡ badLength ring size ⌝ }
+{
+    (size == 0) | !(size % 4 == 0) | (ring < size)
+}
+
+fn is_free(slot: Slot) -> bool
+    ensures { λ r. ⌜ r ≡ isFreeState (slot .state) ⌝ }
+{
+    let state = slot.state;
+    match state {
+        SlotState::Free => true,
+        SlotState::Ready(_) => false,
+    }
+}
+
+fn ready_one(slot: Slot) -> usize
+    ensures { λ r. ⌜ (r ≡ length (added (slot .state) [])) × (r ≤ 1) ⌝ }
+{
+    let state = slot.state;
+    match state {
+        SlotState::Free => 0,
+        SlotState::Ready(_) => 1,
+    }
+}
+
+fn bytes_one(slot: Slot) -> usize
+    ensures { λ r. ⌜ r ≡ total (added (slot .state) []) ⌝ }
+{
+    let state = slot.state;
+    match state {
+        SlotState::Free => 0,
+        SlotState::Ready(b) => b.length,
+    }
+}
+
+fn owned_one(slot: Slot, client: u32) -> usize
+    ensures { λ r. ⌜ (r ≡ countOf client (added (slot .state) [])) × (r ≤ 1) ⌝ }
+{
+    let state = slot.state;
+    match state {
+        SlotState::Free => 0,
+        SlotState::Ready(b) => if b.client == client { 1 } else { 0 },
+    }
+}
+
+pub fn batch_of(slot: Slot) -> Batch
+    ensures { λ r. ⌜ r ≡ stateBatch (slot .state) ⌝ }
+{
+    let state = slot.state;
+    match state {
+        SlotState::Free => Batch {
+            client: 0,
+            ticket: 0,
+            offset: 0,
+            length: 0,
+        },
+        SlotState::Ready(b) => b,
+    }
+}
+
+// How many tickets ago a ticket was given, by the wrapping difference.
+fn age(next: u32, ticket: u32) -> u32
+    ensures { λ r. ⌜ ((r + ticket) % 4294967296 ≡ next) × (ticket < 4294967296) ⌝ }
+{
+    std::num::wrapping_sub_u32(next, ticket)
+}
+
+// Whether the slot's batch has the ticket that was given k before the next one.
+fn has_age(slot: Slot, next: u32, k: usize) -> bool
+    requires { ⌜ k ≤ 8 ⌝ }
+    ensures { λ r. ⌜ r ≡ stateHas (ticketBefore next k) (slot .state) ⌝ }
+{
+    let state = slot.state;
+    match state {
+        SlotState::Free => false,
+        SlotState::Ready(b) => age(next, b.ticket) == k as u32,
+    }
+}
+
+// How many slots are ready.
+pub fn taken_slots(slots: [Slot; 8]) -> usize
+    ensures { λ r. ⌜ (r ≡ length (ready slots)) × (r ≤ 8) × (length slots ≡ 8) ⌝ }
+{
+    let mut n: usize = 0;
+    let mut i: usize = 0;
+    while i < 8 {
+        n += ready_one(slots[i]);
+        i += 1;
+    }
+    n
+}
+
+// How many ring bytes the ready batches have.
+pub fn taken_bytes(slots: [Slot; 8]) -> usize
+    requires { ⌜ total (ready slots) ≤ 32768 ⌝ }
+    ensures { λ r. ⌜ r ≡ total (ready slots) ⌝ }
+{
+    let mut n: usize = 0;
+    let mut i: usize = 0;
+    while i < 8 {
+        n += bytes_one(slots[i]);
+        i += 1;
+    }
+    n
+}
+
+// How many ready batches are the client's.
+fn count_of(slots: [Slot; 8], client: u32) -> usize
+    ensures { λ r. ⌜ r ≡ countOf client (ready slots) ⌝ }
+{
+    let mut n: usize = 0;
+    let mut i: usize = 0;
+    while i < 8 {
+        n += owned_one(slots[i], client);
+        i += 1;
+    }
+    n
+}
+
+// The lowest free slot, 8 if there is none.
+pub fn lowest_free(slots: [Slot; 8]) -> usize
+    ensures { λ r. ⌜ r ≡ lowestFree slots ⌝ }
+{
+    let mut lowest: usize = 0;
+    while lowest < 8 {
+        if is_free(slots[lowest]) {
+            return lowest;
+        }
+        lowest += 1;
+    }
+    lowest
+}
+
+// The slot of the batch whose ticket was given k before the next one, 8 if there is none.
+pub fn place_of(slots: [Slot; 8], next: u32, k: usize) -> usize
+    requires { ⌜ k ≤ 8 ⌝ }
+    ensures { λ r. ⌜ r ≡ place (ticketBefore next k) slots ⌝ }
+{
+    let mut i: usize = 0;
+    while i < 8 {
+        if has_age(slots[i], next, k) {
+            return i;
+        }
+        i += 1;
+    }
+    i
+}
+
+// An offset that may have run over the ring's end goes on at byte 0.
+pub fn wrap(ring: usize, offset: usize) -> usize
+    ensures { λ r. ⌜ r ≡ wrapped ring offset ⌝ }
+{
+    if offset < ring { offset } else { offset - ring }
+}
+
+// Whether some of the bytes are in a window of the clients at the places `from` up to `n`.
+fn shares_any(clients: [Client; 4], from: usize, n: usize, bytes: Range) -> bool
+    requires { ⌜ n ≤ 4 ⌝ }
+    ensures { λ r. ⌜ r ≡ sharesAny bytes (windowsOf (drop from (take n clients))) ⌝ }
+{
+    let mut i = from;
+    while i < n {
+        let client = clients[i];
+        let other = client.window;
+        if bytes.shares(Range::new(other.start, other.length)) {
+            return true;
+        }
+        i += 1;
+    }
+    false
+}
+
+// Whether a window is bad beside those of the clients at the places `from` up to `n`.
+pub fn bad_window(setup: Setup, clients: [Client; 4], from: usize, n: usize, w: Window) -> bool
+    requires { ⌜ n ≤ 4 ⌝ }
+    ensures { λ r. ⌜ r ≡ badWindow setup (windowsOf (drop from (take n clients))) w ⌝ }
+{
+    let mine = Range::new(w.start, w.length);
+    let memory = Range {
+        start: 0,
+        end: setup.memory,
+    };
+    let common = Range {
+        start: 0,
+        end: setup.common,
+    };
+    let crowded = shares_any(clients, from, n, mine);
+    (w.length == 0) | !mine.is_inside(memory) | mine.shares(common) | crowded
+}
+
+fn none_bad(setup: Setup, clients: [Client; 4], n: usize) -> bool
+    requires { ⌜ n ≤ 4 ⌝ }
+    ensures { λ r. ⌜ r ≡ noneBad setup (windowsOf (take n clients)) ⌝ }
+{
+    let mut k: usize = 0;
+    while k < n {
+        let client = clients[k];
+        let w = client.window;
+        if bad_window(setup, clients, k + 1, n, w) {
+            return false;
+        }
+        k += 1;
+    }
+    true
+}
+
+// Whether each open client's count is that of its ready batches.
+fn counts_right(clients: [Client; 4], n: usize, slots: [Slot; 8]) -> bool
+    requires { ⌜ n ≤ 4 ⌝ }
+    ensures { λ r. ⌜ r ≡ countsRight 0 (take n clients) (ready slots) ⌝ }
+{
+    let mut k: usize = 0;
+    while k < n {
+        let client = clients[k];
+        if !(client.pending as usize == count_of(slots, k as u32)) {
+            return false;
+        }
+        k += 1;
+    }
+    true
+}
+
+// Whether a client is open.
+pub fn is_open(engine: Record, client: u32) -> bool
+    ensures { λ r. ⌜ r ≡ isOpen engine client ⌝ }
+{
+    (client as usize) < engine.opened
+}
+
+// Whether a batch keeps its rules at `offset`, in the room that is left; `owned` tells whether its client is open.
+fn fits_in(ring: usize, offset: usize, room: usize, owned: bool, b: Batch) -> bool
+    ensures { λ r. ⌜ r ≡ (eqb (b .offset) offset && not (badLength ring (b .length)) && leb (b .length) room && owned) ⌝ }
+{
+    let at = b.offset;
+    let size = b.length;
+    (at == offset) & !bad_length(ring, size) & (size <= room) & owned
+}
+
+// Whether the ready batches, from the oldest on, lie end to end from the read offset and keep their other rules.
+fn line_up(engine: Record) -> bool
+    requires { ⌜ (engine .setup .ring ≤ 32768) × (engine .read < engine .setup .ring) ⌝ }
+    ensures { λ r. ⌜ r ≡ batchRules engine ⌝ }
+{
+    let slots = engine.slots;
+    let next = engine.next;
+    let setup = engine.setup;
+    let ring = setup.ring;
+    let mut k = taken_slots(slots);
+    let mut offset = engine.read;
+    let mut room = ring;
+    while 0 < k {
+        let i = place_of(slots, next, k);
+        if 8 <= i {
+            return false;
+        }
+        let b = batch_of(slots[i]);
+        let owned = is_open(engine, b.client);
+        if !fits_in(ring, offset, room, owned, b) {
+            return false;
+        }
+        let size = b.length;
+        offset = wrap(ring, offset + size);
+        room -= size;
+        k -= 1;
+    }
+    true
+}
+
+fn numbers_right(engine: Record) -> bool
+    ensures { λ r. ⌜ r ≡ numberRules engine ⌝ }
+{
+    let setup = engine.setup;
+    let ring = setup.ring;
+    let read = engine.read;
+    !bad_ring(setup) & !bad_memory(setup) & (engine.opened <= 4) & ((read % 4 == 0) & (read < ring))
+}
+
+// Whether the record keeps every rule.
+pub fn is_valid(engine: Record) -> bool
+    ensures { λ r. ⌜ r ≡ valid engine ⌝ }
+{
+    if !numbers_right(engine) {
+        return false;
+    }
+    let setup = engine.setup;
+    let clients = engine.clients;
+    let opened = engine.opened;
+    let slots = engine.slots;
+    let windows = none_bad(setup, clients, opened);
+    let batches = line_up(engine);
+    let counts = counts_right(clients, opened, slots);
+    windows & batches & counts
+}
