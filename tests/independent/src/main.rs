@@ -3,6 +3,9 @@
 //!
 //! independent NAME DIR    writes DIR/stdin and DIR/stdout for the program crate NAME
 //! independent all DIR     does so for each program crate, in DIR/NAME
+mod batch;
+mod batch_cases;
+mod batch_questions;
 mod leaf_cases;
 mod pixel;
 mod pixel_cases;
@@ -11,6 +14,7 @@ mod queue;
 mod queue_cases;
 mod queue_questions;
 mod random;
+mod registers;
 mod ring;
 mod stream;
 mod surface;
@@ -22,10 +26,11 @@ use std::process::ExitCode;
 use stream::Stream;
 
 /// The program crates, and what makes the cases of each.
-const CRATES: [(&str, fn() -> Stream); 3] = [
+const CRATES: [(&str, fn() -> Stream); 4] = [
     ("leaf_cases", leaf_cases::cases),
     ("pixel_cases", pixel_cases::cases),
     ("queue_cases", queue_cases::cases),
+    ("batch_cases", batch_cases::cases),
 ];
 
 fn write(stream: &Stream, dir: &Path) -> std::io::Result<()> {

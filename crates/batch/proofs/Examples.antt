@@ -1,0 +1,87 @@
+-- The examples of 01 that are batches: the worked words, T1, and a fault at each place in a group. Client 0 of the replay program
+-- has the window 16,384 to 28,671, after as much common.
+use Prim.Native.Nat.{ℕ}
+use mathlib.Core.Path.{_≡_, refl}
+use mathlib.Core.List.{List, [], _∷_, _++_}
+use lib.ListN.{length}
+use Rattle.word.specs.Field.{field}
+use Rattle.surface.specs.Surface.{span}
+use Rattle.register.specs.Table.{kindOf}
+use Rattle.register.specs.Bank.{resetBank, storedSurface, stored, written}
+use Rattle.register.specs.Task.{surfaceOf, transformOf, alphaOf, sourceOf, destinationOf, blendingOf, taskOf}
+use Rattle.rules.specs.declared.fault.Fault.the-variants.{ReservedBits, GroupLength, OpenTask, NotWritable, Forbidden, OutOfBounds}
+use Rattle.rules.specs.declared.task.Bounds.{Bounds}
+use Rattle.rules.specs.Rules.{badSides, badStride, badSource, badOutput, badDestination, badSurface, sizeMismatch, outOfBounds, samePlace, overlap, taskFault}
+use Rattle.batch.specs.declared.verdict.Verdict.{Verdict}
+use Rattle.batch.specs.declared.verdict.Verdict.the-variants.{Faultless, Faulty}
+use Rattle.batch.specs.Batch.{readFrom, readBatch, verdictOf, statusOf}
+
+-- the replay program's bounds for client 0
+abbrev pub bounds : Bounds
+bounds = record { window = record { start = 16384; end = 28672 }; common = 16384 }
+
+-- the twenty words, with an output address
+abbrev pub words : ℕ → List ℕ
+words address =
+    0x00100014 ∷ 0x00000005 ∷ 0x00010002 ∷ 0x00000000 ∷ 0x80FF0000 ∷ 0x00000000
+    ∷ 0x0050000C ∷ 0x00000000 ∷ 0x00000000 ∷ 0x00000000
+    ∷ 0x00600004 ∷ 0x00000000
+    ∷ 0x00900004 ∷ 0x00001300
+    ∷ 0x0100000C ∷ 0x00000000 ∷ 0x00010002 ∷ 0x00000008
+    ∷ 0x01100005 ∷ address ∷ []
+
+abbrev pub verdict : List ℕ → Verdict
+verdict ws = verdictOf (readBatch bounds resetBank ws)
+
+-- the headers H1 and H2
+pub H1 : (field 31 16 0x0010000C ≡ 16) × (field 15 2 0x0010000C ≡ 3) × (field 0 0 0x0010000C ≡ 0)
+H1 = (refl, refl, refl)
+
+pub H2 : (field 31 16 0x00300011 ≡ 48) × (field 15 2 0x00300011 ≡ 4) × (field 0 0 0x00300011 ≡ 1)
+H2 = (refl, refl, refl)
+
+-- the worked words are one task, and with address 64 the fault is 27 at 72
+pub one : verdict (words 0x4000) ≡ Faultless 1
+unfolding readFrom written kindOf stored storedSurface taskOf sourceOf destinationOf blendingOf surfaceOf transformOf alphaOf taskFault badSurface badSource badOutput badDestination badSides badStride sizeMismatch outOfBounds samePlace overlap span
+one = refl
+
+pub outside : verdict (words 64) ≡ Faulty OutOfBounds 72
+unfolding readFrom written kindOf stored storedSurface taskOf sourceOf destinationOf blendingOf surfaceOf transformOf alphaOf taskFault badSurface badSource badOutput badDestination badSides badStride sizeMismatch outOfBounds samePlace overlap span
+outside = refl
+
+-- T1
+pub T1 : statusOf (verdict (words 0x4000 ++ words 0x4000 ++ words 0x4000)) ≡ 0x00030001
+unfolding readFrom written kindOf stored storedSurface taskOf sourceOf destinationOf blendingOf surfaceOf transformOf alphaOf taskFault badSurface badSource badOutput badDestination badSides badStride sizeMismatch outOfBounds samePlace overlap span
+T1 = refl
+
+-- the registers are kept from task to task: a second task writes its address alone
+pub kept : verdict (words 0x4000 ++ 0x01100005 ∷ 0x5000 ∷ []) ≡ Faultless 2
+unfolding readFrom written kindOf stored storedSurface taskOf sourceOf destinationOf blendingOf surfaceOf transformOf alphaOf taskFault badSurface badSource badOutput badDestination badSides badStride sizeMismatch outOfBounds samePlace overlap span
+kept = refl
+
+-- a task before a fault is listed
+pub before : length (readBatch bounds resetBank (words 0x4000 ++ words 64) .tasks) ≡ 1
+unfolding readFrom written kindOf stored storedSurface taskOf sourceOf destinationOf blendingOf surfaceOf transformOf alphaOf taskFault badSurface badSource badOutput badDestination badSides badStride sizeMismatch outOfBounds samePlace overlap span
+before = refl
+
+-- a header that is no header, one whose words are missing, one that leaves its task open
+pub reserved : verdict (words 0x4000 ++ 0x00110004 ∷ 0 ∷ []) ≡ Faulty ReservedBits 80
+unfolding readFrom written kindOf stored storedSurface taskOf sourceOf destinationOf blendingOf surfaceOf transformOf alphaOf taskFault badSurface badSource badOutput badDestination badSides badStride sizeMismatch outOfBounds samePlace overlap span
+reserved = refl
+
+pub cut : verdict (words 0x4000 ++ 0x00100014 ∷ []) ≡ Faulty GroupLength 80
+unfolding readFrom written kindOf stored storedSurface taskOf sourceOf destinationOf blendingOf surfaceOf transformOf alphaOf taskFault badSurface badSource badOutput badDestination badSides badStride sizeMismatch outOfBounds samePlace overlap span
+cut = refl
+
+pub open-end : verdict (words 0x4000 ++ 0x00100004 ∷ 0 ∷ []) ≡ Faulty OpenTask 80
+unfolding readFrom written kindOf stored storedSurface taskOf sourceOf destinationOf blendingOf surfaceOf transformOf alphaOf taskFault badSurface badSource badOutput badDestination badSides badStride sizeMismatch outOfBounds samePlace overlap span
+open-end = refl
+
+-- the second word of a group goes to 0x024, which is not writable; the first has a bit that is not allowed
+pub unwritable : verdict (0x00200009 ∷ 0 ∷ 0 ∷ []) ≡ Faulty NotWritable 8
+unfolding readFrom written kindOf stored storedSurface taskOf sourceOf destinationOf blendingOf surfaceOf transformOf alphaOf taskFault badSurface badSource badOutput badDestination badSides badStride sizeMismatch outOfBounds samePlace overlap span
+unwritable = refl
+
+pub forbidden : verdict (0x00140005 ∷ 0x80000000 ∷ []) ≡ Faulty Forbidden 4
+unfolding readFrom written kindOf stored storedSurface taskOf sourceOf destinationOf blendingOf surfaceOf transformOf alphaOf taskFault badSurface badSource badOutput badDestination badSides badStride sizeMismatch outOfBounds samePlace overlap span
+forbidden = refl

@@ -1,0 +1,9 @@
+-- Laws that this crate's proofs and those of the crates above cite.
+-- the reading from a word on, by each way that the walk can go
+pub mod Ways
+-- a step of the walk, and the verdict
+pub mod Steps
+-- the tasks of a reading: each is sound, their number
+pub mod Tasks
+-- the examples of 01
+pub mod Examples

@@ -1,0 +1,284 @@
+use borrow.Author.Needs.{needs}
+use borrow.Author.Tests.{ltb-false, eq-eqb, ne-eqb}
+use Prim.Native.Nat.{ℕ, _+_, _-_, _*_, _<_, _≤_}
+use mathlib.Core.Path.{_≡_, refl, sym, ap, _∙_}
+use mathlib.Core.Bool.{true, false}
+use mathlib.Core.List.{List}
+use native.Mathlib.Omega.{arith}
+use lib.ListN.{drop}
+use lib.Dec.{eqb, ltb}
+use Rattle.word.specs.Field.{field}
+use Rattle.word.proofs.Tests.{or-false}
+use Rattle.ring.specs.Segment.{batchWords}
+use Rattle.register.specs.Task.{taskOf}
+use Rattle.rules.specs.declared.fault.Fault.{Fault}
+use Rattle.rules.specs.Rules.{taskFault}
+use Rattle.batch.specs.Batch.{faulty, done, inside, reservedBits, groupOf, readFrom}
+use Rattle.batch.specs.Walk.{rest, follows}
+use Rattle.batch.proofs.Ways.{words-fit, next-group, open-task, ended, reserved, bad-length, open-group, refused, taken}
+use Rattle.batch.proofs.Steps.{judged-step, judged-onward}
+use Rattle.batch.proofs.walk.step_from.Statement.{statement}
+use Rattle.batch.proofs.walk.step_from.Tie as tie
+
+abbrev Inv-loop : tie.InvT-loop
+Inv-loop ring offset size bounds k n at₀ held₀ head h left₀ register₀ at held left register =
+    let ws = batchWords ring offset size in
+    (at₀ ≤ at)
+    × (at + left ≤ n)
+    × (register + 4 * left ≤ 131072)
+    × (readFrom bounds held₀ at₀ (inside left₀ register₀ (eqb (field 0 0 h) 1) head) (drop at₀ ws)
+    ≡ readFrom bounds held at (inside left register (eqb (field 0 0 h) 1) head) (drop at ws))
+
+abbrev μ-loop : tie.MeasureT-loop
+μ-loop ring offset size bounds k n at₀ held₀ head h left₀ register₀ at held left register = left
+
+abbrev Inv-groups : tie.InvT-groups
+Inv-groups ring offset size bounds k n at₀ held₀ at held =
+    let ws = batchWords ring offset size in
+    (at₀ ≤ at) × (at < n) × (rest bounds ws held₀ at₀ ≡ rest bounds ws held at)
+
+abbrev μ-groups : tie.MeasureT-groups
+μ-groups ring offset size bounds k n at₀ held₀ at held = n - at
+
+-- the words of the batch
+abbrev Ws : tie.Start Inv-loop μ-loop Inv-groups μ-groups → List ℕ
+Ws c = batchWords (c .args .ring .now) (c .args .offset) (c .args .size)
+
+-- their number, in bytes too, fits
+small : (c : tie.After-word-count Inv-loop μ-loop Inv-groups μ-groups) → 4 * c .word-count .result ≤ 18446744073709551615
+small c =
+    let s = c .before .before in
+    omega (arith, c .word-count .ensures, words-fit (s .args .ring .now) (s .args .offset) (s .args .size), s .fits .size)
+
+-- the header at `at` opens a group
+group : (c : tie.Else2 Inv-loop μ-loop Inv-groups μ-groups) → let s = c .before .before .before .before .before .before .before in let g = c .before .before .before .before .groups in
+    rest (s .args .bounds) (Ws s) (s .args .bank) (s .args .k)
+    ≡ readFrom (s .args .bounds) (g .held) (g .at + 1) (groupOf (g .at) (c .before .before .before .word-at .result)) (drop (g .at + 1) (Ws s))
+group c =
+    let s = c .before .before .before .before .before .before .before in
+    let g = c .before .before .before .before .groups in
+    let w = c .before .before .before .word-at in
+    let n = c .before .before .before .before .before .word-count .ensures in
+    let ok : reservedBits (w .result) ≡ false = sym (c .before .before .reserved-bits .ensures) ∙ c .before .if1 .left in
+    g .inv .2 ∙ open-group (s .args .bounds) (Ws s) (g .held) (g .at) (w .result) (omega (arith, n, g .inv .1)) (w .ensures) ok (rw (← n) (c .if2 .left))
+
+-- the reading from the start is the reading from here, at the inner loop's head
+here : (c : tie.At-loop Inv-loop μ-loop Inv-groups μ-groups) → let s = c .before .before .before .before .before .before .before .before in let l = c .loop in let h = c .before .before .before .before .word-at .result in
+    rest (s .args .bounds) (Ws s) (s .args .bank) (s .args .k)
+    ≡ readFrom (s .args .bounds) (l .held) (l .at) (inside (l .left) (l .register) (eqb (field 0 0 h) 1) (c .before .before .before .before .before .groups .at)) (drop (l .at) (Ws s))
+here c = group (c .before) ∙ c .loop .inv .3
+
+word-count-requires : tie.Need-word-count-requires Inv-loop μ-loop Inv-groups μ-groups
+word-count-requires c κs = search needs
+
+groups-holds : tie.Need-groups-holds Inv-loop μ-loop Inv-groups μ-groups
+groups-holds c = (omega arith, omega (arith, c .word-count .ensures), refl)
+
+word-at-requires : tie.Need-word-at-requires Inv-loop μ-loop Inv-groups μ-groups
+word-at-requires c κs = search needs
+
+reserved-bits-requires : tie.Need-reserved-bits-requires Inv-loop μ-loop Inv-groups μ-groups
+reserved-bits-requires c κs = search needs
+
+mul-t19 : tie.Need-mul-t19 Inv-loop μ-loop Inv-groups μ-groups
+mul-t19 c = omega (arith, small (c .before .before .before .before), c .before .before .before .groups .inv .1)
+
+add-at : tie.Need-add-at Inv-loop μ-loop Inv-groups μ-groups
+add-at c = omega (arith, small (c .before .before .before .before), c .before .before .before .groups .inv .1)
+
+cast-left : tie.Need-cast-left Inv-loop μ-loop Inv-groups μ-groups
+cast-left c = search needs
+
+sub-if2 : tie.Need-sub-if2 Inv-loop μ-loop Inv-groups μ-groups
+sub-if2 c = omega (arith, c .before .before .before .groups .inv .1)
+
+mul-t27 : tie.Need-mul-t27 Inv-loop μ-loop Inv-groups μ-groups
+mul-t27 c = omega (arith, small (c .before .before .before .before .before), c .before .before .before .before .groups .inv .1)
+
+loop-holds : tie.Need-loop-holds Inv-loop μ-loop Inv-groups μ-groups
+loop-holds c =
+    let h = c .before .before .before .word-at .result in
+    let m = c .before .before .before .before .before .word-count .result - (c .before .before .before .before .groups .at + 1) in
+    let two = or-false (eqb (field 15 2 h) 0) (ltb m (field 15 2 h)) (c .if2 .left) in
+    (omega arith, omega (arith, c .before .before .before .before .groups .inv .1, ltb-false m (field 15 2 h) (two .1)), omega arith, refl)
+
+word-at-requires-2 : tie.Need-word-at-requires-2 Inv-loop μ-loop Inv-groups μ-groups
+word-at-requires-2 c κs = search needs
+
+write-requires : tie.Need-write-requires Inv-loop μ-loop Inv-groups μ-groups
+write-requires c κs = search needs
+
+enum-known-b : tie.Need-enum-known-b Inv-loop μ-loop Inv-groups μ-groups
+enum-known-b c = search needs
+
+enum-known-f : tie.Need-enum-known-f Inv-loop μ-loop Inv-groups μ-groups
+enum-known-f c = search needs
+
+of-write-requires : tie.Need-of-write-requires Inv-loop μ-loop Inv-groups μ-groups
+of-write-requires c κs = search needs
+
+mul-t32 : tie.Need-mul-t32 Inv-loop μ-loop Inv-groups μ-groups
+mul-t32 c = omega (arith, small (c .before .before .before .before .before .before .before .before .before .before .before .before .before), c .before .before .before .before .before .before .before .loop .inv .1)
+
+add-at-2 : tie.Need-add-at-2 Inv-loop μ-loop Inv-groups μ-groups
+add-at-2 c = omega (arith, small (c .before .before .before .before .before .before .before .before .before .before .before .before), c .before .before .before .before .before .before .loop .inv .1)
+
+add-register : tie.Need-add-register Inv-loop μ-loop Inv-groups μ-groups
+add-register c = omega (arith, c .before .before .before .before .before .before .loop .inv .2)
+
+sub-left : tie.Need-sub-left Inv-loop μ-loop Inv-groups μ-groups
+sub-left c = omega (arith, c .before .before .before .before .before .loop-test .taken)
+
+loop-less : tie.Need-loop-less Inv-loop μ-loop Inv-groups μ-groups
+loop-less c = omega (arith, c .before .before .before .before .before .loop-test .taken)
+
+loop-again : tie.Need-loop-again Inv-loop μ-loop Inv-groups μ-groups
+loop-again c =
+    let s = c .before .before .before .before .before .before .before .before .before .before .before .before .before .before in
+    let l = c .before .before .before .before .before .before .loop in
+    let w = c .before .before .before .before .word-at2 in
+    let n = c .before .before .before .before .before .before .before .before .before .before .before .before .word-count .ensures in
+    let e = sym (c .before .before .before .write .ensures) ∙ c .before .b .given .1 in (
+      omega (arith, l .inv .0),
+      omega (arith, l .inv .1),
+      omega (arith, l .inv .2),
+      l .inv .3
+          ∙ taken (s .args .bounds) (Ws s) (l .held) (l .at) (w .result) (omega (arith, n, l .inv .1)) (w .ensures) (l .left) (l .register) _ _ _ (c .before .before .before .before .before .loop-test .taken) e,
+    )
+
+mul-finish : tie.Need-mul-finish Inv-loop μ-loop Inv-groups μ-groups
+mul-finish c = omega (arith, small (c .before .before .before .before .before .before .before .before), c .before .before .before .before .before .before .before .groups .inv .1)
+
+finish-requires : tie.Need-finish-requires Inv-loop μ-loop Inv-groups μ-groups
+finish-requires c κs = search needs
+
+mul-t35 : tie.Need-mul-t35 Inv-loop μ-loop Inv-groups μ-groups
+mul-t35 c = omega (arith, small (c .before .before .before .before .before .before .before .before .before), c .before .before .before .before .before .before .before .before .groups .inv .1)
+
+groups-less : tie.Need-groups-less Inv-loop μ-loop Inv-groups μ-groups
+groups-less c = omega (arith, c .before .before .before .loop .inv .0, c .if4 .left)
+
+groups-again : tie.Need-groups-again Inv-loop μ-loop Inv-groups μ-groups
+groups-again c =
+    let s = c .before .before .before .before .before .before .before .before .before .before .before in
+    let l = c .before .before .before .loop in
+    let n = c .before .before .before .before .before .before .before .before .before .word-count .ensures in
+    let z : l .left ≡ 0 = omega (arith, c .before .before .loop-test .left) in
+    let h = c .before .before .before .before .before .before .before .word-at .result in
+    let e : eqb (field 0 0 h) 1 ≡ false = ne-eqb (field 0 0 h) 1 (omega (arith, c .before .if3 .left)) in (
+      omega (arith, l .inv .0, c .before .before .before .before .before .before .before .before .groups .inv .0),
+      omega (arith, c .if4 .left),
+      (rw (z, e) at (here (c .before .before .before))) ∙ next-group (s .args .bounds) (Ws s) (l .held) (l .at) _ _ (omega (arith, n, c .if4 .left)),
+    )
+
+returns : tie.Need-returns Inv-loop μ-loop Inv-groups μ-groups
+returns c =
+    let s = c .before .before .before .before .before .before in
+    let g = c .before .before .before .groups in
+    let w = c .before .before .word-at in
+    let n = c .before .before .before .before .word-count .ensures in
+    record {
+      means = g .inv .2 ∙ reserved (s .args .bounds) (Ws s) (g .held) (g .at) (w .result) (omega (arith, n, g .inv .1)) (w .ensures) (sym (c .before .reserved-bits .ensures) ∙ c .if1 .taken);
+      onward = tt;
+    }
+
+returns-2 : tie.Need-returns-2 Inv-loop μ-loop Inv-groups μ-groups
+returns-2 c =
+    let s = c .before .before .before .before .before .before .before in
+    let g = c .before .before .before .before .groups in
+    let w = c .before .before .before .word-at in
+    let n = c .before .before .before .before .before .word-count .ensures in
+    let ok : reservedBits (w .result) ≡ false = sym (c .before .before .reserved-bits .ensures) ∙ c .before .if1 .left in
+    record {
+      means = g .inv .2 ∙ bad-length (s .args .bounds) (Ws s) (g .held) (g .at) (w .result) (omega (arith, n, g .inv .1)) (w .ensures) ok (rw (← n) (c .if2 .taken));
+      onward = tt;
+    }
+
+returns-3 : tie.Need-returns-3 Inv-loop μ-loop Inv-groups μ-groups
+returns-3 c =
+    let s = c .before .before .before .before .before .before .before .before .before .before .before .before .before .before .before in
+    let l = c .before .before .before .before .before .before .before .loop in
+    let w = c .before .before .before .before .before .word-at2 in
+    let n = c .before .before .before .before .before .before .before .before .before .before .before .before .before .word-count .ensures in
+    let e = sym (c .before .before .before .before .write .ensures) ∙ c .before .before .f .given .1 in
+    record {
+      means =
+          here (c .before .before .before .before .before .before .before)
+          ∙ refused (s .args .bounds) (Ws s) (l .held) (l .at) (w .result) (omega (arith, n, l .inv .1)) (w .ensures) (l .left) (l .register) _ _ _ (c .before .before .before .before .before .before .loop-test .taken) e
+          ∙ ap (λ (f : Fault). done (faulty f (4 * l .at) (l .held))) (sym (c .of-write .ensures));
+      onward = tt;
+    }
+
+returns-4 : tie.Need-returns-4 Inv-loop μ-loop Inv-groups μ-groups
+returns-4 c =
+    let s = c .before .before .before .before .before .before .before .before .before .before .before in
+    let g = c .before .before .before .before .before .before .before .before .groups in
+    let l = c .before .before .before .loop in
+    let n = c .before .before .before .before .before .before .before .before .before .word-count .ensures in
+    let z : l .left ≡ 0 = omega (arith, c .before .before .loop-test .left) in
+    let h = c .before .before .before .before .before .before .before .word-at .result in
+    let e : eqb (field 0 0 h) 1 ≡ true = eq-eqb (field 0 0 h) 1 (omega (arith, c .before .if3 .taken)) in
+    let check = taskFault (s .args .bounds) (taskOf (l .held)) in
+    record {
+      means =
+          (rw (z, e) at (here (c .before .before .before)))
+          ∙ ended (s .args .bounds) (Ws s) (l .held) (l .at) _ _
+          ∙ judged-step (s .args .bounds) (Ws s) check (l .held) (l .at) (g .at)
+          ∙ ap (follows (s .args .bounds) (Ws s)) (sym (c .finish .ensures));
+      onward =
+          rw (c .finish .ensures)
+          (judged-onward (Ws s) check (l .held) (s .args .k) (l .at) (4 * g .at) (omega (arith, g .inv .0, l .inv .0)) (omega (arith, n, l .inv .1)));
+    }
+
+returns-5 : tie.Need-returns-5 Inv-loop μ-loop Inv-groups μ-groups
+returns-5 c =
+    let s = c .before .before .before .before .before .before .before .before .before .before .before in
+    let l = c .before .before .before .loop in
+    let n = c .before .before .before .before .before .before .before .before .before .word-count .ensures in
+    let z : l .left ≡ 0 = omega (arith, c .before .before .loop-test .left) in
+    let h = c .before .before .before .before .before .before .before .word-at .result in
+    let e : eqb (field 0 0 h) 1 ≡ false = ne-eqb (field 0 0 h) 1 (omega (arith, c .before .if3 .left)) in
+    record {
+      means = (rw (z, e) at (here (c .before .before .before))) ∙ open-task (s .args .bounds) (Ws s) (l .held) (l .at) _ _ (omega (arith, n, c .if4 .taken));
+      onward = tt;
+    }
+
+pub step-from-spec : {M : Type 1} → statement M
+step-from-spec =
+    tie.close
+    (tie.spec
+    Inv-loop
+    μ-loop
+    Inv-groups
+    μ-groups
+    word-count-requires
+    groups-holds
+    word-at-requires
+    reserved-bits-requires
+    mul-t19
+    add-at
+    cast-left
+    sub-if2
+    mul-t27
+    loop-holds
+    word-at-requires-2
+    write-requires
+    enum-known-b
+    enum-known-f
+    of-write-requires
+    mul-t32
+    add-at-2
+    add-register
+    sub-left
+    loop-less
+    loop-again
+    mul-finish
+    finish-requires
+    mul-t35
+    groups-less
+    groups-again
+    returns
+    returns-2
+    returns-3
+    returns-4
+    returns-5)

@@ -1,0 +1,8 @@
+// Batches: groups of register words, read a task at a time and judged.
+pub mod verdict;
+pub mod walk;
+
+pub use verdict::Verdict;
+pub use verdict::judge;
+pub use walk::Step;
+pub use walk::next_task;

@@ -1,0 +1,73 @@
+// A whole batch judged.
+ghost use mathlib.Core.Path.{_≡_};
+ghost use Prim.Native.Nat.{_≤_};
+ghost use Rattle.ring.specs.Segment.{batchWords};
+ghost use Rattle.batch.specs.Batch.{readBatch, verdictOf, statusOf, numberOf, offsetOf};
+use crate::walk;
+use crate::walk::Step;
+use register::Bank;
+use rules::Bounds;
+use rules::Fault;
+
+// How many tasks a batch has, or its first fault and the offset of it.
+pub enum Verdict {
+    Faultless(usize),
+    Faulty(Fault, usize),
+}
+
+impl Verdict {
+    // The status word, which must fit: 65,535 tasks do, and no ring of the engine holds more than 4,096.
+    pub fn status(self) -> u32
+        requires { ⌜ statusOf self ≤ 4294967295 ⌝ }
+        ensures { λ r. ⌜ r ≡ statusOf self ⌝ }
+    {
+        match self {
+            Verdict::Faultless(tasks) => (tasks as u32) * 65536 + 1,
+            Verdict::Faulty(fault, _) => fault.status(),
+        }
+    }
+
+    // The fault's number, 0 without a fault.
+    pub fn number(self) -> u32
+        ensures { λ r. ⌜ r ≡ numberOf self ⌝ }
+    {
+        match self {
+            Verdict::Faultless(_) => 0,
+            Verdict::Faulty(fault, _) => fault.number(),
+        }
+    }
+
+    // The fault's offset, 0 without a fault.
+    pub fn offset(self) -> usize
+        ensures { λ r. ⌜ r ≡ offsetOf self ⌝ }
+    {
+        match self {
+            Verdict::Faultless(_) => 0,
+            Verdict::Faulty(_, offset) => offset,
+        }
+    }
+}
+
+// Judges the batch of `size` bytes at an offset of the ring, read from a bank on. What does not lie in the ring has no words.
+pub fn judge(ring: &[u8], offset: usize, size: usize, bounds: Bounds, bank: Bank) -> Verdict
+    ensures { λ r. ⌜ r ≡ verdictOf (readBatch bounds bank (batchWords (now (ring .entry)) offset size)) ⌝ }
+{
+    let mut current = bank;
+    let mut at = 0;
+    let mut count: usize = 0;
+    loop {
+        match walk::next_task(ring, offset, size, bounds, current, at) {
+            Step::Task(_, b, next) => {
+                current = b;
+                at = next;
+                count = count + 1;
+            }
+            Step::Faulty(fault, place, _) => {
+                return Verdict::Faulty(fault, place);
+            }
+            Step::End => {
+                return Verdict::Faultless(count);
+            }
+        }
+    }
+}

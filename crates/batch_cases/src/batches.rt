@@ -1,0 +1,160 @@
+// Cases of whole batches. A payload begins with the starting bank, the window's start and length, and the common length.
+use crate::registers;
+use batch::Step;
+use batch::Verdict;
+use cases::line;
+use cases::payload;
+use range::Range;
+use register::Bank;
+use rules::Bounds;
+
+fn bounds(given: &[u8]) -> Bounds {
+    Bounds {
+        window: Range::new(
+            payload::word_or_zero(given, 56),
+            payload::word_or_zero(given, 60),
+        ),
+        common: payload::long_or_zero(given, 64) as usize,
+    }
+}
+
+// Status, fault and place of the batch at an offset of a ring.
+pub fn judged(given: &[u8], line: &mut [u8]) -> usize {
+    let offset = payload::long_or_zero(given, 72) as usize;
+    let size = payload::long_or_zero(given, 80) as usize;
+    let ring = payload::rest(given, 88);
+    hex_verdict(
+        line,
+        batch::judge(ring, offset, size, bounds(given), registers::bank(given)),
+    )
+}
+
+fn hex_verdict(line: &mut [u8], verdict: Verdict) -> usize {
+    match verdict {
+        Verdict::Faultless(tasks) => hex_three(line, status(tasks), 0, 0),
+        Verdict::Faulty(fault, place) => hex_three(
+            line,
+            fault.status(),
+            fault.number(),
+            place as u64,
+        ),
+    }
+}
+
+// The status of so many tasks. No payload holds as many as 65,536.
+fn status(tasks: usize) -> u32 {
+    if tasks < 65536 {
+        Verdict::Faultless(tasks).status()
+    } else {
+        0
+    }
+}
+
+fn hex_three(line: &mut [u8], status: u32, number: u32, place: u64) -> usize {
+    let a = line::hex_word(line, 0, status);
+    let b = line::hex_word(line, a, number);
+    line::hex_word(line, b, (place % 4294967296) as u32)
+}
+
+// The same of a batch that repeats some bytes, in a ring of 32,768.
+pub fn judged_many(given: &[u8], line: &mut [u8]) -> usize {
+    let mut ring = [0u8; 32768];
+    let size = repeat(
+        &mut ring,
+        payload::rest(given, 76),
+        payload::word_or_zero(given, 72),
+    );
+    hex_verdict(
+        line,
+        batch::judge(&ring, 0, size, bounds(given), registers::bank(given)),
+    )
+}
+
+// Puts some bytes into the ring as often as asked, and answers how many bytes that makes: what does not fit is left out.
+fn repeat(ring: &mut [u8], bytes: &[u8], times: u32) -> usize {
+    let mut at = 0;
+    let mut left = times;
+    while left > 0 {
+        at = append(ring, at, bytes);
+        left -= 1;
+    }
+    at
+}
+
+fn append(ring: &mut [u8], at: usize, bytes: &[u8]) -> usize {
+    let mut i = 0;
+    let mut n = at;
+    while i < bytes.len() {
+        n = line::push(ring, n, bytes[i]);
+        i += 1;
+    }
+    n
+}
+
+// What the walk has found so far.
+struct Found {
+    more: bool,
+    bank: Bank,
+    next: usize,
+    count: u32,
+    digest: u32,
+}
+
+// How many tasks come before the end or a fault, and all their banks as one number.
+pub fn tasks(given: &[u8], line: &mut [u8]) -> usize {
+    let offset = payload::long_or_zero(given, 72) as usize;
+    let size = payload::long_or_zero(given, 80) as usize;
+    let found = walk(
+        payload::rest(given, 88),
+        offset,
+        size,
+        bounds(given),
+        registers::bank(given),
+    );
+    let n = line::hex_word(line, 0, found.count);
+    line::hex_word(line, n, found.digest)
+}
+
+fn walk(ring: &[u8], offset: usize, size: usize, bounds: Bounds, bank: Bank) -> Found {
+    let mut found = Found {
+        more: true,
+        bank,
+        next: 0,
+        count: 0,
+        digest: 0,
+    };
+    let mut turns: usize = 4096;
+    while turns > 0 {
+        found = step(ring, offset, size, bounds, found);
+        turns -= 1;
+    }
+    found
+}
+
+fn step(ring: &[u8], offset: usize, size: usize, bounds: Bounds, found: Found) -> Found {
+    if !found.more {
+        return found;
+    }
+    let bank = found.bank;
+    match batch::next_task(ring, offset, size, bounds, bank, found.next) {
+        Step::Task(_, after, next) => Found {
+            more: true,
+            bank: after,
+            next,
+            count: std::num::wrapping_add_u32(found.count, 1),
+            digest: registers::mix_bank(found.digest, after),
+        },
+        Step::Faulty(_, _, after) => ended(found, after),
+        Step::End => ended(found, bank),
+    }
+}
+
+fn ended(found: Found, bank: Bank) -> Found {
+    Found {
+        more: false,
+        bank,
+        next: found.next,
+        count: found.count,
+        digest: found.digest,
+    }
+}

@@ -1,0 +1,51 @@
+// Runs a stream of cases on the crates register and batch.
+mod batches;
+mod registers;
+
+use cases::line;
+
+// The text of a case's line: its length. Op 0 is text.
+fn answer(op: u8, given: &[u8], line: &mut [u8]) -> usize {
+    match op {
+        0 => line::copy(line, given),
+        0x80 => registers::header(given, line),
+        0x81 => registers::write(given, line),
+        0x82 => registers::task(given, line),
+        0x83 => batches::judged(given, line),
+        0x84 => batches::judged_many(given, line),
+        0x85 => batches::tasks(given, line),
+        _ => line::refused(line),
+    }
+}
+
+fn run_case(op: u8, size: usize, buffer: &mut [u8], line: &mut [u8]) {
+    if size <= buffer.len() {
+        let n = answer(op, &buffer[0..size], line);
+        cases::print(line, n);
+    }
+}
+
+// Runs the next case. Answers false if there is none.
+fn run_next(buffer: &mut [u8], line: &mut [u8]) -> bool {
+    let c = cases::next(buffer);
+    if c.more {
+        run_case(c.op, c.size, buffer, line);
+    }
+    c.more
+}
+
+// Nothing says that the input ends, so that the turns are counted.
+fn run_all(buffer: &mut [u8], line: &mut [u8]) {
+    let mut more = true;
+    let mut turns = u64::MAX;
+    while turns > 0 && more {
+        more = run_next(buffer, line);
+        turns -= 1;
+    }
+}
+
+fn main() {
+    let mut buffer = io::buffer();
+    let mut line = io::large_buffer();
+    run_all(&mut buffer, &mut line);
+}

@@ -1,0 +1,34 @@
+use Rattle.register.specs.Bank.{stored}
+use borrow.Author.Needs.{needs}
+use Rattle.register.proofs.bank.Bank.store.Statement.{statement}
+use Rattle.register.proofs.bank.Bank.store.Tie as tie
+
+store-requires : tie.Need-store-requires
+store-requires c κs = search needs
+
+store-requires-2 : tie.Need-store-requires-2
+store-requires-2 c κs = search needs
+
+store-requires-3 : tie.Need-store-requires-3
+store-requires-3 c κs = search needs
+
+hold-requires : tie.Need-hold-requires
+hold-requires c κs = search needs
+
+hold-requires-2 : tie.Need-hold-requires-2
+hold-requires-2 c κs = search needs
+
+returns : tie.Need-returns
+unfolding stored
+returns c = cc
+
+pub store-spec : {M : Type 1} → statement M
+store-spec =
+    tie.close
+    (tie.spec
+    store-requires
+    store-requires-2
+    store-requires-3
+    hold-requires
+    hold-requires-2
+    returns)

@@ -1,0 +1,28 @@
+use borrow.Author.Needs.{needs}
+use Rattle.register.proofs.table.output_takes.Statement.{statement}
+use Rattle.register.proofs.table.output_takes.Tie as tie
+
+bits-requires : tie.Need-bits-requires
+bits-requires c κs = search needs
+
+bits-requires-2 : tie.Need-bits-requires-2
+bits-requires-2 c κs = search needs
+
+is-code-requires : tie.Need-is-code-requires
+is-code-requires c κs = search needs
+
+bits-requires-3 : tie.Need-bits-requires-3
+bits-requires-3 c κs = search needs
+
+returns : tie.Need-returns
+returns c =
+    simp (
+      c .bits3 .ensures,
+      c .before .is-code .ensures,
+      c .before .before .bits2 .ensures,
+      c .before .before .before .bits .ensures,
+    )
+
+pub output-takes-spec : {M : Type 1} → statement M
+output-takes-spec =
+    tie.close (tie.spec bits-requires bits-requires-2 is-code-requires bits-requires-3 returns)

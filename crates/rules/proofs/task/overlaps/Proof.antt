@@ -1,0 +1,31 @@
+use Rattle.rules.specs.Rules.{overlap}
+use borrow.Author.Needs.{needs}
+use Rattle.rules.proofs.task.overlaps.Statement.{statement}
+use Rattle.rules.proofs.task.overlaps.Tie as tie
+
+is-buffer-requires : tie.Need-is-buffer-requires
+is-buffer-requires c κs = search needs
+
+shares-requires : tie.Need-shares-requires
+shares-requires c κs = search needs
+
+shares-requires-2 : tie.Need-shares-requires-2
+shares-requires-2 c κs = search needs
+
+same-place-requires : tie.Need-same-place-requires
+same-place-requires c κs = search needs
+
+returns : tie.Need-returns
+unfolding overlap
+returns c =
+    simp (
+      c .before .before .before .before .is-buffer .ensures,
+      c .before .before .before .shares .ensures,
+      c .before .before .shares2 .ensures,
+      c .same-place .ensures,
+    )
+
+pub overlaps-spec : {M : Type 1} → statement M
+overlaps-spec =
+    tie.close
+    (tie.spec is-buffer-requires shares-requires shares-requires-2 same-place-requires returns)

@@ -1,0 +1,4 @@
+-- The faults of a batch, and the rules of a task.
+pub mod Faults
+pub mod Rules
+pub mod Sound

@@ -1,0 +1,129 @@
+-- The rules of a task, faults 25 to 28 (01, "Faults of a taken batch"). In colour mode the source has no stride, format or
+-- span; without blending the destination is not judged. All sums are of numbers that do not wrap.
+use Prim.Native.Nat.{ℕ, _%_}
+use mathlib.Core.Bool.{Bool, true, false, cond, not, _&&_, _||_}
+use lib.Dec.{eqb, ltb}
+use Rattle.range.specs.Range.{inside, shared}
+use Rattle.range.specs.declared.Range.{Range}
+use Rattle.pixel.specs.Formats.{layoutOf}
+use Rattle.pixel.specs.declared.format.Format.{Format}
+use Rattle.transform.specs.Transform.{rotatedSize}
+use Rattle.transform.specs.declared.Rotation.{Rotation}
+use Rattle.transform.specs.declared.Rotation.the-variants.{Upright, Clockwise, Half, CounterClockwise}
+use Rattle.transform.specs.declared.Size.{Size}
+use Rattle.surface.specs.Surface.{rowLength, span}
+use Rattle.surface.specs.declared.Surface.{Surface}
+use Rattle.register.specs.Task.{isBuffer}
+use Rattle.register.specs.declared.task.Source.{Source}
+use Rattle.register.specs.declared.task.Destination.{Destination}
+use Rattle.register.specs.declared.task.Task.{Task}
+use Rattle.rules.specs.declared.task.Bounds.{Bounds}
+use Rattle.rules.specs.declared.task.Check.{Check}
+use Rattle.rules.specs.declared.task.Check.the-variants.{Fine, Wrong}
+use Rattle.rules.specs.declared.fault.Fault.the-variants.{BadSurface, SizeMismatch, OutOfBounds, Overlap}
+
+-- the source is read from memory
+abbrev pub reads : Source → Bool
+reads s = isBuffer (s .mode)
+
+-- ---- 25
+
+-- a side outside 1 to 4,096
+abbrev pub badSide : ℕ → Bool
+badSide side = eqb side 0 || ltb 4096 side
+
+unfoldable pub badSides : Surface → Bool
+badSides s = badSide (s .width) || badSide (s .height)
+
+-- a stride no multiple of 8, or under width x bytes a pixel
+unfoldable pub badStride : Surface → Bool
+badStride s = ltb 0 (s .stride % 8) || ltb (s .stride) (rowLength s)
+
+-- source disabled, too
+unfoldable pub badSource : Source → Bool
+badSource s = badSides (s .surface) || (reads s && badStride (s .surface)) || not (s .enabled)
+
+unfoldable pub badOutput : Surface → Bool
+badOutput s = badSides s || badStride s
+
+-- destination disabled, too
+unfoldable pub badDestination : Destination → Bool
+badDestination d = badSides (d .surface) || badStride (d .surface) || not (d .enabled)
+
+-- of the source or the output, and, blending, the destination
+unfoldable pub badSurface : Task → Bool
+badSurface t = badSource (t .source) || badOutput (t .output) || (t .blending .on && badDestination (t .destination))
+
+-- ---- 26
+
+abbrev pub isUpright : Rotation → Bool
+isUpright Upright = true
+isUpright Clockwise = false
+isUpright Half = false
+isUpright CounterClockwise = false
+
+-- a turn in colour mode
+abbrev pub turnedColour : Source → Bool
+turnedColour s = not (reads s) && not (isUpright (s .transform .rotation))
+
+abbrev pub sizeOf : Surface → Size
+sizeOf s = record { width = s .width; height = s .height }
+
+-- the turned source size
+abbrev pub turnedSize : Source → Size
+turnedSize s = rotatedSize (s .transform .rotation) (sizeOf (s .surface))
+
+abbrev pub sameSize : Size → Size → Bool
+sameSize a b = eqb (a .width) (b .width) && eqb (a .height) (b .height)
+
+-- a turn in colour mode; output size not the turned source size; blending, destination size not output size
+unfoldable pub sizeMismatch : Task → Bool
+sizeMismatch t =
+    turnedColour (t .source)
+    || not (sameSize (sizeOf (t .output)) (turnedSize (t .source)))
+    || (t .blending .on && not (sameSize (sizeOf (t .destination .surface)) (sizeOf (t .output))))
+
+-- ---- 27
+
+-- a span wholly in the client's window
+abbrev pub inWindow : Bounds → Surface → Bool
+inWindow bounds s = inside (span s) (bounds .window)
+
+-- common is the first part of memory
+abbrev pub commonOf : Bounds → Range
+commonOf bounds = record { start = 0; end = bounds .common }
+
+-- or, for what is read, wholly in common
+abbrev pub inReach : Bounds → Surface → Bool
+inReach bounds s = inWindow bounds s || inside (span s) (commonOf bounds)
+
+unfoldable pub outOfBounds : Bounds → Task → Bool
+outOfBounds bounds t =
+    (reads (t .source) && not (inReach bounds (t .source .surface)))
+    || not (inWindow bounds (t .output))
+    || (t .blending .on && not (inReach bounds (t .destination .surface)))
+
+-- ---- 28
+
+abbrev pub sameFormat : Format → Format → Bool
+sameFormat a b = eqb (layoutOf a .code) (layoutOf b .code)
+
+-- address, stride and format are equal
+unfoldable pub samePlace : Surface → Surface → Bool
+samePlace a b = eqb (a .address) (b .address) && eqb (a .stride) (b .stride) && sameFormat (a .format) (b .format)
+
+-- source and output spans share a byte; blending, destination and output spans share one, unless they are at the same place
+unfoldable pub overlap : Task → Bool
+overlap t =
+    (reads (t .source) && shared (span (t .source .surface)) (span (t .output)))
+    || (t .blending .on && shared (span (t .destination .surface)) (span (t .output)) && not (samePlace (t .destination .surface) (t .output)))
+
+-- ---- the lowest number first, over all surfaces
+
+unfoldable pub taskFault : Bounds → Task → Check
+taskFault bounds t =
+    cond (badSurface t) (Wrong BadSurface)
+    (cond (sizeMismatch t) (Wrong SizeMismatch)
+    (cond (outOfBounds bounds t) (Wrong OutOfBounds)
+    (cond (overlap t) (Wrong Overlap)
+    Fine)))

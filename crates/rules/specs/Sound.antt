@@ -1,0 +1,71 @@
+-- What a task that breaks no rule has, as plain facts for the drawing: rectangles of sound rows, that lie where the batch may
+-- read or write, and no written byte that is a source byte.
+use Prim.Native.Nat.{ℕ, _%_, _≤_, _<_}
+use mathlib.Core.Path.{_≡_}
+use mathlib.Core.Bool.{true, false}
+use mathlib.Core.Logic.{_⊎_}
+use mathlib.Core.List.{List, [], _∷_}
+use Rattle.range.specs.Range.{Holds}
+use Rattle.range.specs.declared.Range.{Range}
+use Rattle.transform.specs.declared.Rotation.the-variants.{Upright}
+use Rattle.surface.specs.Surface.{rowLength, span}
+use Rattle.surface.specs.declared.Surface.{Surface}
+use Rattle.register.specs.declared.task.Source.{Source}
+use Rattle.register.specs.declared.task.Destination.{Destination}
+use Rattle.register.specs.declared.task.Task.{Task}
+use Rattle.rules.specs.declared.task.Bounds.{Bounds}
+use Rattle.rules.specs.Rules.{reads, sizeOf, turnedSize, commonOf}
+
+pub record Sides (s : Surface) : Type 0 where
+  pub wide : 0 < s .width
+  pub widest : s .width ≤ 4096
+  pub high : 0 < s .height
+  pub highest : s .height ≤ 4096
+
+-- a rectangle in memory: its rows do not overlap
+pub record Rows (s : Surface) : Type 0 where
+  pub sides : Sides s
+  pub eights : s .stride % 8 ≡ 0
+  pub roomy : rowLength s ≤ s .stride
+  pub some : 0 < s .stride
+
+-- the run r lies wholly in q
+abbrev pub Within : Range → Range → Type 0
+Within r q = (q .start ≤ r .start) × (r .end ≤ q .end)
+
+-- wholly in the window, or wholly in common
+abbrev pub InReach : Bounds → Range → Type 0
+InReach bounds r = Within r (bounds .window) ⊎ Within r (commonOf bounds)
+
+-- no byte lies in both
+abbrev pub Apart : Range → Range → Type 0
+Apart r q = (i : ℕ) → Holds r i → Holds q i → ⊥
+
+-- what the source is, if it is read from memory
+pub record SoundSource (bounds : Bounds) (s : Source) (output : Surface) : Type 0 where
+  pub rows : Rows (s .surface)
+  pub reach : InReach bounds (span (s .surface))
+  pub apart : Apart (span (s .surface)) (span output)
+
+-- what the destination is, while blending: apart from the output, or the output itself, pixel by pixel
+pub record SoundDestination (bounds : Bounds) (d : Destination) (output : Surface) : Type 0 where
+  pub rows : Rows (d .surface)
+  pub enabled : d .enabled ≡ true
+  pub size : sizeOf (d .surface) ≡ sizeOf output
+  pub reach : InReach bounds (span (d .surface))
+  pub apart : Apart (span (d .surface)) (span output) ⊎ (d .surface ≡ output)
+
+pub record Sound (bounds : Bounds) (t : Task) : Type 0 where
+  pub sides : Sides (t .source .surface)
+  pub enabled : t .source .enabled ≡ true
+  pub upright : reads (t .source) ≡ false → t .source .transform .rotation ≡ Upright
+  pub source : reads (t .source) ≡ true → SoundSource bounds (t .source) (t .output)
+  pub rows : Rows (t .output)
+  pub size : sizeOf (t .output) ≡ turnedSize (t .source)
+  pub within : Within (span (t .output)) (bounds .window)
+  pub destination : t .blending .on ≡ true → SoundDestination bounds (t .destination) (t .output)
+
+-- every task of a list
+abbrev pub AllSound : Bounds → List Task → Type 0
+AllSound bounds [] = Unit {0}
+AllSound bounds (t ∷ ts) = Sound bounds t × AllSound bounds ts

@@ -1,0 +1,188 @@
+// The rules of a task. Each test is true where the task breaks the rule.
+ghost use mathlib.Core.Path.{_≡_};
+ghost use Rattle.rules.specs.Rules.{badSide, badSides, badStride, badSource, badOutput, badDestination, badSurface, isUpright, turnedColour, sizeOf, turnedSize, sameSize, sizeMismatch, inWindow, inReach, outOfBounds, sameFormat, samePlace, overlap, taskFault};
+use crate::fault::Fault;
+use pixel::Format;
+use range::Range;
+use register::Destination;
+use register::Source;
+use register::Task;
+use surface::Surface;
+use transform::Rotation;
+use transform::Size;
+
+// What a batch may touch: it draws in its client's window, and may read that and common, the first part of memory.
+pub struct Bounds {
+    pub window: Range,
+    pub common: usize,
+}
+
+// What is wrong with a task.
+pub enum Check {
+    Fine,
+    Wrong(Fault),
+}
+
+fn bad_side(side: u16) -> bool
+    ensures { λ r. ⌜ r ≡ badSide side ⌝ }
+{
+    (side == 0) | (4096 < side)
+}
+
+fn bad_sides(s: Surface) -> bool
+    ensures { λ r. ⌜ r ≡ badSides s ⌝ }
+{
+    bad_side(s.width) | bad_side(s.height)
+}
+
+fn bad_stride(s: Surface) -> bool
+    ensures { λ r. ⌜ r ≡ badStride s ⌝ }
+{
+    (0 < s.stride % 8) | ((s.stride as usize) < s.row_length())
+}
+
+fn bad_source(s: Source) -> bool
+    ensures { λ r. ⌜ r ≡ badSource s ⌝ }
+{
+    let mode = s.mode;
+    bad_sides(s.surface) | (mode.is_buffer() & bad_stride(s.surface)) | !s.enabled
+}
+
+fn bad_output(s: Surface) -> bool
+    ensures { λ r. ⌜ r ≡ badOutput s ⌝ }
+{
+    bad_sides(s) | bad_stride(s)
+}
+
+fn bad_destination(d: Destination) -> bool
+    ensures { λ r. ⌜ r ≡ badDestination d ⌝ }
+{
+    bad_sides(d.surface) | bad_stride(d.surface) | !d.enabled
+}
+
+fn bad_surface(t: Task) -> bool
+    ensures { λ r. ⌜ r ≡ badSurface t ⌝ }
+{
+    bad_source(t.source) | bad_output(t.output) | (t.blending.on & bad_destination(t.destination))
+}
+
+fn is_upright(rotation: Rotation) -> bool
+    ensures { λ r. ⌜ r ≡ isUpright rotation ⌝ }
+{
+    match rotation {
+        Rotation::Upright => true,
+        Rotation::Clockwise => false,
+        Rotation::Half => false,
+        Rotation::CounterClockwise => false,
+    }
+}
+
+// A colour has no direction, so nothing can be turned.
+fn turned_colour(s: Source) -> bool
+    ensures { λ r. ⌜ r ≡ turnedColour s ⌝ }
+{
+    let mode = s.mode;
+    let transform = s.transform;
+    let rotation = transform.rotation;
+    !mode.is_buffer() & !is_upright(rotation)
+}
+
+fn size_of(s: Surface) -> Size
+    ensures { λ r. ⌜ r ≡ sizeOf s ⌝ }
+{
+    Size {
+        width: s.width as usize,
+        height: s.height as usize,
+    }
+}
+
+fn turned_size(s: Source) -> Size
+    ensures { λ r. ⌜ r ≡ turnedSize s ⌝ }
+{
+    let transform = s.transform;
+    let rotation = transform.rotation;
+    size_of(s.surface).rotated(rotation)
+}
+
+fn same_size(a: Size, b: Size) -> bool
+    ensures { λ r. ⌜ r ≡ sameSize a b ⌝ }
+{
+    (a.width == b.width) & (a.height == b.height)
+}
+
+fn size_mismatch(t: Task) -> bool
+    ensures { λ r. ⌜ r ≡ sizeMismatch t ⌝ }
+{
+    turned_colour(t.source)
+        | !same_size(size_of(t.output), turned_size(t.source))
+        | (t.blending.on & !same_size(size_of(t.destination.surface), size_of(t.output)))
+}
+
+fn in_window(bounds: Bounds, s: Surface) -> bool
+    ensures { λ r. ⌜ r ≡ inWindow bounds s ⌝ }
+{
+    s.is_inside(bounds.window)
+}
+
+fn in_reach(bounds: Bounds, s: Surface) -> bool
+    ensures { λ r. ⌜ r ≡ inReach bounds s ⌝ }
+{
+    in_window(bounds, s)
+        | s.is_inside(Range {
+            start: 0,
+            end: bounds.common,
+        })
+}
+
+fn out_of_bounds(bounds: Bounds, t: Task) -> bool
+    ensures { λ r. ⌜ r ≡ outOfBounds bounds t ⌝ }
+{
+    let source = t.source;
+    let mode = source.mode;
+    (mode.is_buffer() & !in_reach(bounds, source.surface))
+        | !in_window(bounds, t.output)
+        | (t.blending.on & !in_reach(bounds, t.destination.surface))
+}
+
+fn same_format(a: Format, b: Format) -> bool
+    ensures { λ r. ⌜ r ≡ sameFormat a b ⌝ }
+{
+    a.layout().code == b.layout().code
+}
+
+fn same_place(a: Surface, b: Surface) -> bool
+    ensures { λ r. ⌜ r ≡ samePlace a b ⌝ }
+{
+    let f = a.format;
+    let g = b.format;
+    (a.address == b.address) & (a.stride == b.stride) & same_format(f, g)
+}
+
+fn overlaps(t: Task) -> bool
+    ensures { λ r. ⌜ r ≡ overlap t ⌝ }
+{
+    let source = t.source;
+    let mode = source.mode;
+    let d = t.destination.surface;
+    (mode.is_buffer() & source.surface.shares(t.output))
+        | (t.blending.on & d.shares(t.output) & !same_place(d, t.output))
+}
+
+// The first rule, in the order of their numbers, that a task breaks.
+pub fn check_task(bounds: Bounds, t: Task) -> Check
+    ensures { λ r. ⌜ r ≡ taskFault bounds t ⌝ }
+{
+    if bad_surface(t) {
+        return Check::Wrong(Fault::BadSurface);
+    }
+    if size_mismatch(t) {
+        return Check::Wrong(Fault::SizeMismatch);
+    }
+    if out_of_bounds(bounds, t) {
+        return Check::Wrong(Fault::OutOfBounds);
+    }
+    if overlaps(t) {
+        return Check::Wrong(Fault::Overlap);
+    }
+    Check::Fine
+}
