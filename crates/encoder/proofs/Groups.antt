@@ -1,0 +1,203 @@
+-- The reading of a group whose words are all taken, and of the six groups that write every register of a bank.
+use mathlib.Core.Path.{_≡_, refl, _∙_}
+use mathlib.Core.Bool.{Bool, true, false}
+use mathlib.Core.List.{List, [], _∷_, _++_}
+use Prim.Native.Nat.{ℕ, zero, suc, _+_, _*_, _<_}
+use native.Mathlib.Omega.{arith}
+use lib.Dec.{eqb}
+use lib.ListN.{length, length-append}
+use borrow.Author.Tests.{ne-eqb, le-ltb}
+use Rattle.word.specs.Field.{field}
+use Rattle.register.specs.Table.{kindOf, isWritable, takes, sourceTakes, destinationTakes, outputTakes, sizeTakes, strideTakes, blendingTakes}
+use Rattle.register.specs.Bank.{storedSurface, stored, written}
+use Rattle.register.specs.Task.{taskOf}
+use Rattle.register.specs.declared.bank.Bank.{Bank}
+use Rattle.register.specs.declared.bank.Write.the-variants.{Bank as Taken}
+use Rattle.rules.specs.declared.task.Bounds.{Bounds}
+use Rattle.rules.specs.Rules.{taskFault}
+use Rattle.batch.specs.Batch.{start, inside, reservedBits, badLength, judged, readFrom}
+use Rattle.encoder.specs.Words.{wordsOf}
+
+-- the register at an offset takes a word
+abbrev TakenAt : ℕ → ℕ → Type 0
+TakenAt offset w = (b : Bank) → written b offset w ≡ Taken (stored b offset w)
+
+taken-at : (offset w : ℕ) → isWritable (kindOf offset) ≡ true → takes (kindOf offset) w ≡ true → TakenAt offset w
+unfolding written
+taken-at offset w e t b = rw (e, t)
+
+-- so do the registers from an offset on, a word each
+abbrev TakenFrom : ℕ → List ℕ → Type 0
+TakenFrom offset [] = Unit
+TakenFrom offset (w ∷ ws) = TakenAt offset w × TakenFrom (offset + 4) ws
+
+-- the bank after words were written from an offset on
+abbrev storedFrom : Bank → ℕ → List ℕ → Bank
+storedFrom b offset [] = b
+storedFrom b offset (w ∷ ws) = storedFrom (stored b offset w) (offset + 4) ws
+
+-- the words of a group, from word k on
+words-read : (bounds : Bounds) (b : Bank) (k offset : ℕ) (ends : Bool) (head : ℕ) (vs rest : List ℕ) → TakenFrom offset vs
+    → readFrom bounds b k (inside (length vs) offset ends head) (vs ++ rest)
+    ≡ readFrom bounds (storedFrom b offset vs) (k + length vs) (inside zero (offset + 4 * length vs) ends head) rest
+unfolding readFrom
+words-read bounds b k offset ends head [] rest t =
+    let e : k + 0 ≡ k = omega arith in
+    let o : offset + 4 * 0 ≡ offset = omega arith in
+    rw (e, o)
+words-read bounds b k offset ends head (v ∷ vs) rest t =
+    let e : k + 1 + length vs ≡ k + suc (length vs) = omega arith in
+    let o : offset + 4 + 4 * length vs ≡ offset + 4 * suc (length vs) = omega arith in
+    rw (t .0 b) (words-read bounds (stored b offset v) (k + 1) (offset + 4) ends head vs rest (t .1) ∙ rw (e, o))
+
+fine-length : (vs rest : List ℕ) → 0 < length vs → badLength (length vs) (length (vs ++ rest)) ≡ false
+fine-length vs rest h =
+    let some = ne-eqb (length vs) 0 (λ e. omega arith) in
+    let enough = le-ltb (length (vs ++ rest)) (length vs) (simp length-append (omega arith)) in
+    rw (some, enough)
+
+-- a group of these words, whose header is word k
+group-read : (bounds : Bounds) (b : Bank) (k next h : ℕ) (vs rest : List ℕ) → reservedBits h ≡ false → field 15 2 h ≡ length vs
+    → 0 < length vs → next ≡ k + 1 + length vs → TakenFrom (field 31 16 h) vs
+    → readFrom bounds b k start (h ∷ vs ++ rest)
+    ≡ readFrom bounds (storedFrom b (field 31 16 h) vs) next (inside zero (field 31 16 h + 4 * length vs) (eqb (field 0 0 h) 1) k) rest
+unfolding readFrom
+group-read bounds b k next h vs rest e l s n t =
+    rw (e, l, fine-length vs rest s, n) (words-read bounds b (k + 1) (field 31 16 h) (eqb (field 0 0 h) 1) k vs rest t)
+
+-- a group that does not end the task, and another header after it
+group-on : (bounds : Bounds) (b : Bank) (k next h : ℕ) (vs : List ℕ) (h′ : ℕ) (ws : List ℕ) → reservedBits h ≡ false → field 15 2 h ≡ length vs
+    → 0 < length vs → next ≡ k + 1 + length vs → eqb (field 0 0 h) 1 ≡ false → TakenFrom (field 31 16 h) vs
+    → readFrom bounds b k start (h ∷ vs ++ (h′ ∷ ws)) ≡ readFrom bounds (storedFrom b (field 31 16 h) vs) next start (h′ ∷ ws)
+unfolding readFrom
+group-on bounds b k next h vs h′ ws e l s n m t =
+    group-read bounds b k next h vs (h′ ∷ ws) e l s n t
+    ∙ rw m (header (storedFrom b (field 31 16 h) vs) (field 31 16 h + 4 * length vs))
+  where
+    header : (c : Bank) (offset : ℕ) → readFrom bounds c next (inside zero offset false k) (h′ ∷ ws) ≡ readFrom bounds c next start (h′ ∷ ws)
+    header c offset = refl
+
+-- a group that ends the task
+group-last : (bounds : Bounds) (b : Bank) (k next h : ℕ) (vs ws : List ℕ) → reservedBits h ≡ false → field 15 2 h ≡ length vs
+    → 0 < length vs → next ≡ k + 1 + length vs → eqb (field 0 0 h) 1 ≡ true → TakenFrom (field 31 16 h) vs → (after : Bank) → storedFrom b (field 31 16 h) vs ≡ after
+    → readFrom bounds b k start (h ∷ vs ++ ws) ≡ judged (taskFault bounds (taskOf after)) after k (readFrom bounds after next start ws)
+unfolding readFrom
+group-last bounds b k next h vs ws e l s n m t after is =
+    group-read bounds b k next h vs ws e l s n t ∙ rw (m, is) (ended ws)
+  where
+    ended : (rest : List ℕ)
+        → readFrom bounds after next (inside zero (field 31 16 h + 4 * length vs) true k) rest
+        ≡ judged (taskFault bounds (taskOf after)) after k (readFrom bounds after next start rest)
+    ended [] = refl
+    ended (w ∷ rest) = refl
+
+-- each register of a bank holds a word that it takes
+pub record AllTaken (b : Bank) : Type 0 where
+  pub source : sourceTakes (b .source .control) ≡ true
+  pub source-size : sizeTakes (b .source .size) ≡ true
+  pub source-stride : strideTakes (b .source .stride) ≡ true
+  pub destination : destinationTakes (b .destination .control) ≡ true
+  pub destination-size : sizeTakes (b .destination .size) ≡ true
+  pub destination-stride : strideTakes (b .destination .stride) ≡ true
+  pub output : outputTakes (b .output .control) ≡ true
+  pub output-size : sizeTakes (b .output .size) ≡ true
+  pub output-stride : strideTakes (b .output .stride) ≡ true
+  pub blending : blendingTakes (b .blending) ≡ true
+
+-- the words of the groups that have more than one
+abbrev words1 : Bank → List ℕ
+words1 b = b .source .control ∷ b .source .size ∷ b .source .stride ∷ b .colour ∷ b .source .address ∷ []
+
+abbrev words2 : Bank → List ℕ
+words2 b = b .destination .control ∷ b .destination .size ∷ b .destination .stride ∷ []
+
+abbrev words5 : Bank → List ℕ
+words5 b = b .output .control ∷ b .output .size ∷ b .output .stride ∷ []
+
+module _ (b : Bank) (t : AllTaken b) where
+  -- the words of each group are taken
+  first : TakenFrom 0x010 (words1 b)
+  unfolding kindOf
+  first = (
+    taken-at 0x010 (b .source .control) refl (t .source),
+    (
+      taken-at 0x014 (b .source .size) refl (t .source-size),
+      (
+        taken-at 0x018 (b .source .stride) refl (t .source-stride),
+        (
+          taken-at 0x01C (b .colour) refl refl,
+          (taken-at 0x020 (b .source .address) refl refl, tt),
+        ),
+      ),
+    ),
+  )
+
+  second : TakenFrom 0x050 (words2 b)
+  unfolding kindOf
+  second = (
+    taken-at 0x050 (b .destination .control) refl (t .destination),
+    (
+      taken-at 0x054 (b .destination .size) refl (t .destination-size),
+      (taken-at 0x058 (b .destination .stride) refl (t .destination-stride), tt),
+    ),
+  )
+
+  third : TakenFrom 0x060 (b .destination .address ∷ [])
+  unfolding kindOf
+  third = (taken-at 0x060 (b .destination .address) refl refl, tt)
+
+  fourth : TakenFrom 0x090 (b .blending ∷ [])
+  unfolding kindOf
+  fourth = (taken-at 0x090 (b .blending) refl (t .blending), tt)
+
+  fifth : TakenFrom 0x100 (words5 b)
+  unfolding kindOf
+  fifth = (
+    taken-at 0x100 (b .output .control) refl (t .output),
+    (
+      taken-at 0x104 (b .output .size) refl (t .output-size),
+      (taken-at 0x108 (b .output .stride) refl (t .output-stride), tt),
+    ),
+  )
+
+  sixth : TakenFrom 0x110 (b .output .address ∷ [])
+  unfolding kindOf
+  sixth = (taken-at 0x110 (b .output .address) refl refl, tt)
+
+-- the bank after each of the first five groups
+abbrev after1 : Bank → Bank → Bank
+after1 old b = storedFrom old 0x010 (words1 b)
+
+abbrev after2 : Bank → Bank → Bank
+after2 old b = storedFrom (after1 old b) 0x050 (words2 b)
+
+abbrev after3 : Bank → Bank → Bank
+after3 old b = storedFrom (after2 old b) 0x060 (b .destination .address ∷ [])
+
+abbrev after4 : Bank → Bank → Bank
+after4 old b = storedFrom (after3 old b) 0x090 (b .blending ∷ [])
+
+abbrev after5 : Bank → Bank → Bank
+after5 old b = storedFrom (after4 old b) 0x100 (words5 b)
+
+-- every register is written
+all-stored : (old b : Bank) → storedFrom (after5 old b) 0x110 (b .output .address ∷ []) ≡ b
+unfolding stored storedSurface
+all-stored old b = refl
+
+-- from any bank and any word on: one task, of which this bank is the registers, and then the rest
+pub task-read : (bounds : Bounds) (old b : Bank) (k : ℕ) (rest : List ℕ) → AllTaken b
+    → readFrom bounds old k start (wordsOf b ++ rest) ≡ judged (taskFault bounds (taskOf b)) b (k + 18) (readFrom bounds b (k + 20) start rest)
+unfolding wordsOf
+task-read bounds old b k rest t =
+    let from6 : List ℕ = b .output .address ∷ rest in
+    let from5 : List ℕ = words5 b ++ (0x01100005 ∷ from6) in
+    let from4 : List ℕ = b .blending ∷ 0x0100000C ∷ from5 in
+    let from3 : List ℕ = b .destination .address ∷ 0x00900004 ∷ from4 in
+    let from2 : List ℕ = words2 b ++ (0x00600004 ∷ from3) in
+    group-on bounds old k (k + 6) 0x00100014 (words1 b) 0x0050000C from2 refl refl (omega arith) (omega arith) refl (first b t)
+    ∙ group-on bounds (after1 old b) (k + 6) (k + 10) 0x0050000C (words2 b) 0x00600004 from3 refl refl (omega arith) (omega arith) refl (second b t)
+    ∙ group-on bounds (after2 old b) (k + 10) (k + 12) 0x00600004 (b .destination .address ∷ []) 0x00900004 from4 refl refl (omega arith) (omega arith) refl (third b t)
+    ∙ group-on bounds (after3 old b) (k + 12) (k + 14) 0x00900004 (b .blending ∷ []) 0x0100000C from5 refl refl (omega arith) (omega arith) refl (fourth b t)
+    ∙ group-on bounds (after4 old b) (k + 14) (k + 18) 0x0100000C (words5 b) 0x01100005 from6 refl refl (omega arith) (omega arith) refl (fifth b t)
+    ∙ group-last bounds (after5 old b) (k + 18) (k + 20) 0x01100005 (b .output .address ∷ []) rest refl refl (omega arith) (omega arith) refl (sixth b t) b (all-stored old b)

@@ -1,0 +1,70 @@
+use mathlib.Core.Path.{_≡_, sym, ap, _∙_}
+use mathlib.Core.Bool.{true}
+use mathlib.Core.List.{List}
+use Prim.Native.Nat.{ℕ}
+use borrow.Author.Tests.{not-true, not-false}
+use borrow.Author.Needs.{needs}
+use Rattle.word.specs.Splice.{spliced}
+use Rattle.encoder.specs.Fields.{allowed}
+use Rattle.encoder.specs.Words.{wordsOf, bytesOf}
+use Rattle.encoder.proofs.Written.{forbidden, short, fitting}
+use Rattle.encoder.proofs.encode.Statement.{statement}
+use Rattle.encoder.proofs.encode.Tie as tie
+
+-- past the first test the fields are allowed
+yes : (c : tie.Else1) → allowed (c .before .before .before .args .fields) ≡ true
+yes c = sym (c .before .is-allowed .ensures) ∙ not-false (c .before .is-allowed .result) (c .if1 .left)
+
+is-allowed-requires : tie.Need-is-allowed-requires
+is-allowed-requires c κs = search needs
+
+returns : tie.Need-returns
+returns c =
+    let s = c .before .before .before in
+    forbidden (s .args .fields) (s .args .buffer .now)
+    (sym (c .before .is-allowed .ensures) ∙ not-true (c .before .is-allowed .result) (c .if1 .taken))
+
+returns-2 : tie.Need-returns-2
+returns-2 c =
+    let s = c .before .before .before .before in
+    short (s .args .fields) (s .args .buffer .now) (yes (c .before)) (c .if2 .taken)
+
+registers-requires : tie.Need-registers-requires
+registers-requires c κs = yes (c .before)
+
+words-of-requires : tie.Need-words-of-requires
+words-of-requires c κs = search needs
+
+slice-aggregate-write-words : tie.Need-slice-aggregate-write-words
+slice-aggregate-write-words c = search needs
+
+write-words-requires : tie.Need-write-words-requires
+write-words-requires c κs = search needs
+
+same-length : tie.Need-same-length
+same-length c = search needs
+
+returns-3 : tie.Need-returns-3
+returns-3 c =
+    let e = c .before .before .before .before .before .before .before in
+    let s = e .before .before .before .before in
+    let done = fitting (s .args .fields) (s .args .buffer .now) (yes (e .before)) (e .if2 .left) in (
+      done .0,
+      c .before .before .write-words .ensures
+          ∙ ap (λ (l : List ℕ). spliced 0 (bytesOf l) (s .args .buffer .now)) (c .before .before .before .before .before .words-of .ensures ∙ ap wordsOf (c .before .before .before .before .before .before .registers .ensures))
+          ∙ done .1,
+    )
+
+pub encode-spec : {M : Type 1} → statement M
+encode-spec =
+    tie.close
+    (tie.spec
+    is-allowed-requires
+    returns
+    returns-2
+    registers-requires
+    words-of-requires
+    slice-aggregate-write-words
+    write-words-requires
+    same-length
+    returns-3)

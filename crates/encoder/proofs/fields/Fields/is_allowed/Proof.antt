@@ -1,0 +1,30 @@
+use borrow.Author.Needs.{needs}
+use Rattle.encoder.specs.Fields.{allowed}
+use Rattle.encoder.proofs.fields.Fields.is_allowed.Statement.{statement}
+use Rattle.encoder.proofs.fields.Fields.is_allowed.Tie as tie
+
+is-allowed-requires : tie.Need-is-allowed-requires
+is-allowed-requires c κs = search needs
+
+is-allowed-requires-2 : tie.Need-is-allowed-requires-2
+is-allowed-requires-2 c κs = search needs
+
+is-allowed-requires-3 : tie.Need-is-allowed-requires-3
+is-allowed-requires-3 c κs = search needs
+
+is-allowed-requires-4 : tie.Need-is-allowed-requires-4
+is-allowed-requires-4 c κs = search needs
+
+returns : tie.Need-returns
+unfolding allowed
+returns c = cc
+
+pub is-allowed-spec : {M : Type 1} → statement M
+is-allowed-spec =
+    tie.close
+    (tie.spec
+    is-allowed-requires
+    is-allowed-requires-2
+    is-allowed-requires-3
+    is-allowed-requires-4
+    returns)

@@ -1,0 +1,11 @@
+use mathlib.Core.Path.{refl}
+use Rattle.encoder.specs.Words.{wordsOf}
+use Rattle.encoder.proofs.words_of.Statement.{statement}
+use Rattle.encoder.proofs.words_of.Tie as tie
+
+returns : tie.Need-returns
+unfolding wordsOf
+returns c = refl
+
+pub words-of-spec : {M : Type 1} → statement M
+words-of-spec = tie.close (tie.spec returns)

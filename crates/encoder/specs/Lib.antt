@@ -1,0 +1,7 @@
+-- A task's fields, the registers and the words that they give, and what the encoder answers.
+pub mod Fields
+pub mod Registers
+pub mod Words
+pub mod Encoder
+pub mod Solid
+pub mod RoundTrip

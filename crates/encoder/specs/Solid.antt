@@ -1,0 +1,53 @@
+-- A rectangle of one colour, all else at reset (01, "Writer and replay").
+use Prim.Native.Nat.{ℕ}
+use Rattle.encoder.specs.declared.fields.SurfaceFields.{SurfaceFields}
+use Rattle.encoder.specs.declared.fields.AlphaFields.{AlphaFields}
+use Rattle.encoder.specs.declared.fields.TransformFields.{TransformFields}
+use Rattle.encoder.specs.declared.fields.SourceFields.{SourceFields}
+use Rattle.encoder.specs.declared.fields.DestinationFields.{DestinationFields}
+use Rattle.encoder.specs.declared.fields.BlendingFields.{BlendingFields}
+use Rattle.encoder.specs.declared.fields.Fields.{Fields}
+
+-- ---- the fields of a bank at reset: all 0, but the factors 2 and 3
+
+abbrev pub resetSurface : SurfaceFields
+resetSurface = record { width = 0; height = 0; stride = 0; address = 0; format = 0 }
+
+abbrev pub resetAlpha : AlphaFields
+resetAlpha = record { mode = 0; global = 0 }
+
+abbrev pub resetTransform : TransformFields
+resetTransform = record { horizontal = 0; vertical = 0; rotation = 0 }
+
+abbrev pub resetSource : SourceFields
+resetSource = record { surface = resetSurface; alpha = resetAlpha; transform = resetTransform; mode = 0; enable = 0 }
+
+abbrev pub resetDestination : DestinationFields
+resetDestination = record { surface = resetSurface; alpha = resetAlpha; enable = 0 }
+
+abbrev pub resetBlending : BlendingFields
+resetBlending = record { source = 2; destination = 3; on = 0 }
+
+abbrev pub resetFields : Fields
+resetFields = record { source = resetSource; destination = resetDestination; output = resetSurface; colour = 0; blending = resetBlending }
+
+-- ---- a solid rectangle
+
+-- an enabled source of that size, in colour mode
+abbrev pub solidSource : ℕ → ℕ → SourceFields
+solidSource width height = record {
+  surface = record { width = width; height = height; stride = 0; address = 0; format = 0 };
+  alpha = resetAlpha;
+  transform = resetTransform;
+  mode = 1;
+  enable = 1;
+}
+
+abbrev pub solidFields : ℕ → ℕ → ℕ → ℕ → ℕ → Fields
+solidFields colour width height stride address = record {
+  source = solidSource width height;
+  destination = resetDestination;
+  output = record { width = width; height = height; stride = stride; address = address; format = 0 };
+  colour = colour;
+  blending = resetBlending;
+}

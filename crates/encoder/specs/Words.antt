@@ -1,0 +1,21 @@
+-- The words and bytes of one task (01, "Writer and replay").
+use Prim.Native.Nat.{ℕ}
+use mathlib.Core.List.{List, [], _∷_, _++_}
+use Rattle.word.specs.Word.{leBytes}
+use Rattle.register.specs.declared.bank.Bank.{Bank}
+
+-- the twenty words that write every register of a bank: six groups, each a header and its words, the last of them task end
+unfoldable pub wordsOf : Bank → List ℕ
+wordsOf b =
+    0x00100014 ∷ b .source .control ∷ b .source .size ∷ b .source .stride ∷ b .colour ∷ b .source .address
+    ∷ 0x0050000C ∷ b .destination .control ∷ b .destination .size ∷ b .destination .stride
+    ∷ 0x00600004 ∷ b .destination .address
+    ∷ 0x00900004 ∷ b .blending
+    ∷ 0x0100000C ∷ b .output .control ∷ b .output .size ∷ b .output .stride
+    ∷ 0x01100005 ∷ b .output .address
+    ∷ []
+
+-- words as bytes, one after the other, each little-endian
+unfoldable pub bytesOf : List ℕ → List ℕ
+bytesOf [] = []
+bytesOf (w ∷ ws) = leBytes w ++ bytesOf ws

@@ -1,0 +1,103 @@
+// The encoder (the papers' writer): a task's fields in, the 80 bytes of a batch of that one task out.
+ghost use mathlib.Core.Path.{_≡_};
+ghost use Prim.Native.Nat.{_*_, _≤_};
+ghost use lib.ListN.{length};
+ghost use Rattle.word.specs.Splice.{spliced};
+ghost use Rattle.encoder.specs.Words.{wordsOf, bytesOf};
+ghost use Rattle.encoder.specs.Encoder.{numberOf, answerOf, bufferAfter};
+
+pub mod fields;
+
+pub use fields::AlphaFields;
+pub use fields::BlendingFields;
+pub use fields::DestinationFields;
+pub use fields::Fields;
+pub use fields::SourceFields;
+pub use fields::SurfaceFields;
+pub use fields::TransformFields;
+use register::Bank;
+
+// What is answered: the task is written, or why it is refused.
+pub enum Answer {
+    Written,
+    // a field that its register's rule forbids
+    Forbidden,
+    // a buffer of under 80 bytes
+    ShortBuffer,
+}
+
+impl Answer {
+    // The papers' number of a refusal, 0 without one.
+    pub fn number(self) -> u32
+        ensures { λ r. ⌜ r ≡ numberOf self ⌝ }
+    {
+        match self {
+            Answer::Written => 0,
+            Answer::Forbidden => 24,
+            Answer::ShortBuffer => 12,
+        }
+    }
+}
+
+// The words of a batch that writes every register of a bank: six groups, the last of which ends the task.
+fn words_of(bank: Bank) -> [u32; 20]
+    ensures { λ r. ⌜ r ≡ wordsOf bank ⌝ }
+{
+    let source = bank.source;
+    let destination = bank.destination;
+    let output = bank.output;
+    [
+        0x00100014,
+        source.control,
+        source.size,
+        source.stride,
+        bank.colour,
+        source.address,
+        0x0050000C,
+        destination.control,
+        destination.size,
+        destination.stride,
+        0x00600004,
+        destination.address,
+        0x00900004,
+        bank.blending,
+        0x0100000C,
+        output.control,
+        output.size,
+        output.stride,
+        0x01100005,
+        output.address,
+    ]
+}
+
+// Writes words one after the other from the first byte of a buffer on.
+fn write_words(buffer: &mut [u8], words: &[u32])
+    requires { ⌜ 4 * length (now words) ≤ length (now buffer) ⌝ }
+    ensures { λ _. ⌜ now (buffer .exit) ≡ spliced 0 (bytesOf (now (words .entry))) (now (buffer .entry)) ⌝ }
+{
+    let mut k = 0;
+    while k < words.len() {
+        word::write_le32(buffer, 4 * k, words[k]);
+        k += 1;
+    }
+}
+
+// Writes the batch of the one task with these fields to the first 80 bytes of a buffer, or refuses and writes nothing.
+pub fn encode(fields: Fields, buffer: &mut [u8]) -> Answer
+    ensures { λ r. ⌜
+        (r ≡ answerOf fields (length (now (buffer .entry))))
+        × (now (buffer .exit) ≡ bufferAfter fields (now (buffer .entry)))
+        ⌝ }
+{
+    let size = buffer.len();
+    let allowed = fields.is_allowed();
+    if !allowed {
+        return Answer::Forbidden;
+    }
+    if size < 80 {
+        return Answer::ShortBuffer;
+    }
+    let words = words_of(fields.registers());
+    write_words(buffer, &words);
+    Answer::Written
+}
