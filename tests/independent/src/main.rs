@@ -6,6 +6,7 @@
 mod batch;
 mod batch_cases;
 mod batch_questions;
+mod drawing;
 mod leaf_cases;
 mod pixel;
 mod pixel_cases;
@@ -18,19 +19,23 @@ mod registers;
 mod ring;
 mod stream;
 mod surface;
+mod task_cases;
+mod task_questions;
 mod transform;
 mod words;
+mod writer;
 
 use std::path::Path;
 use std::process::ExitCode;
 use stream::Stream;
 
 /// The program crates, and what makes the cases of each.
-const CRATES: [(&str, fn() -> Stream); 4] = [
+const CRATES: [(&str, fn() -> Stream); 5] = [
     ("leaf_cases", leaf_cases::cases),
     ("pixel_cases", pixel_cases::cases),
     ("queue_cases", queue_cases::cases),
     ("batch_cases", batch_cases::cases),
+    ("task_cases", task_cases::cases),
 ];
 
 fn write(stream: &Stream, dir: &Path) -> std::io::Result<()> {

@@ -1,0 +1,17 @@
+-- Laws of a drawn task.
+-- one row: lent out of a window, and the window out of memory
+pub mod Lent
+-- a task's pixels go by what it reads
+pub mod Pixel
+-- a task drawn row by row: no row before it changes what a row reads
+pub mod Turn
+-- where a row lies
+pub mod Place
+-- each byte after a task, and after a list of them (demand 2)
+pub mod Outside
+-- a task that breaks no rule may be drawn
+pub mod Judged
+-- a batch drawn a step of the walk at a time
+pub mod Fold
+-- what is drawn goes by window and common alone (demand 3)
+pub mod Local

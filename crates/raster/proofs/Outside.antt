@@ -1,0 +1,73 @@
+-- What a task does to each byte (demand 2): in an output row the byte of its pixel, everywhere else what was there.
+use mathlib.Core.Path.{_≡_, refl, _∙_}
+use mathlib.Core.List.{List, [], _∷_}
+use Prim.Native.Nat.{ℕ, _/_, _%_, _<_}
+use lib.ListN.{length, getD}
+use Rattle.word.specs.Word.{byteOf}
+use Rattle.pixel.specs.Formats.{bytesOf, layoutOf}
+use Rattle.pixel.specs.Colours.{packed}
+use Rattle.surface.specs.Surface.{InRow}
+use Rattle.surface.proofs.Outside.{length-drawnOn, outside-rows, inside-row}
+use Rattle.register.specs.declared.bank.Bank.{Bank}
+use Rattle.register.specs.declared.task.Task.{Task}
+use Rattle.rules.specs.declared.task.Bounds.{Bounds}
+use Rattle.rules.specs.Sound.{AllSound}
+use Rattle.batch.specs.Batch.{readBatch, tasksDrawn}
+use Rattle.batch.proofs.Tasks.{drawn-sound}
+use Rattle.raster.specs.Task.{pixelColour, drawTask, drawTasks}
+use Rattle.raster.specs.Batch.{drawBatch}
+use Rattle.raster.specs.Clear.{Rectangle}
+use Rattle.raster.proofs.Turn.{stride-some}
+use Rattle.raster.proofs.Judged.{rectangle}
+
+-- byte i lies in no output row
+abbrev pub Outside : Task → ℕ → Type 0
+Outside t i = (y j : ℕ) → InRow (t .output) i y j → ⊥
+
+module _ (t : Task) (memory : List ℕ) where
+  pub length-task : length (drawTask t memory) ≡ length memory
+  unfolding drawTask
+  length-task = length-drawnOn (t .output) _ memory
+
+  module _ (r : Rectangle (t .output)) where
+    -- no byte outside the output rows changes
+    pub outside-task : (i : ℕ) → Outside t i → getD (drawTask t memory) i 0 ≡ getD memory i 0
+    unfolding drawTask
+    outside-task i out = outside-rows (t .output) _ memory (stride-some (t .output) r) i out
+
+    -- byte j of row y is a byte of its pixel in the output's format
+    pub inside-task : (i y j : ℕ) → i < length memory → InRow (t .output) i y j →
+        getD (drawTask t memory) i 0
+        ≡ byteOf (packed (layoutOf (t .output .format)) (pixelColour t memory (j / bytesOf (t .output .format)) y)) (j % bytesOf (t .output .format))
+    unfolding drawTask
+    inside-task i y j l h = inside-row (t .output) _ memory (r .spaced) i y j l h
+
+-- ---- a list of tasks
+
+pub length-tasks : (ts : List Task) (memory : List ℕ) → length (drawTasks ts memory) ≡ length memory
+unfolding drawTasks
+length-tasks [] memory = refl
+length-tasks (t ∷ ts) memory = length-tasks ts (drawTask t memory) ∙ length-task t memory
+
+-- byte i lies in no output row of any of them
+abbrev pub OutsideAll : List Task → ℕ → Type 0
+OutsideAll [] i = Unit {0}
+OutsideAll (t ∷ ts) i = Outside t i × OutsideAll ts i
+
+pub outside-tasks : (bounds : Bounds) (ts : List Task) → AllSound bounds ts → (memory : List ℕ) (i : ℕ) → OutsideAll ts i →
+    getD (drawTasks ts memory) i 0 ≡ getD memory i 0
+unfolding drawTasks
+outside-tasks bounds [] s memory i out = refl
+outside-tasks bounds (t ∷ ts) s memory i out =
+    outside-tasks bounds ts (s .1) (drawTask t memory) i (out .1) ∙ outside-task t memory (rectangle (t .output) (s .0 .rows)) i (out .0)
+
+-- ---- a batch, from any bank on
+
+module _ (bounds : Bounds) (bank : Bank) (words memory : List ℕ) where
+  pub length-batch : length (drawBatch bounds bank words memory) ≡ length memory
+  unfolding drawBatch
+  length-batch = length-tasks (tasksDrawn (readBatch bounds bank words)) memory
+
+  pub outside-batch : (i : ℕ) → OutsideAll (tasksDrawn (readBatch bounds bank words)) i → getD (drawBatch bounds bank words memory) i 0 ≡ getD memory i 0
+  unfolding drawBatch
+  outside-batch i out = outside-tasks bounds (tasksDrawn (readBatch bounds bank words)) (drawn-sound bounds bank words) memory i out

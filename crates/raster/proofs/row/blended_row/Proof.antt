@@ -1,0 +1,107 @@
+use mathlib.Core.Path.{sym, ap, ap₂, _∙_}
+use Prim.Native.Nat.{ℕ, _+_, _*_}
+use native.Mathlib.Omega.{arith}
+use denote.Ref.{now}
+use Rattle.pixel.specs.Formats.{bytesOf}
+use Rattle.surface.specs.Drawn.{loaded}
+use Rattle.rows.specs.Row.{colourAt}
+use Rattle.rows.specs.Mixed.{mixed}
+use Rattle.raster.specs.Task.{destinationColour}
+use Rattle.raster.proofs.Pixel.{pixel-blended}
+use Rattle.raster.proofs.Place.{ordered, room, fetches, destination-row, length-window, row-fits, row-drawn}
+use borrow.Author.Needs.{needs}
+use Rattle.raster.proofs.row.blended_row.Statement.{statement}
+use Rattle.raster.proofs.row.blended_row.Tie as tie
+
+cast-width : tie.Need-cast-width
+cast-width c = search needs
+
+row-start-requires : tie.Need-row-start-requires
+row-start-requires c κs = search needs
+
+sub-at : tie.Need-sub-at
+sub-at c = search needs
+
+row-start-requires-2 : tie.Need-row-start-requires-2
+row-start-requires-2 c κs = search needs
+
+fetch-source-requires : tie.Need-fetch-source-requires
+fetch-source-requires c κs =
+    let s = c .before .before .before .before .before .before .before .before .before .before .before in
+    fetches (s .pre .0 .ask) (now (s .args .source)) (s .pre .0 .source)
+
+fetch-row-requires : tie.Need-fetch-row-requires
+fetch-row-requires c κs =
+    let t = c .before .before .before .before .before .before .before in
+    let s = t .before .before .before .before .before .before .before .before .before in
+    let p = s .pre .0 in
+    (omega (arith, t .row-start2 .ensures, destination-row (p .ask) (s .pre .1)), omega (arith, p .destination, p .ask .drawable .clear .output .narrow))
+
+sub-blend-at : tie.Need-sub-blend-at
+sub-blend-at c = ordered (c .before .before .before .before .before .before .before .before .before .before .before .before .before .before .before .before .before .before .before .pre .0 .ask)
+
+part-blend-at-start : tie.Need-part-blend-at-start
+part-blend-at-start c =
+    let r = c .before .before .before .before .before .before .before .before .before .before .before .before .before .before .before .before .before .before .before .pre .0 .ask in
+    omega (arith, ordered r, room r)
+
+part-blend-at-end : tie.Need-part-blend-at-end
+part-blend-at-end c = search needs
+
+blend-at-requires : tie.Need-blend-at-requires
+blend-at-requires c κs =
+    let g = c .before .before .before .before .before in
+    let f = g .before .before .before .before .before in
+    let t = f .before .before .before .before in
+    let p = t .before .before .before .before .before .before .before .before .pre .0 in
+    record {
+      inside = omega (arith, row-fits (p .ask) _ (t .row-start .ensures), length-window (p .ask));
+      source = omega (arith, f .fetch-source .kept .0, p .source, p .ask .drawable .clear .output .narrow);
+      destination = omega (arith, g .fetch-row .kept .0, p .destination, p .ask .drawable .clear .output .narrow);
+    }
+
+same-length : tie.Need-same-length
+same-length c = search needs
+
+same-length-2 : tie.Need-same-length-2
+same-length-2 c = search needs
+
+same-length-3 : tie.Need-same-length-3
+same-length-3 c = search needs
+
+returns : tie.Need-returns
+unfolding destinationColour colourAt
+returns c =
+    let g = c .before .before .before .before .before .before .before .before in
+    let f = g .before .before .before .before .before in
+    let u = f .before .before .before in
+    let t = u .before in
+    let s = t .before .before .before .before .before .before .before .before in
+    let a = s .args in
+    let d = a .task .destination .surface in
+    let b = c .before .before .blend-at in
+    row-drawn (s .pre .0 .ask) _ (t .row-start .result) (b .last .0) (t .row-start .ensures) (b .ensures)
+    (λ x l.
+    ap₂ (mixed (a .task .blending) (a .task .source .alpha) (a .task .destination .alpha))
+    (f .fetch-source .ensures x l)
+    (g .fetch-row .ensures x l ∙ ap (λ (i : ℕ). loaded (d .format) (now (a .memory)) (i + x * bytesOf (d .format))) (u .row-start2 .ensures))
+    ∙ sym (pixel-blended (a .task) (now (a .memory)) x (a .y) (s .pre .1)))
+
+pub blended-row-spec : {M : Type 1} → statement M
+blended-row-spec =
+    tie.close
+    (tie.spec
+    cast-width
+    row-start-requires
+    sub-at
+    row-start-requires-2
+    fetch-source-requires
+    fetch-row-requires
+    sub-blend-at
+    part-blend-at-start
+    part-blend-at-end
+    blend-at-requires
+    same-length
+    same-length-2
+    same-length-3
+    returns)

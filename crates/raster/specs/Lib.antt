@@ -1,0 +1,5 @@
+-- Tasks and batches drawn.
+pub mod Task
+pub mod Batch
+pub mod Clear
+pub mod Row

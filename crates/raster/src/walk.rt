@@ -1,0 +1,72 @@
+// A batch: judged whole, and then its tasks drawn one after the other.
+ghost use mathlib.Core.Path.{_≡_};
+ghost use lib.ListN.{length};
+ghost use Rattle.ring.specs.Segment.{batchWords};
+ghost use Rattle.batch.specs.Batch.{readBatch, verdictOf};
+ghost use Rattle.raster.specs.Task.{drawTasks};
+ghost use Rattle.raster.specs.Batch.{drawBatch};
+ghost use Rattle.raster.specs.Clear.{Room};
+use crate::task::draw_task;
+use batch::Step;
+use batch::Verdict;
+use batch::judge;
+use batch::next_task;
+use register::Bank;
+use rules::Bounds;
+
+// Draws the tasks of the batch of `size` bytes at an offset of the ring, read from a bank on: the second walk, which begins with
+// the bank that the first one began with. A batch that was found faultless is drawn whole.
+pub fn draw_batch(
+    memory: &mut [u8],
+    ring: &[u8],
+    offset: usize,
+    size: usize,
+    bounds: Bounds,
+    bank: Bank,
+)
+    requires { ⌜ Room bounds (length (now memory)) ⌝ }
+    ensures { λ _. ⌜ now (memory .exit) ≡ drawTasks (readBatch bounds bank (batchWords (now (ring .entry)) offset size) .tasks) (now (memory .entry)) ⌝ }
+{
+    let window = bounds.window;
+    let mut current = bank;
+    let mut at = 0;
+    loop {
+        match next_task(ring, offset, size, bounds, current, at) {
+            Step::Task(task, b, next) => {
+                draw_task(memory, window, task);
+                current = b;
+                at = next;
+            }
+            Step::Faulty(_, _, _) => {
+                return;
+            }
+            Step::End => {
+                return;
+            }
+        }
+    }
+}
+
+// Judges a batch, and draws it if it is faultless.
+pub fn run_batch(
+    memory: &mut [u8],
+    ring: &[u8],
+    offset: usize,
+    size: usize,
+    bounds: Bounds,
+    bank: Bank,
+) -> Verdict
+    requires { ⌜ Room bounds (length (now memory)) ⌝ }
+    ensures { λ r. ⌜ (r ≡ verdictOf (readBatch bounds bank (batchWords (now (ring .entry)) offset size))) × (now (memory .exit) ≡ drawBatch bounds bank (batchWords (now (ring .entry)) offset size) (now (memory .entry))) ⌝ }
+{
+    let verdict = judge(ring, offset, size, bounds, bank);
+    match verdict {
+        Verdict::Faultless(_) => {
+            draw_batch(memory, ring, offset, size, bounds, bank);
+            return verdict;
+        }
+        Verdict::Faulty(_, _) => {
+            return verdict;
+        }
+    }
+}

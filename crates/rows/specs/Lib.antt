@@ -1,0 +1,3 @@
+-- Rows of pixels.
+pub mod Row
+pub mod Mixed

@@ -1,0 +1,18 @@
+-- A source colour blended with a destination colour (01, "Pixels").
+use Rattle.pixel.specs.Alpha.{withAlpha}
+use Rattle.pixel.specs.Blending.{blended}
+use Rattle.pixel.specs.declared.colour.Colour.{Colour}
+use Rattle.register.specs.declared.task.Alpha.{Alpha}
+use Rattle.register.specs.declared.task.Blending.{Blending}
+
+-- the colour with which a source pixel goes into blending, before its alpha mode: its own
+abbrev pub prepared : Blending → Colour → Colour
+prepared blending c = c
+
+-- a colour with its alpha by a surface's alpha mode
+abbrev pub alphaed : Alpha → Colour → Colour
+alphaed a c = withAlpha (a .mode) (a .global) c
+
+-- both colours have their alphas by their surfaces' modes, and are blended by the rule
+unfoldable pub mixed : Blending → Alpha → Alpha → Colour → Colour → Colour
+mixed blending source destination s d = blended (blending .rule) (alphaed source (prepared blending s)) (alphaed destination d)

@@ -1,0 +1,84 @@
+// Rows of colours, fetched into a buffer.
+ghost use mathlib.Core.Path.{_≡_};
+ghost use Prim.Native.Nat.{ℕ, _+_, _*_, _≤_, _<_};
+ghost use lib.ListN.{length, getD};
+ghost use Rattle.pixel.specs.Formats.{bytesOf};
+ghost use Rattle.transform.specs.Transform.{Within, rotatedSize};
+ghost use Rattle.surface.specs.Surface.{pixelStart};
+ghost use Rattle.surface.specs.Drawn.{loaded};
+ghost use Rattle.rows.specs.Row.{wordColour, Spells, sizeOf, colourAt, originOf, Along};
+use pixel::Colour;
+use pixel::Format;
+use surface::Surface;
+use surface::load;
+use transform::Point;
+use transform::Size;
+use transform::Transform;
+
+// The word that stands for a colour.
+fn word_of(c: Colour) -> u32
+    ensures { λ r. ⌜ wordColour r ≡ c ⌝ }
+{
+    Format::Argb8888.pack(c)
+}
+
+// Puts a colour in the first words of a buffer.
+pub fn spread(words: &mut [u32], width: usize, c: Colour)
+    requires { ⌜ width ≤ length (now words) ⌝ }
+    ensures { λ _. ⌜ Spells (now (words .exit)) width (λ x. c) ⌝ }
+{
+    let word = word_of(c);
+    let mut x = 0;
+    while x < width {
+        words[x] = word;
+        x += 1;
+    }
+}
+
+// Fetches pixels that lie side by side, the first of them at an address.
+pub fn fetch_row(words: &mut [u32], width: usize, memory: &[u8], start: usize, format: Format)
+    requires { ⌜ (start + width * bytesOf format ≤ length (now memory)) × (width ≤ length (now words)) ⌝ }
+    ensures { λ _. ⌜ Spells (now (words .exit)) width (λ x. loaded format (now (memory .entry)) (start + x * bytesOf format)) ⌝ }
+{
+    let bytes = format.bytes();
+    let mut x = 0;
+    let mut at = start;
+    while x < width {
+        words[x] = word_of(load(memory, at, format));
+        at = at + bytes;
+        x += 1;
+    }
+}
+
+// Where the pixel of a surface lies that is output pixel (x, y).
+fn origin(s: Surface, transform: Transform, x: usize, y: usize) -> usize
+    requires { ⌜ Within (rotatedSize (transform .rotation) (sizeOf s)) (record { x = x; y = y }) ⌝ }
+    ensures { λ r. ⌜ r ≡ pixelStart s (originOf s transform x y .x) (originOf s transform x y .y) ⌝ }
+{
+    let size = Size {
+        width: s.width as usize,
+        height: s.height as usize,
+    };
+    let p = transform.source_of(size, Point { x, y });
+    s.pixel_start(p.x as u16, p.y as u16)
+}
+
+// Fetches the pixels of a surface that are the first of output row y.
+pub fn fetch_along(
+    words: &mut [u32],
+    width: usize,
+    memory: &[u8],
+    s: Surface,
+    transform: Transform,
+    y: usize,
+)
+    requires { ⌜ Along (now memory) (now words) s (transform .rotation) y width ⌝ }
+    ensures { λ _. ⌜ Spells (now (words .exit)) width (λ x. colourAt s (now (memory .entry)) (originOf s transform x y)) ⌝ }
+{
+    let format = s.format;
+    let mut x = 0;
+    while x < width {
+        words[x] = word_of(load(memory, origin(s, transform, x, y), format));
+        x += 1;
+    }
+}

@@ -1,0 +1,48 @@
+// Runs a stream of cases on the crates that write and draw tasks.
+mod drawing;
+mod writing;
+
+use cases::line;
+
+// The text of a case's line: its length. Op 0 is text.
+fn answer(op: u8, given: &mut [u8], line: &mut [u8]) -> usize {
+    match op {
+        0 => line::copy(line, given),
+        0xA0 => drawing::run(given, line),
+        0xB0 => writing::any(given, line),
+        0xB1 => writing::solid(given, line),
+        _ => line::refused(line),
+    }
+}
+
+fn run_case(op: u8, size: usize, buffer: &mut [u8], line: &mut [u8]) {
+    if size <= buffer.len() {
+        let n = answer(op, &mut buffer[0..size], line);
+        cases::print(line, n);
+    }
+}
+
+// Runs the next case. Answers false if there is none.
+fn run_next(buffer: &mut [u8], line: &mut [u8]) -> bool {
+    let c = cases::next(buffer);
+    if c.more {
+        run_case(c.op, c.size, buffer, line);
+    }
+    c.more
+}
+
+// Nothing says that the input ends, so that the turns are counted.
+fn run_all(buffer: &mut [u8], line: &mut [u8]) {
+    let mut more = true;
+    let mut turns = u64::MAX;
+    while turns > 0 && more {
+        more = run_next(buffer, line);
+        turns -= 1;
+    }
+}
+
+fn main() {
+    let mut buffer = io::buffer();
+    let mut line = io::large_buffer();
+    run_all(&mut buffer, &mut line);
+}

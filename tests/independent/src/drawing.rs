@@ -1,0 +1,68 @@
+//! A task drawn (01, "Pixels"): the output's pixels are gone through in order, and all of them are worked out from the memory
+//! before the task.
+use crate::batch::{self, Bounds};
+use crate::pixel::{self, Colour};
+use crate::registers::{size, Bank, Task};
+use crate::surface;
+use crate::transform::{source_of, turned_size, Point};
+
+/// The source's colour for an output pixel.
+fn source(task: &Task, memory: &[u8], at: Point) -> Colour {
+    if task.is_colour {
+        return task.colour;
+    }
+    let p = source_of(task.setting, size(&task.source), at).expect("an output pixel");
+    loaded(&task.source, memory, p)
+}
+
+fn loaded(of: &surface::Surface, memory: &[u8], p: Point) -> Colour {
+    surface::load(memory, of.pixel_start(p.x as u16, p.y as u16), of.format).expect("a pixel in memory")
+}
+
+/// The colour of an output pixel.
+fn colour(task: &Task, memory: &[u8], at: Point) -> Colour {
+    let source = source(task, memory, at);
+    if !task.blend {
+        return source;
+    }
+    let alpha = |(mode, global): (u32, u8), c| pixel::with_alpha(mode, global, c).expect("an alpha mode");
+    let destination = alpha(task.destination_alpha, loaded(&task.destination, memory, at));
+    pixel::blend(task.factors.0, task.factors.1, alpha(task.source_alpha, source), destination).expect("two factors")
+}
+
+/// Memory after a task that passes 25 to 28.
+pub fn drawn(task: &Task, memory: &[u8]) -> Vec<u8> {
+    let output = turned_size(0, size(&task.output));
+    let pixels = (0..output.height).flat_map(|y| (0..output.width).map(move |x| Point { x, y }));
+    let mut after = memory.to_vec();
+    for p in pixels {
+        let at = task.output.pixel_start(p.x as u16, p.y as u16) as usize;
+        let bytes = task.output.format.pack(colour(task, memory, p)).to_le_bytes();
+        after[at..at + task.output.format.bytes].copy_from_slice(&bytes[..task.output.format.bytes]);
+    }
+    after
+}
+
+/// Memory after a batch: a faulty one draws nothing at all. Status, fault and place beside it.
+pub fn drawn_batch(words: &[u32], bounds: &Bounds, memory: &[u8]) -> ([u32; 3], Vec<u8>) {
+    let reading = batch::read(words, bounds, &Bank::reset());
+    let tasks = if reading.fault.is_none() { &reading.tasks[..] } else { &[] };
+    let after = tasks.iter().fold(memory.to_vec(), |memory, task| drawn(task, &memory));
+    (reading.answer(), after)
+}
+
+#[cfg(test)]
+mod tests {
+    use super::*;
+    use crate::batch_cases::WORKED;
+
+    /// The worked words fill two pixels of half-clear red.
+    #[test]
+    fn worked_words() {
+        let bounds = Bounds { window: 16384..28672, common: 16384 };
+        let (answer, memory) = drawn_batch(&WORKED, &bounds, &[0; 65536]);
+        assert_eq!(answer, [0x00010001, 0, 0]);
+        assert_eq!(memory[16383..16393], [0, 0, 0, 255, 128, 0, 0, 255, 128, 0]);
+        assert_eq!(memory.iter().filter(|byte| **byte != 0).count(), 4);
+    }
+}

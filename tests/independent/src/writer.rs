@@ -1,0 +1,88 @@
+//! The task writer (01, "Writer and replay"): a task's fields as the 80 bytes of one task.
+use crate::registers::Bank;
+
+/// Each field's register, its lowest bit and its width, in the order in which fields are given.
+pub const FIELDS: [(u32, u32, u32); 29] = [
+    // source: width, height, stride, address, format
+    (0x014, 0, 13), (0x014, 16, 13), (0x018, 0, 16), (0x020, 0, 32), (0x010, 8, 7),
+    // source: alpha mode, global alpha, mode, colour, enable
+    (0x010, 22, 2), (0x010, 24, 8), (0x010, 2, 2), (0x01C, 0, 32), (0x010, 0, 1),
+    // source: H flip, V flip, quarter turns
+    (0x010, 6, 1), (0x010, 7, 1), (0x010, 4, 2),
+    // destination: width, height, stride, address, format
+    (0x054, 0, 13), (0x054, 16, 13), (0x058, 0, 16), (0x060, 0, 32), (0x050, 8, 7),
+    // destination: alpha mode, global alpha, enable
+    (0x050, 22, 2), (0x050, 24, 8), (0x050, 0, 1),
+    // output: width, height, stride, address, format
+    (0x104, 0, 13), (0x104, 16, 13), (0x108, 0, 16), (0x110, 0, 32), (0x100, 8, 7),
+    // blending: source factor, destination factor, on
+    (0x090, 11, 3), (0x090, 8, 3), (0x090, 0, 1),
+];
+
+/// The groups of a task: the first register's offset and how many follow. The last one ends the task.
+const GROUPS: [(u32, u32); 6] = [(0x010, 5), (0x050, 3), (0x060, 1), (0x090, 1), (0x100, 3), (0x110, 1)];
+
+/// What a task's registers hold, if every field fits its bits and its register's rule.
+fn registers(fields: &[u32; 29]) -> Option<Bank> {
+    let mut bank = Bank::reset();
+    for (offset, words) in gathered(fields)? {
+        bank.write(offset, words).ok()?;
+    }
+    Some(bank)
+}
+
+/// Each register's word put together of its fields.
+fn gathered(fields: &[u32; 29]) -> Option<Vec<(u32, u32)>> {
+    let mut words: Vec<(u32, u32)> = crate::registers::offsets().into_iter().map(|offset| (offset, 0)).collect();
+    for ((offset, low, width), field) in FIELDS.iter().zip(fields) {
+        if u64::from(*field) >= 1 << width {
+            return None;
+        }
+        let word = words.iter_mut().find(|(at, _)| at == offset).expect("a register of the table");
+        word.1 |= field << low;
+    }
+    Some(words)
+}
+
+/// The 80 bytes, or the refusal's number.
+pub fn written(fields: &[u32; 29], room: usize) -> Result<Vec<u8>, u32> {
+    let bank = registers(fields).ok_or(24u32)?;
+    if room < 80 {
+        return Err(12);
+    }
+    let mut bytes = Vec::new();
+    for (i, (offset, count)) in GROUPS.iter().enumerate() {
+        let end = u32::from(i + 1 == GROUPS.len());
+        bytes.extend((offset << 16 | 4 * count | end).to_le_bytes());
+        bytes.extend((0..*count).flat_map(|k| bank.word(offset + 4 * k).to_le_bytes()));
+    }
+    Ok(bytes)
+}
+
+/// The fields of a task with everything but the given ones as at reset.
+pub fn reset_with(changes: &[(usize, u32)]) -> [u32; 29] {
+    let mut fields = [0; 29];
+    fields[26] = 2;
+    fields[27] = 3;
+    for (at, value) in changes {
+        fields[*at] = *value;
+    }
+    fields
+}
+
+#[cfg(test)]
+mod tests {
+    use super::*;
+    use crate::batch_cases::{bytes, WORKED};
+
+    /// Colour 0x80FF0000, 2 by 1, at 16384, stride 8, rest at reset.
+    #[test]
+    fn worked_words() {
+        let fields = reset_with(&[(0, 2), (1, 1), (7, 1), (8, 0x80FF0000), (9, 1), (21, 2), (22, 1), (23, 8), (24, 16384)]);
+        assert_eq!(written(&fields, 80), Ok(bytes(&WORKED)));
+        assert_eq!(written(&fields, 79), Err(12));
+        assert_eq!(written(&reset_with(&[(0, 8192)]), 0), Err(24));
+        assert_eq!(written(&reset_with(&[(4, 1)]), 100), Err(24));
+        assert!(written(&reset_with(&[(2, 7)]), 100).is_ok());
+    }
+}
