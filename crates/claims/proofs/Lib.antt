@@ -1,0 +1,3 @@
+-- The promises hold.
+pub mod Confined
+pub mod Theorem

@@ -1,0 +1,3 @@
+-- What is promised of whole lists of calls.
+pub mod Way
+pub mod Demand3

@@ -1,0 +1,1 @@
+// What is promised of whole lists of calls, at the real definitions. It has no code.
