@@ -1,5 +1,5 @@
-//! What a correct engine answers, computed by a program of its own from the papers alone: no code or definition of the
-//! engine is used. It writes the cases that the engine's test programs read, and the lines that they must print.
+//! What a correct engine answers, computed by a program of its own that shares no code with the engine (docs/DECISIONS.md
+//! says how independent it is). It writes the cases that the engine's test programs read, and the lines that they must print.
 //!
 //! independent NAME DIR    writes DIR/stdin and DIR/stdout for the program crate NAME
 //! independent all DIR     does so for each program crate, in DIR/NAME
