@@ -1,3 +1,13 @@
 -- The promises hold.
 pub mod Confined
+pub mod OfModel
+pub mod Cases
+pub mod Related
+pub mod Tables
+pub mod Steps
+pub mod Runs
+pub mod Follows
+pub mod InTime
+pub mod Fruitless
 pub mod Theorem
+pub mod Twelve

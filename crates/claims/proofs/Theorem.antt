@@ -1,19 +1,50 @@
--- Demand 3 of the model.
+-- Demand 3 holds.
+use mathlib.Core.Path.{_≡_}
+use mathlib.Core.List.{List}
 use Prim.Native.Nat.{ℕ}
-use Rattle.register.specs.Bank.{resetBank}
-use Rattle.model.specs.Calls.{Setup}
-use Rattle.model.proofs.Theorems.{claims}
-use Rattle.claims.specs.Demand3.{Demand3, real}
-use Rattle.claims.proofs.Confined.{confined}
+use lib.ListN.{length}
+use Rattle.model.specs.Calls.{Setup, Call}
+use Rattle.model.specs.TwoRuns.{Twins}
+use Rattle.claims.specs.OfModel.{real}
+use Rattle.claims.specs.Engine.{Accepted}
+use Rattle.claims.specs.Demand3.{Separate, Unmoved, Promise}
+use Rattle.claims.proofs.OfModel.{of-model}
+use Rattle.claims.proofs.Cases.{harmless}
+use Rattle.claims.proofs.Follows.{like-model}
+use Rattle.claims.proofs.InTime.{in-time}
+use Rattle.claims.proofs.Fruitless.{fruitless}
 
-pub demand-3 : (setup : Setup) (ring : ℕ) → Demand3 setup ring
-demand-3 setup ring =
-    let c = claims real setup ring in
-    record {
-      separate = c .separate (confined resetBank);
-      unmoved = c .unmoved (confined resetBank);
-      holds = c .holds;
-      in-order = c .in-order;
-      in-time = c .in-time;
-      harmless = c .harmless;
-    }
+module _ (setup : Setup) (A : Accepted setup) where
+  separate : (ring : List ℕ) (calls : List Call) (memory : List ℕ) → Separate setup ring calls memory
+  separate ring calls memory =
+      let same = like-model setup ring A calls memory .every-byte in
+      let q = of-model setup (length ring) .separate calls memory in
+      record {
+        window = rw same (q .window);
+        no-window = rw same (q .no-window);
+        common = rw same (q .common);
+        size = rw same (q .size);
+      }
+
+  unmoved : (client : ℕ) (ring ring′ : List ℕ) (calls calls′ : List Call) (memory memory′ : List ℕ) → length ring ≡ length ring′ →
+      Twins real setup (length ring) client calls calls′ memory memory′ → Unmoved setup ring client ring′ calls calls′ memory memory′
+  unmoved client ring ring′ calls calls′ memory memory′ long t =
+      let one = like-model setup ring A calls memory in
+      let two = like-model setup ring′ A calls′ memory′ in
+      let q = of-model setup (length ring) .unmoved client calls calls′ memory memory′ t in
+      record {
+        told = rw (one .every-answer, two .every-answer, ← long) (q .told);
+        size = rw (one .every-byte, two .every-byte, ← long) (q .size);
+        bytes = rw (one .every-byte, two .every-byte, ← long) (q .bytes);
+      }
+
+-- the promise, with no premise but that set up was accepted
+pub promise : Promise
+promise setup ring A = record {
+  like-model = like-model setup ring A;
+  separate = separate setup A ring;
+  unmoved = λ client ring′. unmoved setup A client ring ring′;
+  in-time = in-time setup ring A;
+  harmless = harmless;
+  fruitless = fruitless setup ring A;
+}

@@ -1,6 +1,5 @@
 -- How a batch is judged and drawn, by demand 2's definitions (01, "The book of demand 3": run "judges and draws it in memory with its
 -- desk's window, by the sections on groups, faults and pixels").
-use mathlib.Core.List.{List}
 use Prim.Native.Nat.{ℕ}
 use Rattle.word.specs.Word.{words}
 use Rattle.range.specs.Range.{runOf}

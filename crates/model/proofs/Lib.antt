@@ -7,5 +7,4 @@ pub mod TwoRuns
 pub mod Queue
 pub mod Theorems
 pub mod Locality
-pub mod Simulation
 pub mod Examples

@@ -21,11 +21,11 @@ unfolding firstOf
 eleven rows v e = rw e
 
 -- no row holds
-abbrev Clear : List Row → Type 0
+abbrev pub Clear : List Row → Type 0
 Clear [] = Unit {0}
 Clear ((n when t) ∷ rows) = 0 < n → (t ≡ false) × Clear rows
 
-clear : (rows : List Row) → firstOf rows ≡ 0 → Clear rows
+pub clear : (rows : List Row) → firstOf rows ≡ 0 → Clear rows
 unfolding firstOf
 clear [] e = tt
 clear ((n when true) ∷ rows) e = λ p. absurd (omega arith)

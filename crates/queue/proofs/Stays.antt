@@ -60,7 +60,8 @@ submit-same engine ring client batch z =
 
 -- ---- a valid record stays valid
 
-unless-keeps : (P : Record → Type 0) (n : ℕ) (before after : Record) → P before → (n ≡ 0 → P after) → P (unless n before after)
+-- of what was there and what comes of the call, one is left
+pub unless-keeps : {A : Type 0} (P : A → Type 0) (n : ℕ) (before after : A) → P before → (n ≡ 0 → P after) → P (unless n before after)
 unfolding unless
 unless-keeps P zero before after p q = q refl
 unless-keeps P (suc n) before after p q = p

@@ -33,7 +33,7 @@ pub struct Reply {
 }
 
 // A row of the table, and what the rows after it say.
-fn first_of(holds: bool, number: u32, rest: u32) -> u32
+pub fn first_of(holds: bool, number: u32, rest: u32) -> u32
     ensures { λ r. ⌜ r ≡ cond holds number rest ⌝ }
 {
     if holds { number } else { rest }

@@ -1,5 +1,5 @@
 -- The tasks of a batch, drawn a step of the walk at a time.
-use mathlib.Core.Path.{_≡_, refl, sym, ap, _∙_}
+use mathlib.Core.Path.{_≡_, refl, ap, _∙_}
 use mathlib.Core.List.{List, []}
 use Prim.Native.Nat.{ℕ}
 use lib.ListN.{length}
@@ -52,7 +52,9 @@ faulty-drawn r f offset e = by (r .ending) e
 module _ (bounds : Bounds) (bank : Bank) (ws memory : List ℕ) where
   pub faultless-batch : (n : ℕ) → verdictOf (readBatch bounds bank ws) ≡ Faultless n → drawTasks (readBatch bounds bank ws .tasks) memory ≡ drawBatch bounds bank ws memory
   unfolding drawBatch
-  faultless-batch n e = sym (ap (λ (ts : List Task). drawTasks ts memory) (faultless-drawn (readBatch bounds bank ws) n e))
+  faultless-batch n e =
+      let whole = faultless-drawn (readBatch bounds bank ws) n e in
+      cc
 
   pub faulty-batch : (f : Fault) (offset : ℕ) → verdictOf (readBatch bounds bank ws) ≡ Faulty f offset → drawBatch bounds bank ws memory ≡ memory
   unfolding drawBatch drawTasks

@@ -14,6 +14,7 @@ use Rattle.surface.proofs.Outside.{pixel-in-span, length-drawnOn, outside-span,
 use Rattle.surface.proofs.Loaded.{loaded-same}
 use Rattle.register.specs.declared.bank.Bank.{Bank}
 use Rattle.register.specs.declared.task.Task.{Task}
+use Rattle.register.specs.Size.{sizeOf}
 use Rattle.rules.specs.declared.task.Bounds.{Bounds}
 use Rattle.rules.specs.Rules.{commonOf}
 use Rattle.rules.specs.Sound.{Within, Sound, AllSound}
@@ -22,7 +23,7 @@ use Rattle.batch.proofs.Tasks.{drawn-sound}
 use Rattle.model.specs.Windows.{Window}
 use Rattle.model.specs.Drawing.{Agree, Local}
 use Rattle.model.proofs.Locality.{All, local-tasks}
-use Rattle.rows.specs.Row.{sizeOf, colourAt}
+use Rattle.rows.specs.Row.{colourAt}
 use Rattle.raster.specs.Task.{pixelColour, drawTask, drawTasks}
 use Rattle.raster.specs.Batch.{drawBatch}
 use Rattle.raster.proofs.Turn.{stride-some}

@@ -14,7 +14,8 @@ use Rattle.register.specs.declared.task.Source.{Source}
 use Rattle.register.specs.declared.task.SourceMode.{SourceMode}
 use Rattle.register.specs.declared.task.SourceMode.the-variants.{Buffer, Colour}
 use Rattle.register.specs.declared.task.Task.{Task}
-use Rattle.rows.specs.Row.{sizeOf, colourAt, originOf}
+use Rattle.register.specs.Size.{sizeOf}
+use Rattle.rows.specs.Row.{colourAt, originOf}
 use Rattle.rows.specs.Mixed.{mixed}
 use Rattle.raster.specs.Task.{colourBy, sourceColour, destinationColour, pixelColour}
 use Rattle.raster.specs.Clear.{Clear}

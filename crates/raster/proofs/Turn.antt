@@ -23,7 +23,8 @@ use Rattle.surface.proofs.Rows.{next, rows-else, none-rows, turn-rows}
 use Rattle.surface.proofs.Outside.{pixel-in-row}
 use Rattle.surface.proofs.Loaded.{loaded-same}
 use Rattle.register.specs.declared.task.Task.{Task}
-use Rattle.rows.specs.Row.{sizeOf, colourAt}
+use Rattle.register.specs.Size.{sizeOf}
+use Rattle.rows.specs.Row.{colourAt}
 use Rattle.raster.specs.Task.{pixelColour, drawTask}
 use Rattle.raster.specs.Clear.{Rectangle, Separate, Clear}
 use Rattle.raster.specs.Row.{rowDrawn, drawRow}

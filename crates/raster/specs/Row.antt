@@ -16,7 +16,7 @@ use Rattle.surface.specs.declared.Surface.{Surface}
 use Rattle.register.specs.Task.{isBuffer}
 use Rattle.register.specs.declared.task.Source.{Source}
 use Rattle.register.specs.declared.task.Task.{Task}
-use Rattle.rows.specs.Row.{sizeOf}
+use Rattle.register.specs.Size.{sizeOf}
 use Rattle.raster.specs.Task.{pixelColour}
 use Rattle.raster.specs.Clear.{Drawable}
 

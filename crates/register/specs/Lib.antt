@@ -2,3 +2,4 @@
 pub mod Table
 pub mod Bank
 pub mod Task
+pub mod Size

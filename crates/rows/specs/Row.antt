@@ -11,13 +11,13 @@ use Rattle.pixel.specs.declared.format.Format.the-variants.{Argb8888}
 use Rattle.transform.specs.Transform.{rotatedSize, sourceOf}
 use Rattle.transform.specs.declared.Rotation.{Rotation}
 use Rattle.transform.specs.declared.Transform.{Transform}
-use Rattle.transform.specs.declared.Size.{Size}
 use Rattle.transform.specs.declared.Point.{Point}
 use Rattle.surface.specs.Surface.{pixelStart, span}
 use Rattle.surface.specs.Memory.{mapi}
 use Rattle.surface.specs.Rows.{rowByte}
 use Rattle.surface.specs.Drawn.{loaded}
 use Rattle.surface.specs.declared.Surface.{Surface}
+use Rattle.register.specs.Size.{sizeOf}
 
 -- ---- in a buffer
 
@@ -30,9 +30,6 @@ abbrev pub Spells : List ℕ → ℕ → (ℕ → Colour) → Type 0
 Spells words width p = (x : ℕ) → x < width → wordColour (getD words x 0) ≡ p x
 
 -- ---- in memory
-
-abbrev pub sizeOf : Surface → Size
-sizeOf s = record { width = s .width; height = s .height }
 
 -- the colour of a surface's pixel
 unfoldable pub colourAt : Surface → List ℕ → Point → Colour

@@ -20,12 +20,13 @@ use Rattle.surface.specs.Surface.{rowLength, span}
 use Rattle.surface.specs.declared.Surface.{Surface}
 use Rattle.surface.proofs.Sizes.{bytes-some}
 use Rattle.register.specs.declared.task.Task.{Task}
+use Rattle.register.specs.Size.{sizeOf}
 use Rattle.rules.specs.declared.fault.Fault.{Fault}
 use Rattle.rules.specs.declared.fault.Fault.the-variants.{BadSurface, SizeMismatch, OutOfBounds, Overlap}
 use Rattle.rules.specs.declared.task.Bounds.{Bounds}
 use Rattle.rules.specs.declared.task.Check.{Check}
 use Rattle.rules.specs.declared.task.Check.the-variants.{Fine, Wrong}
-use Rattle.rules.specs.Rules.{reads, badSide, badSides, badStride, badSource, badOutput, badDestination, badSurface, isUpright, turnedColour, sizeOf, turnedSize, sameSize, sizeMismatch, commonOf, inWindow, inReach, outOfBounds, sameFormat, samePlace, overlap, taskFault}
+use Rattle.rules.specs.Rules.{reads, badSide, badSides, badStride, badSource, badOutput, badDestination, badSurface, isUpright, turnedColour, turnedSize, sameSize, sizeMismatch, commonOf, inWindow, inReach, outOfBounds, sameFormat, samePlace, overlap, taskFault}
 use Rattle.rules.specs.Sound.{Sides, Rows, InReach, Apart, SoundSource, SoundDestination, Sound}
 
 -- a rule that is not broken, and those after it

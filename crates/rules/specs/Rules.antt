@@ -17,6 +17,7 @@ use Rattle.register.specs.Task.{isBuffer}
 use Rattle.register.specs.declared.task.Source.{Source}
 use Rattle.register.specs.declared.task.Destination.{Destination}
 use Rattle.register.specs.declared.task.Task.{Task}
+use Rattle.register.specs.Size.{sizeOf}
 use Rattle.rules.specs.declared.task.Bounds.{Bounds}
 use Rattle.rules.specs.declared.task.Check.{Check}
 use Rattle.rules.specs.declared.task.Check.the-variants.{Fine, Wrong}
@@ -65,9 +66,6 @@ isUpright CounterClockwise = false
 -- a turn in colour mode
 abbrev pub turnedColour : Source → Bool
 turnedColour s = not (reads s) && not (isUpright (s .transform .rotation))
-
-abbrev pub sizeOf : Surface → Size
-sizeOf s = record { width = s .width; height = s .height }
 
 -- the turned source size
 abbrev pub turnedSize : Source → Size

@@ -13,8 +13,9 @@ use Rattle.surface.specs.declared.Surface.{Surface}
 use Rattle.register.specs.declared.task.Source.{Source}
 use Rattle.register.specs.declared.task.Destination.{Destination}
 use Rattle.register.specs.declared.task.Task.{Task}
+use Rattle.register.specs.Size.{sizeOf}
 use Rattle.rules.specs.declared.task.Bounds.{Bounds}
-use Rattle.rules.specs.Rules.{reads, sizeOf, turnedSize, commonOf}
+use Rattle.rules.specs.Rules.{reads, turnedSize, commonOf}
 
 pub record Sides (s : Surface) : Type 0 where
   pub wide : 0 < s .width

@@ -1,6 +1,6 @@
 // The rules of a task. Each test is true where the task breaks the rule.
 ghost use mathlib.Core.Path.{_≡_};
-ghost use Rattle.rules.specs.Rules.{badSide, badSides, badStride, badSource, badOutput, badDestination, badSurface, isUpright, turnedColour, sizeOf, turnedSize, sameSize, sizeMismatch, inWindow, inReach, outOfBounds, sameFormat, samePlace, overlap, taskFault};
+ghost use Rattle.rules.specs.Rules.{badSide, badSides, badStride, badSource, badOutput, badDestination, badSurface, isUpright, turnedColour, turnedSize, sameSize, sizeMismatch, inWindow, inReach, outOfBounds, sameFormat, samePlace, overlap, taskFault};
 use crate::fault::Fault;
 use pixel::Format;
 use range::Range;
@@ -10,6 +10,7 @@ use register::Task;
 use surface::Surface;
 use transform::Rotation;
 use transform::Size;
+ghost use Rattle.register.specs.Size.{sizeOf};
 
 // What a batch may touch: it draws in its client's window, and may read that and common, the first part of memory.
 pub struct Bounds {

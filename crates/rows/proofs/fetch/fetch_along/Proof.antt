@@ -9,7 +9,8 @@ use Rattle.transform.specs.Transform.{Within, rotatedSize}
 use Rattle.transform.proofs.Inside.{source-within}
 use Rattle.surface.specs.Drawn.{loaded}
 use Rattle.surface.proofs.Outside.{pixel-in-span}
-use Rattle.rows.specs.Row.{Spells, sizeOf, colourAt, originOf}
+use Rattle.register.specs.Size.{sizeOf}
+use Rattle.rows.specs.Row.{Spells, colourAt, originOf}
 use Rattle.rows.proofs.Words.{more-spelt}
 use Rattle.rows.proofs.fetch.fetch_along.Statement.{statement}
 use Rattle.rows.proofs.fetch.fetch_along.Tie as tie

@@ -5,7 +5,8 @@ use Rattle.transform.specs.Transform.{Within}
 use Rattle.transform.specs.declared.Point.{Point}
 use Rattle.transform.proofs.Inside.{source-within}
 use Rattle.surface.specs.Surface.{pixelStart}
-use Rattle.rows.specs.Row.{sizeOf, originOf}
+use Rattle.register.specs.Size.{sizeOf}
+use Rattle.rows.specs.Row.{originOf}
 use Rattle.rows.proofs.fetch.origin.Statement.{statement}
 use Rattle.rows.proofs.fetch.origin.Tie as tie
 

@@ -1,0 +1,114 @@
+-- Each call by its refusal number: refused, and then nothing changes, or done.
+use mathlib.Core.Path.{_≡_, refl}
+use mathlib.Core.List.{List}
+use Prim.Native.Nat.{ℕ, zero, suc}
+use native.Mathlib.Omega.{arith}
+use lib.ListN.{length}
+use Rattle.ring.specs.Copied.{copied}
+use Rattle.record.specs.declared.Window.{Window as Place}
+use Rattle.record.specs.Slots.{ready as readyOf, countOf}
+use Rattle.record.specs.Queue.{writeOffset}
+use Rattle.record.specs.declared.Record.{Record}
+use Rattle.queue.specs.declared.Answer.the-variants.{Opened, Accepted, Ready}
+use Rattle.queue.specs.Answers.{numberOf, valueOf, answered as replied}
+use Rattle.queue.specs.Refusals.{firstOf, openTable, pendingTable}
+use Rattle.queue.specs.Calls.{unless, withClient, openOf, newBatch, withBatch, submitNumber, submitOf, submitRing, pendingOf}
+use Rattle.engine.specs.declared.Completion.{Completion}
+use Rattle.engine.specs.declared.Outcome.the-variants.{Completed}
+use Rattle.engine.specs.Outcome.{numberOf as refusalOf, valuesOf}
+use Rattle.engine.specs.Run.{runNumber, oldest, oldestVerdict, withoutOldest, answered, runOf, runMemory}
+use Rattle.engine.proofs.Calls.{completion as completionOf, drawn}
+use Rattle.model.specs.Windows.{Window}
+use Rattle.model.specs.Calls.{Call, opens, submit, run, pending, opened, accepted, completed, ready, refused}
+use Rattle.claims.specs.Way.{numbersOf}
+use Rattle.claims.specs.Engine.{State, state, Called, told, completion, called}
+use Rattle.claims.specs.Demand3.{Harmless}
+
+-- the window as the record holds it
+abbrev pub given : Window → Place
+given w = record { start = w .start; length = w .length }
+
+-- what a call is refused with, 0 if it is done
+abbrev pub number : Call → State → ℕ
+number (opens w) s = firstOf (openTable (s .engine) (given w))
+number (submit client bytes) s = submitNumber (s .engine) (s .ring) client bytes
+number run s = runNumber (s .engine) (s .ring) (s .memory)
+number (pending client) s = firstOf (pendingTable (s .engine) client)
+
+-- what comes of a call that is done
+abbrev pub done : Call → State → Called
+done (opens w) s = record { answer = opened (s .engine .opened); after = state (withClient (s .engine) (given w)) (s .ring) (s .memory) }
+done (submit client bytes) s = record {
+  answer = accepted (s .engine .next);
+  after = state (withBatch (s .engine) (newBatch (s .engine) client (length bytes))) (copied (s .ring) (writeOffset (s .engine)) bytes) (s .memory);
+}
+done run s = record {
+  answer = completed (oldest (s .engine) .client) (oldest (s .engine) .ticket) (numbersOf (oldestVerdict (s .engine) (s .ring)));
+  after = state (withoutOldest (s .engine)) (s .ring) (drawn (s .engine) (s .ring) (s .memory));
+}
+done (pending client) s = record { answer = ready (countOf client (readyOf (s .engine .slots))); after = s }
+
+-- the one or the other
+unfoldable pub either : (number : ℕ) → State → Called → Called
+either zero s done = done
+either (suc n) s done = record { answer = refused (suc n); after = s }
+
+-- each kind of call, with any number
+module _ (e e′ : Record) (r r′ m m′ : List ℕ) where
+  case-open : (n client : ℕ) →
+      record { answer = told (numberOf (replied n (Opened client))) (opened (valueOf (replied n (Opened client)))); after = state (unless n e e′) r m } ≡
+      either n (state e r m) (record { answer = opened client; after = state e′ r m })
+  unfolding told replied unless either
+  case-open zero client = refl
+  case-open (suc n) client = refl
+
+  case-submit : (n ticket : ℕ) →
+      record { answer = told (numberOf (replied n (Accepted ticket))) (accepted (valueOf (replied n (Accepted ticket)))); after = state (unless n e e′) (unless n r r′) m } ≡
+      either n (state e r m) (record { answer = accepted ticket; after = state e′ r′ m })
+  unfolding told replied unless either
+  case-submit zero ticket = refl
+  case-submit (suc n) ticket = refl
+
+  case-run : (n : ℕ) (c : Completion) →
+      record { answer = told (refusalOf (answered n (Completed c))) (completion (valuesOf (answered n (Completed c)))); after = state (unless n e e′) r (unless n m m′) } ≡
+      either n (state e r m) (record { answer = completed (c .client) (c .ticket) (numbersOf (c .verdict)); after = state e′ r m′ })
+  unfolding told answered unless either
+  case-run zero c = refl
+  case-run (suc n) c = refl
+
+  case-pending : (n count : ℕ) →
+      record { answer = told (numberOf (replied n (Ready count))) (ready (valueOf (replied n (Ready count)))); after = state e r m } ≡
+      either n (state e r m) (record { answer = ready count; after = state e r m })
+  unfolding told replied either
+  case-pending zero count = refl
+  case-pending (suc n) count = refl
+
+pub by-number : (c : Call) (s : State) → called c s ≡ either (number c s) s (done c s)
+unfolding called openOf submitOf submitRing runOf runMemory pendingOf
+by-number (opens w) s =
+    let d : State = done (opens w) s .after in
+    case-open (s .engine) (d .engine) (s .ring) (d .ring) (s .memory) (d .memory) (number (opens w) s) (s .engine .opened)
+by-number (submit client bytes) s =
+    let d : State = done (submit client bytes) s .after in
+    case-submit (s .engine) (d .engine) (s .ring) (d .ring) (s .memory) (d .memory) (number (submit client bytes) s) (s .engine .next)
+by-number run s =
+    let d : State = done run s .after in
+    case-run (s .engine) (d .engine) (s .ring) (d .ring) (s .memory) (d .memory) (number run s) (completionOf (s .engine) (s .ring))
+by-number (pending client) s =
+    case-pending (s .engine) (s .engine) (s .ring) (s .ring) (s .memory) (s .memory) (number (pending client) s) (countOf client (readyOf (s .engine .slots)))
+
+-- ---- a refusal changes nothing, whatever record, ring and memory are
+
+quiet : (n : ℕ) (s : State) (d : Called) → ((k : ℕ) → d .answer ≡ refused k → ⊥) → (k : ℕ) → either n s d .answer ≡ refused k → either n s d .after ≡ s
+unfolding either
+quiet zero s d h k e = absurd (h k e)
+quiet (suc n) s d h k e = refl
+
+answers : (c : Call) (s : State) (k : ℕ) → done c s .answer ≡ refused k → ⊥
+answers (opens w) s k e = let z : _≡_ {A = ℕ} 0 1 = cc in omega arith
+answers (submit client bytes) s k e = let z : _≡_ {A = ℕ} 0 1 = cc in omega arith
+answers run s k e = let z : _≡_ {A = ℕ} 0 1 = cc in omega arith
+answers (pending client) s k e = let z : _≡_ {A = ℕ} 0 1 = cc in omega arith
+
+pub harmless : (c : Call) (s : State) → Harmless c s
+harmless c s = rw (by-number c s) (quiet (number c s) s (done c s) (answers c s))

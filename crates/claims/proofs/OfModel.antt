@@ -1,0 +1,19 @@
+-- The claims of the model.
+use Prim.Native.Nat.{ℕ}
+use Rattle.register.specs.Bank.{resetBank}
+use Rattle.model.specs.Calls.{Setup}
+use Rattle.model.proofs.Theorems.{claims}
+use Rattle.claims.specs.OfModel.{OfModel, real}
+use Rattle.claims.proofs.Confined.{confined}
+
+pub of-model : (setup : Setup) (ring : ℕ) → OfModel setup ring
+of-model setup ring =
+    let c = claims real setup ring in
+    record {
+      separate = c .separate (confined resetBank);
+      unmoved = c .unmoved (confined resetBank);
+      holds = c .holds;
+      in-order = c .in-order;
+      in-time = c .in-time;
+      harmless = c .harmless;
+    }

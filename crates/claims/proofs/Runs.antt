@@ -1,0 +1,72 @@
+-- Run, if it is not refused, takes the batch that the model takes, judges and draws it alike, and leaves what the model leaves.
+use mathlib.Core.Path.{_≡_, ap₂}
+use mathlib.Core.List.{List, _∷_}
+use Prim.Native.Nat.{ℕ, _%_}
+use lib.ListN.{length}
+use Rattle.word.specs.Word.{words}
+use Rattle.ring.specs.Segment.{segment}
+use Rattle.register.specs.Bank.{resetBank}
+use Rattle.rules.specs.declared.task.Bounds.{Bounds}
+use Rattle.batch.specs.Batch.{readBatch, verdictOf}
+use Rattle.record.specs.Queue.{waiting}
+use Rattle.engine.specs.Run.{oldest, boundsFor, oldestWords, withoutOldest}
+use Rattle.engine.proofs.Refusals.{RunAllowed, run-allowed}
+use Rattle.engine.proofs.Stays.{run-sized, run-valid, oldest-owner, run-windows, oldest-words, run-held}
+use Rattle.model.specs.Calls.{Setup, run, completed}
+use Rattle.model.specs.State.{Batch, windowOf}
+use Rattle.model.specs.Model.{runStep, effect}
+use Rattle.claims.specs.Way.{boundsOf, numbersOf}
+use Rattle.claims.specs.OfModel.{real}
+use Rattle.claims.specs.Engine.{State}
+use Rattle.claims.proofs.Cases.{number, done}
+use Rattle.claims.proofs.Related.{seenBatch, seenWaiting, seen, Sound, window-at}
+use Rattle.claims.proofs.Steps.{Alike}
+
+module _ (setup : Setup) (n : ℕ) (s : State) (S : Sound setup n s) (count : ℕ) (next : s .engine .next ≡ count % 4294967296) (z : number run s ≡ 0) where
+  allowed : RunAllowed (s .engine) (length (s .ring)) (length (s .memory))
+  allowed = run-allowed (s .engine) (length (s .ring)) (length (s .memory)) z
+
+  -- the client's window and common
+  bounds : boundsFor (s .engine) (oldest (s .engine) .client) ≡ boundsOf (windowOf (seen count s) (oldest (s .engine) .client)) (setup .common)
+  bounds = rw (window-at setup n s S count (oldest (s .engine) .client) (oldest-owner (s .engine) (S .sized) (length (s .ring)) (length (s .memory)) allowed), S .numbers)
+
+  -- the words
+  read : oldestWords (s .engine) (s .ring) ≡ words (segment (s .ring) (oldest (s .engine) .offset) (oldest (s .engine) .length))
+  read = oldest-words (s .engine) (S .sized) (s .ring) (length (s .memory)) allowed
+
+  -- the batch as the model sees it, and those behind it
+  abbrev first : Batch
+  first = seenBatch (oldest (s .engine)) (segment (s .ring) (oldest (s .engine) .offset) (oldest (s .engine) .length))
+
+  abbrev rest : List Batch
+  rest = seenWaiting (s .ring) (waiting (withoutOldest (s .engine)))
+
+  waits : seenWaiting (s .ring) (waiting (s .engine)) ≡ first ∷ rest
+  waits = run-held (s .engine) (S .sized) (s .ring) (length (s .memory)) allowed seenBatch
+
+  run-sound : Sound setup n (done run s .after)
+  unfolding withoutOldest
+  run-sound = record {
+    sized = run-sized (s .engine) (S .sized);
+    ok = run-valid (s .engine) (S .sized) (length (s .ring)) (length (s .memory)) allowed;
+    numbers = S .numbers;
+    long = S .long;
+  }
+
+  run-next : done run s .after .engine .next ≡ count % 4294967296
+  unfolding withoutOldest
+  run-next = next
+
+  run-like : Alike setup n (done run s) (runStep real (setup .common) (seen count s) (first ∷ rest))
+  run-like = (
+    ap₂ (λ (b : Bounds) (ws : List ℕ). completed (oldest (s .engine) .client) (oldest (s .engine) .ticket) (numbersOf (verdictOf (readBatch b resetBank ws)))) bounds read,
+    record {
+      sound = run-sound;
+      next = run-next;
+      is = rw (run-windows (s .engine) (S .sized) (length (s .ring)) (length (s .memory)) allowed, bounds, read);
+    },
+  )
+
+  pub run-done : Alike setup n (done run s) (effect real setup n run (seen count s))
+  unfolding effect
+  run-done = rw waits run-like

@@ -1,0 +1,102 @@
+-- Open, submit and pending, if they are not refused, answer as the model does and leave what it leaves.
+use mathlib.Core.Path.{_≡_, refl, ap, sym, _∙_}
+use mathlib.Core.List.{List}
+use Prim.Native.Nat.{ℕ, zero, suc, _%_}
+use native.Mathlib.Omega.{arith}
+use lib.ListN.{length}
+use Rattle.ring.proofs.Copied.{length-copied}
+use Rattle.record.specs.declared.Batch.{Batch as Ready}
+use Rattle.record.specs.Queue.{writeOffset}
+use Rattle.queue.specs.Calls.{withClient, newBatch, withBatch}
+use Rattle.queue.proofs.Refusals.{open-allowed, SubmitAllowed, submit-allowed}
+use Rattle.queue.proofs.Kept.{open-sized, open-valid, open-windows, open-waiting}
+use Rattle.queue.proofs.Submitted.{submit-sized, submit-valid, submit-windows, submit-held}
+use Rattle.queue.proofs.Room.{submit-lies}
+use Rattle.model.specs.Windows.{Window}
+use Rattle.model.specs.Calls.{Setup, opens, submit, pending, opened, accepted, ready}
+use Rattle.model.specs.State.{Model}
+use Rattle.model.specs.Model.{Step, unless, effect}
+use Rattle.claims.specs.OfModel.{real}
+use Rattle.claims.specs.Engine.{State, Called}
+use Rattle.claims.proofs.Cases.{given, number, done, either}
+use Rattle.claims.proofs.Related.{seen-snoc, seenBatch, seen, Sound, Related, open-count, client-count}
+
+-- the same answer, and related ends
+abbrev pub Alike : Setup → ℕ → Called → Step → Type 0
+Alike setup n c t = (c .answer ≡ t .answer) × Related setup n (t .after) (c .after)
+
+-- refused alike, or alike if they are done
+pub either-alike : (setup : Setup) (n k k′ : ℕ) (model : Model) (s : State) (d : Called) (t : Step) → k ≡ k′ → Related setup n model s →
+    (k ≡ 0 → Alike setup n d t) → Alike setup n (either k s d) (unless k′ model t)
+unfolding either unless
+either-alike setup n k k′ model s d t e R h = rw (← e) (go k h)
+  where
+    go : (k : ℕ) → (k ≡ 0 → Alike setup n d t) → Alike setup n (either k s d) (unless k model t)
+    go zero h = h refl
+    go (suc k) h = (refl, R)
+
+module _ (setup : Setup) (n : ℕ) (s : State) (S : Sound setup n s) (count : ℕ) (next : s .engine .next ≡ count % 4294967296) where
+  -- ---- open
+
+  open-sound : (w : Window) → number (opens w) s ≡ 0 → Sound setup n (done (opens w) s .after)
+  unfolding withClient
+  open-sound w z = record {
+    sized = open-sized (s .engine) (given w) (S .sized);
+    ok = open-valid (s .engine) (given w) (S .sized) (open-allowed (s .engine) (given w) z);
+    numbers = S .numbers;
+    long = S .long;
+  }
+
+  open-next : (w : Window) → done (opens w) s .after .engine .next ≡ count % 4294967296
+  unfolding withClient
+  open-next w = next
+
+  pub open-done : (w : Window) → number (opens w) s ≡ 0 → Alike setup n (done (opens w) s) (effect real setup n (opens w) (seen count s))
+  unfolding effect
+  open-done w z = (
+    ap opened (sym (open-count setup n s S)),
+    record {
+      sound = open-sound w z;
+      next = open-next w;
+      is = rw (open-windows (s .engine) (given w) (S .sized) (open-allowed (s .engine) (given w) z .few), seen-snoc, open-waiting (s .engine) (given w) (S .sized));
+    },
+  )
+
+  -- ---- submit
+
+  module _ (client : ℕ) (bytes : List ℕ) (z : number (submit client bytes) s ≡ 0) where
+    allowed : SubmitAllowed (s .engine) (length (s .ring)) client (length bytes)
+    allowed = submit-allowed (s .engine) (length (s .ring)) client (length bytes) z
+
+    abbrev b : Ready
+    b = newBatch (s .engine) client (length bytes)
+
+    submit-sound : Sound setup n (done (submit client bytes) s .after)
+    unfolding withBatch
+    submit-sound = record {
+      sized = submit-sized (s .engine) b (S .sized);
+      ok = submit-valid (s .engine) (S .sized) (length (s .ring)) client (length bytes) allowed;
+      numbers = S .numbers;
+      long = length-copied (s .ring) (writeOffset (s .engine)) bytes (submit-lies (s .engine) (s .ring) client (length bytes) allowed) ∙ S .long;
+    }
+
+    submit-next : done (submit client bytes) s .after .engine .next ≡ suc count % 4294967296
+    unfolding withBatch
+    submit-next = rw next (omega arith)
+
+    pub submit-done : Alike setup n (done (submit client bytes) s) (effect real setup n (submit client bytes) (seen count s))
+    unfolding effect
+    submit-done = (
+      ap accepted next,
+      record {
+        sound = submit-sound;
+        next = submit-next;
+        is = rw (submit-windows (s .engine) (S .sized) (length (s .ring)) client (length bytes) allowed, submit-held seenBatch (s .engine) (S .sized) (s .ring) client bytes allowed, next);
+      },
+    )
+
+  -- ---- pending
+
+  pub pending-done : (client : ℕ) → Alike setup n (done (pending client) s) (effect real setup n (pending client) (seen count s))
+  unfolding effect
+  pending-done client = (ap ready (sym (client-count setup n s S client)), record { sound = S; next = next; is = refl })

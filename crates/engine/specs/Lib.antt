@@ -1,0 +1,3 @@
+-- Run, and what it answers.
+pub mod Run
+pub mod Outcome

@@ -1,0 +1,196 @@
+// The engine's public face: set up, open, submit, run and pending. No call has a `requires`: any record, ring, memory and batch
+// may be handed in.
+ghost use mathlib.Core.Path.{_≡_};
+ghost use mathlib.Core.Bool.{true};
+ghost use Prim.Native.Nat.{_≤_, _<_};
+ghost use lib.ListN.{length, getD, set};
+ghost use Rattle.record.specs.Slots.{free};
+ghost use Rattle.record.specs.Tickets.{place};
+ghost use Rattle.record.specs.Clients.{noClient, bytesOf};
+ghost use Rattle.record.specs.Queue.{takenSlots};
+ghost use Rattle.record.specs.Rules.{valid};
+ghost use Rattle.queue.specs.Refusals.{firstOf};
+ghost use Rattle.queue.specs.Calls.{setUp, openOf, submitOf, submitRing, pendingOf};
+ghost use Rattle.engine.specs.Run.{runTable, oldestTicket, oldest, boundsFor, lowered, withoutOldest, runOf, runMemory};
+use batch::Verdict;
+use queue::Answer;
+use queue::Reply;
+use range::Range;
+use record::Batch;
+use record::Client;
+use record::Record;
+use record::Slot;
+use record::SlotState;
+use register::Bank;
+use rules::Bounds;
+
+// What run answers of the batch that it took. The verdict holds the fault, if there is one.
+pub struct Completion {
+    pub client: u32,
+    pub ticket: u32,
+    pub verdict: Verdict,
+}
+
+// The paper's numbers are those of `numberOf` and `valuesOf` in specs.
+pub enum Outcome {
+    Refused(u32),
+    Completed(Completion),
+}
+
+pub struct Ran {
+    pub outcome: Outcome,
+    pub engine: Record,
+}
+
+// Set up with the lengths of ring, memory and common.
+pub fn set_up(ring: usize, memory: usize, common: usize) -> Reply
+    ensures { λ r. ⌜ r ≡ setUp ring memory common ⌝ }
+{
+    queue::set_up(ring, memory, common)
+}
+
+// Opens a client with a window.
+pub fn open(engine: Record, start: u32, length: u32) -> Reply
+    ensures { λ r. ⌜ r ≡ openOf engine (record { start = start; length = length }) ⌝ }
+{
+    queue::open(engine, start, length)
+}
+
+// Puts a batch into the ring and the queue. What it says is not looked at.
+pub fn submit(engine: Record, ring: &mut [u8], client: u32, batch: &[u8]) -> Reply
+    ensures { λ r. ⌜ (r ≡ submitOf engine (now (ring .entry)) client (now (batch .entry)))
+        × (now (ring .exit) ≡ submitRing engine (now (ring .entry)) client (now (batch .entry))) ⌝ }
+{
+    queue::submit(engine, ring, client, batch)
+}
+
+// How many batches of a client are ready.
+pub fn pending(engine: Record, client: u32) -> Answer
+    ensures { λ r. ⌜ r ≡ pendingOf engine client ⌝ }
+{
+    queue::pending(engine, client)
+}
+
+// What run is refused with, 0 if it takes a batch; `ring` and `memory` are the lengths of what is lent.
+fn run_refusal(engine: Record, ring: usize, memory: usize) -> u32
+    ensures { λ r. ⌜ r ≡ firstOf (runTable engine ring memory) ⌝ }
+{
+    let setup = engine.setup;
+    let slots = engine.slots;
+    let lent = !(ring == setup.ring) | !(memory == setup.memory);
+    let none = record::taken_slots(slots) == 0;
+    let no10 = queue::first_of(lent, 10, queue::first_of(none, 9, 0));
+    queue::first_of(!record::is_valid(engine), 11, no10)
+}
+
+// The bytes of a client's window.
+fn window_of(clients: [Client; 4], client: u32) -> Range
+    requires { ⌜ client < 4 ⌝ }
+    ensures { λ r. ⌜ (r ≡ bytesOf (getD clients client noClient .window)) × (length clients ≡ 4) ⌝ }
+{
+    let own = clients[client as usize];
+    let window = own.window;
+    Range::new(window.start, window.length)
+}
+
+// What a client may touch: its window, and common.
+fn bounds_for(engine: Record, client: u32) -> Bounds
+    requires { ⌜ client < 4 ⌝ }
+    ensures { λ r. ⌜ (r ≡ boundsFor engine client) × (length (engine .clients) ≡ 4) ⌝ }
+{
+    let setup = engine.setup;
+    let clients = engine.clients;
+    Bounds {
+        window: window_of(clients, client),
+        common: setup.common,
+    }
+}
+
+// One batch fewer pending for a client.
+fn lower(clients: [Client; 4], client: u32) -> [Client; 4]
+    requires { ⌜ (client < 4) × (1 ≤ getD clients client noClient .pending) ⌝ }
+    ensures { λ r. ⌜ r ≡ lowered clients client ⌝ }
+{
+    let at = client as usize;
+    let old = clients[at];
+    let window = old.window;
+    let mut after = clients;
+    after[at] = Client {
+        window: window,
+        pending: old.pending - 1,
+    };
+    after
+}
+
+// The slot of the oldest batch.
+fn oldest_place(engine: Record) -> usize
+    ensures { λ r. ⌜ (r ≡ place (oldestTicket engine) (engine .slots)) × (length (engine .slots) ≡ 8) ⌝ }
+{
+    let slots = engine.slots;
+    record::place_of(slots, engine.next, record::taken_slots(slots))
+}
+
+// The slots with one of them free.
+fn freed(slots: [Slot; 8], at: usize) -> [Slot; 8]
+    requires { ⌜ at < 8 ⌝ }
+    ensures { λ r. ⌜ r ≡ set slots at free ⌝ }
+{
+    let mut after = slots;
+    after[at] = Slot {
+        state: SlotState::Free,
+    };
+    after
+}
+
+// The record without the oldest batch, which is in the slot `at`: the slot and its ring bytes are free again.
+fn without_oldest(engine: Record, at: usize, batch: Batch) -> Record
+    requires { ⌜ (valid engine ≡ true) × (0 < takenSlots engine) × (length (engine .clients) ≡ 4) × (length (engine .slots) ≡ 8)
+        × (at ≡ place (oldestTicket engine) (engine .slots)) × (batch ≡ oldest engine) ⌝ }
+    ensures { λ r. ⌜ r ≡ withoutOldest engine ⌝ }
+{
+    let setup = engine.setup;
+    let clients = engine.clients;
+    let slots = engine.slots;
+    let fewer = lower(clients, batch.client);
+    let left = freed(slots, at);
+    let mut after = engine;
+    after.clients = fewer;
+    after.slots = left;
+    after.read = record::wrap(setup.ring, engine.read + batch.length);
+    after
+}
+
+// Takes the oldest batch: it is judged whole, drawn if it is faultless, and its slot and ring bytes are free again.
+pub fn run(engine: Record, ring: &[u8], memory: &mut [u8]) -> Ran
+    ensures { λ r. ⌜ (r ≡ runOf engine (now (ring .entry)) (now (memory .entry)))
+        × (now (memory .exit) ≡ runMemory engine (now (ring .entry)) (now (memory .entry))) ⌝ }
+{
+    let number = run_refusal(engine, ring.len(), memory.len());
+    if number != 0 {
+        return Ran {
+            outcome: Outcome::Refused(number),
+            engine: engine,
+        };
+    }
+    let slots = engine.slots;
+    let at = oldest_place(engine);
+    let batch = record::batch_of(slots[at]);
+    let bounds = bounds_for(engine, batch.client);
+    let verdict = raster::run_batch(
+        memory,
+        ring,
+        batch.offset,
+        batch.length,
+        bounds,
+        Bank::reset(),
+    );
+    let completion = Completion {
+        client: batch.client,
+        ticket: batch.ticket,
+        verdict: verdict,
+    };
+    Ran {
+        outcome: Outcome::Completed(completion),
+        engine: without_oldest(engine, at, batch),
+    }
+}
