@@ -20,10 +20,10 @@ pub const FIELDS: [(u32, u32, u32); 29] = [
 ];
 
 /// The groups of a task: the first register's offset and how many follow. The last one ends the task.
-const GROUPS: [(u32, u32); 6] = [(0x010, 5), (0x050, 3), (0x060, 1), (0x090, 1), (0x100, 3), (0x110, 1)];
+pub const GROUPS: [(u32, u32); 6] = [(0x010, 5), (0x050, 3), (0x060, 1), (0x090, 1), (0x100, 3), (0x110, 1)];
 
 /// What a task's registers hold, if every field fits its bits and its register's rule.
-fn registers(fields: &[u32; 29]) -> Option<Bank> {
+pub fn registers(fields: &[u32; 29]) -> Option<Bank> {
     let mut bank = Bank::reset();
     for (offset, words) in gathered(fields)? {
         bank.write(offset, words).ok()?;

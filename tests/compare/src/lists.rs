@@ -1,0 +1,69 @@
+//! Random lists played by the engine and by the independent program.
+use crate::linked;
+use independent::play::{play, Call, Calls, List, Played, ANSWER};
+use independent::scripts;
+use independent::tally::Tally;
+
+/// The first byte in which two buffers of one length differ.
+fn difference(name: &str, expected: &[u8], found: &[u8]) -> Option<String> {
+    let at = expected.iter().zip(found).position(|(a, b)| a != b)?;
+    Some(format!("{name} byte {at}: {} expected, {} found", expected[at], found[at]))
+}
+
+/// All that differs between what the independent program and the engine left.
+fn differences(expected: &Played, found: Option<&Played>) -> Vec<String> {
+    let Some(found) = found else { return vec!["bytes outside the lent buffers were changed".into()] };
+    let written = (expected.written != found.written)
+        .then(|| format!("answer bytes: {} expected, {} found", expected.written, found.written));
+    let answers = difference("answers", &expected.answers, &found.answers);
+    let call = answers.as_ref().and_then(|_| first_call(expected, found));
+    let memory = difference("memory", &expected.memory, &found.memory);
+    let ring = difference("ring", &expected.ring, &found.ring);
+    [written, answers, call, memory, ring].into_iter().flatten().collect()
+}
+
+/// The first answer that differs, as words.
+fn first_call(expected: &Played, found: &Played) -> Option<String> {
+    let pairs = expected.answers.chunks_exact(ANSWER).zip(found.answers.chunks_exact(ANSWER));
+    let (number, (a, b)) = pairs.enumerate().find(|(_, (a, b))| a != b)?;
+    let words = |answer: &[u8]| -> Vec<u32> {
+        answer.chunks_exact(4).map(|word| u32::from_le_bytes([word[0], word[1], word[2], word[3]])).collect()
+    };
+    Some(format!("answer {number}: {:08X?} expected, {:08X?} found", words(a), words(b)))
+}
+
+/// The list in words, so that a difference can be looked into.
+fn describe(list: &List) {
+    let (ring, memory, answers) = (list.ring.len(), list.memory.len(), list.answers.len());
+    println!("{:?}; lent: ring {ring}, memory {memory}, answers {answers}", list.numbers);
+    for (number, call) in Calls(&list.script).enumerate() {
+        let call = match call {
+            Call::Open { start, length } => format!("open {start} {length}"),
+            Call::Submit { client, batch } => format!("submit {client}, {} bytes", batch.len()),
+            Call::Run => "run".into(),
+            Call::Pending { client } => format!("pending {client}"),
+        };
+        println!("  answer {}: {call}", number + 1);
+    }
+}
+
+/// Whether so many lists of a seed agree.
+pub fn compare(count: u64, seed: u64) -> bool {
+    let mut tally = Tally::default();
+    for number in 0..count {
+        let list = scripts::list(seed, number);
+        let expected = play(&list);
+        let found = linked::play(&list);
+        let differ = differences(&expected, found.as_ref());
+        if !differ.is_empty() {
+            println!("list {number} of seed {seed} differs:");
+            differ.iter().for_each(|line| println!("  {line}"));
+            describe(&list);
+            return false;
+        }
+        tally.add_list(&list, &expected);
+    }
+    tally.print();
+    println!("{count} lists of seed {seed}: all agree");
+    true
+}

@@ -1,0 +1,37 @@
+//! Compares the engine with the independent program. A difference ends it with status 1.
+//!
+//! compare lists COUNT SEED                       random lists of calls, played by the static library
+//! compare replays COUNT SEED PROGRAM [WORD ..]   random replay files, on PROGRAM's standard input
+//! compare cuts FILE PROGRAM [WORD ..]            a replay file cut at every byte
+mod linked;
+mod lists;
+mod replays;
+
+use std::io::{Error, Result};
+use std::process::ExitCode;
+
+fn number(word: &str) -> Result<u64> {
+    word.parse().map_err(|_| Error::other(format!("{word} is no number")))
+}
+
+/// Whether all agrees.
+fn compared(words: &[&str]) -> Result<bool> {
+    match words {
+        ["lists", count, seed] => Ok(lists::compare(number(count)?, number(seed)?)),
+        ["replays", count, seed, program @ ..] => replays::compare(number(count)?, number(seed)?, program),
+        ["cuts", file, program @ ..] => replays::cuts(file, program),
+        _ => Err(Error::other("usage: lists COUNT SEED | replays COUNT SEED PROGRAM | cuts FILE PROGRAM")),
+    }
+}
+
+fn main() -> ExitCode {
+    let words: Vec<String> = std::env::args().skip(1).collect();
+    match compared(&words.iter().map(String::as_str).collect::<Vec<&str>>()) {
+        Ok(true) => ExitCode::SUCCESS,
+        Ok(false) => ExitCode::FAILURE,
+        Err(error) => {
+            eprintln!("compare: {error}");
+            ExitCode::FAILURE
+        }
+    }
+}

@@ -1,0 +1,36 @@
+//! What a correct engine answers, computed by a program of its own that shares no code with the engine (docs/DECISIONS.md
+//! says how independent it is).
+pub mod batch;
+pub mod batch_cases;
+pub mod batch_questions;
+pub mod drawing;
+pub mod engine;
+pub mod leaf_cases;
+pub mod made_batches;
+pub mod made_tasks;
+pub mod picture;
+pub mod pixel;
+pub mod pixel_cases;
+pub mod play;
+pub mod questions;
+pub mod queue;
+pub mod queue_cases;
+pub mod queue_questions;
+pub mod random;
+pub mod registers;
+pub mod replay;
+pub mod replay_files;
+pub mod ring;
+pub mod sample_files;
+pub mod sample_page;
+pub mod sample_tasks;
+pub mod samples;
+pub mod scripts;
+pub mod stream;
+pub mod surface;
+pub mod tally;
+pub mod task_cases;
+pub mod task_questions;
+pub mod transform;
+pub mod words;
+pub mod writer;

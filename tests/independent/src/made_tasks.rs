@@ -1,0 +1,204 @@
+//! Random tasks for a client: such as pass all rules, and such as are meant to break one of 25 to 28. Fields are numbered as
+//! in the writer's list.
+use crate::batch::{judge, Bounds};
+use crate::pixel::{FORMATS, RULES};
+use crate::random::Random;
+use crate::surface::Run;
+use crate::writer::{registers, reset_with};
+
+pub type Fields = [u32; 29];
+
+/// The first field of each surface: width, height, stride, address and format stand in this order from there on.
+pub const SOURCE: usize = 0;
+pub const DESTINATION: usize = 13;
+pub const OUTPUT: usize = 21;
+
+const WIDTH: usize = 0;
+const HEIGHT: usize = 1;
+const STRIDE: usize = 2;
+const ADDRESS: usize = 3;
+const FORMAT: usize = 4;
+
+const SOURCE_MODE: usize = 7;
+const SOURCE_ENABLE: usize = 9;
+const TURNS: usize = 12;
+const DESTINATION_ENABLE: usize = 20;
+const BLEND: usize = 28;
+
+/// Width and height.
+type Sides = (u32, u32);
+
+/// Bytes of a surface from its first to its last.
+fn span(sides: Sides, stride: u32, format: usize) -> u32 {
+    stride * (sides.1 - 1) + sides.0 * FORMATS[format].bytes as u32
+}
+
+/// A place for a surface in a run of bytes, often at one of its ends. Where there is no room it starts at the run's start.
+fn placed(random: &mut Random, run: &Run, sides: Sides) -> [u32; 5] {
+    let format = random.below(3) as usize;
+    let stride = (sides.0 * FORMATS[format].bytes as u32).div_ceil(8) * 8 + 8 * random.pick(&[0, 0, 1, 3]);
+    let room = (run.end - run.start) as u32;
+    let slack = room.saturating_sub(span(sides, stride, format));
+    let offset = match random.below(4) {
+        0 => 0,
+        1 => slack,
+        _ => random.below(slack + 1),
+    };
+    [sides.0, sides.1, stride, run.start as u32 + offset, FORMATS[format].code]
+}
+
+/// Where a surface that is read may lie.
+fn readable(random: &mut Random, bounds: &Bounds) -> Run {
+    if bounds.common >= 16 && random.one_in(2) {
+        return 0..bounds.common;
+    }
+    bounds.window.clone()
+}
+
+fn set(fields: &mut Fields, base: usize, surface: [u32; 5]) {
+    fields[base..base + 5].copy_from_slice(&surface);
+}
+
+/// A task that passes more often than not.
+fn attempt(random: &mut Random, bounds: &Bounds, longest: Sides) -> Fields {
+    let (w, h) = (1 + random.below(longest.0), 1 + random.below(longest.1));
+    let is_colour = random.one_in(3);
+    let turns = if is_colour { 0 } else { random.below(4) };
+    let turned = if turns % 2 == 0 { (w, h) } else { (h, w) };
+    let source = if is_colour { [w, h, 0, 0, 0] } else { placed_readable(random, bounds, (w, h)) };
+    let output = placed(random, &bounds.window, turned);
+    let blends = random.one_in(2);
+    let colour = if is_colour { random.word() } else { 0 };
+    let mut fields = reset_with(&[(SOURCE_MODE, is_colour.into()), (8, colour), (SOURCE_ENABLE, 1), (TURNS, turns)]);
+    set(&mut fields, SOURCE, source);
+    set(&mut fields, OUTPUT, output);
+    (fields[10], fields[11]) = (random.below(2), random.below(2));
+    if blends || random.one_in(6) {
+        let own = random.one_in(2);
+        let destination = if own { output } else { placed_readable(random, bounds, turned) };
+        set(&mut fields, DESTINATION, destination);
+        (fields[DESTINATION_ENABLE], fields[BLEND]) = (1, blends.into());
+        blending(random, &mut fields);
+    }
+    fields
+}
+
+fn placed_readable(random: &mut Random, bounds: &Bounds, sides: Sides) -> [u32; 5] {
+    let run = readable(random, bounds);
+    placed(random, &run, sides)
+}
+
+/// Alpha modes, global alphas and factors, by a rule's name or any two.
+fn blending(random: &mut Random, fields: &mut Fields) {
+    for mode in [5, 18] {
+        fields[mode] = random.below(3);
+        fields[mode + 1] = random.below(256);
+    }
+    let (_, source, destination) = random.pick(&RULES);
+    (fields[26], fields[27]) =
+        if random.one_in(2) { (source.into(), destination.into()) } else { (random.below(6), random.below(6)) };
+}
+
+/// Whether a task of these fields passes 24 to 28.
+fn passes(fields: &Fields, bounds: &Bounds) -> bool {
+    registers(fields).is_some_and(|bank| judge(&bank.task(), bounds).is_none())
+}
+
+/// A task that passes, if one is found in a few attempts, the later of them at smaller ones.
+pub fn good(random: &mut Random, bounds: &Bounds) -> Fields {
+    let mut fields = attempt(random, bounds, (7, 5));
+    for sides in [(7, 5), (4, 4), (4, 3), (3, 3), (2, 3), (2, 2), (2, 1), (1, 1), (1, 1), (1, 1)] {
+        if passes(&fields, bounds) {
+            break;
+        }
+        fields = attempt(random, bounds, sides);
+    }
+    fields
+}
+
+/// A task made to break the rule of a fault, 25 to 28.
+pub fn broken(random: &mut Random, bounds: &Bounds, fault: u32) -> Fields {
+    let mut fields = good(random, bounds);
+    match fault {
+        25 => break_surface(random, &mut fields),
+        26 => break_sizes(random, &mut fields),
+        27 => break_place(random, bounds, &mut fields),
+        _ => break_apart(random, &mut fields),
+    }
+    fields
+}
+
+fn break_surface(random: &mut Random, fields: &mut Fields) {
+    let base = random.pick(&[SOURCE, DESTINATION, OUTPUT, OUTPUT]);
+    match random.below(6) {
+        0 => fields[base + WIDTH] = random.pick(&[0, 4096, 4097, 8191]),
+        1 => fields[base + HEIGHT] = random.pick(&[0, 4096, 4097, 8191]),
+        2 => fields[base + STRIDE] |= 1 << random.below(3),
+        3 => fields[base + STRIDE] = fields[base + STRIDE].saturating_sub(8),
+        4 => fields[SOURCE_ENABLE] = 0,
+        _ => (fields[BLEND], fields[DESTINATION_ENABLE]) = (1, 0),
+    }
+}
+
+fn break_sizes(random: &mut Random, fields: &mut Fields) {
+    match random.below(4) {
+        0 => (fields[SOURCE_MODE], fields[TURNS]) = (1, 1 + random.below(3)),
+        1 => fields[OUTPUT + HEIGHT] += 1,
+        2 => fields[SOURCE + random.below(2) as usize] += 1,
+        _ => {
+            fields.copy_within(OUTPUT..OUTPUT + 5, DESTINATION);
+            fields[DESTINATION + HEIGHT] += 1 + random.below(3);
+            (fields[BLEND], fields[DESTINATION_ENABLE]) = (1, 1);
+        }
+    }
+}
+
+/// An address at or past an edge of what the client may touch.
+fn break_place(random: &mut Random, bounds: &Bounds, fields: &mut Fields) {
+    let base = random.pick(&[SOURCE, DESTINATION, OUTPUT, OUTPUT]);
+    let (start, end) = (bounds.window.start as u32, bounds.window.end as u32);
+    let edges = [start, end, bounds.common as u32, u32::MAX, 0, fields[base + ADDRESS]];
+    let edge = random.pick(&edges);
+    let step = random.pick(&[0, 1, 2, 4, 8, 40]);
+    fields[base + ADDRESS] = if random.one_in(2) { edge.wrapping_sub(step) } else { edge.wrapping_add(step) };
+}
+
+/// The source, or the destination, on a part of the output.
+fn break_apart(random: &mut Random, fields: &mut Fields) {
+    let base = random.pick(&[SOURCE, DESTINATION]);
+    let format = fields[base + FORMAT];
+    fields.copy_within(OUTPUT..OUTPUT + 5, base);
+    (fields[SOURCE_MODE], fields[TURNS]) = (u32::from(base == DESTINATION), 0);
+    fields[SOURCE + WIDTH] = fields[OUTPUT + WIDTH];
+    fields[SOURCE + HEIGHT] = fields[OUTPUT + HEIGHT];
+    let step = random.pick(&[0, 1, 2, 3, 4, 8, 24]);
+    fields[base + ADDRESS] =
+        if random.one_in(2) { fields[base + ADDRESS].wrapping_sub(step) } else { fields[base + ADDRESS] + step };
+    if random.one_in(4) {
+        fields[base + STRIDE] += 8;
+    }
+    if random.one_in(4) {
+        fields[base + FORMAT] = format;
+    }
+    fields[BLEND] = u32::from(base == DESTINATION);
+    fields[DESTINATION_ENABLE] = fields[BLEND];
+}
+
+#[cfg(test)]
+mod tests {
+    use super::*;
+
+    /// Most tasks pass, and each fault comes often where it is meant.
+    #[test]
+    fn as_meant() {
+        let bounds = Bounds { window: 700..1900, common: 512 };
+        let mut random = Random::new(5);
+        assert!((0..1000).filter(|_| passes(&good(&mut random, &bounds), &bounds)).count() > 990);
+        for fault in 25..29 {
+            let task =
+                |random: &mut Random| registers(&broken(random, &bounds, fault)).map(|bank| judge(&bank.task(), &bounds));
+            let met = (0..1000).filter(|_| task(&mut random) == Some(Some(fault))).count();
+            assert!(met > 300, "{fault}: {met}");
+        }
+    }
+}

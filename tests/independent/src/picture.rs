@@ -1,0 +1,72 @@
+//! A rectangle of memory as a picture (PPM, P6): R, G, B of each pixel. Alpha is not looked at.
+use crate::pixel::{self, Format};
+use crate::surface;
+
+/// A rectangle as the program's words name it.
+pub struct Rectangle {
+    pub address: u64,
+    pub stride: u64,
+    pub width: u64,
+    pub height: u64,
+    pub format: &'static Format,
+}
+
+/// A number, in decimal or after 0x in hex.
+fn number(word: &str) -> Option<u64> {
+    match word.strip_prefix("0x") {
+        Some(digits) => u64::from_str_radix(digits, 16).ok(),
+        None => word.parse().ok(),
+    }
+}
+
+/// A format by its name or by its code.
+fn format(word: &str) -> Option<&'static Format> {
+    match word.to_ascii_uppercase().as_str() {
+        "ARGB8888" => pixel::format(0x00),
+        "RGB888" => pixel::format(0x08),
+        "RGB565" => pixel::format(0x0E),
+        _ => pixel::format(number(word)?.try_into().ok()?),
+    }
+}
+
+impl Rectangle {
+    /// ADDRESS STRIDE WIDTH HEIGHT FORMAT.
+    pub fn of_words(words: &[String]) -> Option<Self> {
+        let [address, stride, width, height, code] = words else { return None };
+        let (address, stride) = (number(address)?, number(stride)?);
+        Some(Rectangle { address, stride, width: number(width)?, height: number(height)?, format: format(code)? })
+    }
+
+    /// The picture, if the rectangle lies in memory.
+    pub fn picture(&self, memory: &[u8]) -> Option<Vec<u8>> {
+        let mut bytes = format!("P6\n{} {}\n255\n", self.width, self.height).into_bytes();
+        for y in 0..self.height {
+            let row = self.address.checked_add(self.stride.checked_mul(y)?)?;
+            for x in 0..self.width {
+                let at = row.checked_add(x * self.format.bytes as u64)?;
+                let [_, red, green, blue] = surface::load(memory, at, self.format)?;
+                bytes.extend([red, green, blue]);
+            }
+        }
+        Some(bytes)
+    }
+}
+
+#[cfg(test)]
+mod tests {
+    use super::*;
+
+    fn picture(words: &str, memory: &[u8]) -> Option<Vec<u8>> {
+        let words: Vec<String> = words.split(' ').map(String::from).collect();
+        Rectangle::of_words(&words)?.picture(memory)
+    }
+
+    #[test]
+    fn two_pixels() {
+        let memory = [0, 3, 2, 1, 9, 6, 5, 4, 8];
+        assert_eq!(picture("1 4 1 2 0x00", &memory), Some(b"P6\n1 2\n255\n\x01\x02\x03\x04\x05\x06".to_vec()));
+        assert_eq!(picture("1 4 2 1 ARGB8888", &memory), Some(b"P6\n2 1\n255\n\x01\x02\x03\x04\x05\x06".to_vec()));
+        assert_eq!(picture("2 4 1 2 argb8888", &memory), None);
+        assert_eq!(picture("0 8 1 1 5", &memory), None);
+    }
+}

@@ -1,0 +1,70 @@
+//! Tasks by hand, for the samples: rectangles filled and copied, with or without blending.
+use crate::made_tasks::{Fields, DESTINATION, OUTPUT, SOURCE};
+use crate::pixel::{self, RULES};
+use crate::replay::record;
+use crate::writer::{reset_with, written};
+
+pub const ARGB8888: u32 = 0x00;
+pub const RGB888: u32 = 0x08;
+pub const RGB565: u32 = 0x0E;
+
+/// A surface: where a rectangle lies in memory.
+#[derive(Clone, Copy)]
+pub struct Place {
+    pub address: u32,
+    pub stride: u32,
+    pub width: u32,
+    pub height: u32,
+    pub format: u32,
+}
+
+impl Place {
+    /// A part of a surface: x, y, width, height.
+    pub fn part(self, x: u32, y: u32, width: u32, height: u32) -> Self {
+        let bytes = pixel::format(self.format).expect("a format's code").bytes as u32;
+        Place { address: self.address + self.stride * y + bytes * x, width, height, ..self }
+    }
+
+    fn fields(self) -> [u32; 5] {
+        [self.width, self.height, self.stride, self.address, self.format]
+    }
+}
+
+fn set(fields: &mut Fields, base: usize, place: Place) {
+    fields[base..base + 5].copy_from_slice(&place.fields());
+}
+
+/// A rectangle of one colour.
+pub fn fill(output: Place, colour: u32) -> Fields {
+    let mut fields = reset_with(&[(SOURCE, output.width), (SOURCE + 1, output.height), (7, 1), (8, colour), (9, 1)]);
+    set(&mut fields, OUTPUT, output);
+    fields
+}
+
+/// A copy, after flips and quarter turns. The output's sides must be those of the turned source.
+pub fn copy(source: Place, output: Place, turns: u32, horizontal: u32, vertical: u32) -> Fields {
+    let mut fields = reset_with(&[(9, 1), (10, horizontal), (11, vertical), (12, turns)]);
+    set(&mut fields, SOURCE, source);
+    set(&mut fields, OUTPUT, output);
+    fields
+}
+
+/// A task blended by a rule's name with what its output holds.
+pub fn blended(mut fields: Fields, rule: &str) -> Fields {
+    let (_, source, destination) = RULES[pixel::rule(rule) as usize];
+    fields.copy_within(OUTPUT..OUTPUT + 5, DESTINATION);
+    (fields[20], fields[26], fields[27], fields[28]) = (1, source.into(), destination.into(), 1);
+    fields
+}
+
+/// Tasks as one batch, each in its 80 bytes.
+pub fn batch(tasks: &[Fields]) -> Vec<u8> {
+    tasks.iter().flat_map(|fields| written(fields, 80).expect("allowed fields")).collect()
+}
+
+/// A replay file of some records.
+pub fn file(records: &[(u8, Vec<u8>)]) -> Vec<u8> {
+    let mut bytes = vec![1];
+    records.iter().for_each(|(client, batch)| bytes.extend(record(*client, batch)));
+    bytes
+}

@@ -1,0 +1,218 @@
+//! Random lists of calls, with all that they are played on. On the way the book is asked only which windows are open, so
+//! that batches fit them.
+use crate::engine::{Book, Numbers};
+use crate::made_batches;
+use crate::play::{List, ANSWER};
+use crate::random::Random;
+
+/// How the calls of a list are mixed: of 16, how many submits and runs; the rest are pendings and opens. And into how many
+/// parts the ring's length is divided for a batch's room.
+struct Mix {
+    submits: u32,
+    runs: u32,
+    parts: u32,
+}
+
+const MIXES: [Mix; 5] = [
+    Mix { submits: 8, runs: 6, parts: 1 },
+    Mix { submits: 8, runs: 6, parts: 2 },
+    Mix { submits: 10, runs: 4, parts: 2 },
+    Mix { submits: 11, runs: 3, parts: 8 },
+    Mix { submits: 6, runs: 8, parts: 3 },
+];
+
+/// A script while it is written.
+struct Script<'a> {
+    random: &'a mut Random,
+    bytes: Vec<u8>,
+    calls: usize,
+    book: Book,
+    numbers: Numbers,
+}
+
+impl Script<'_> {
+    fn call(&mut self, opcode: u8, parts: &[&[u8]]) {
+        self.bytes.push(opcode);
+        parts.iter().for_each(|part| self.bytes.extend_from_slice(part));
+        self.calls += 1;
+    }
+
+    fn open(&mut self) {
+        let (start, length) = if self.random.one_in(4) { self.odd_window() } else { self.free_window() };
+        // Refusals change nothing in the book, so its answer is not needed.
+        let _ = self.book.open(start, length);
+        self.call(0, &[&start.to_le_bytes(), &length.to_le_bytes()]);
+    }
+
+    /// A window that touches the last one, or common, or leaves a gap.
+    fn free_window(&mut self) -> (u32, u32) {
+        let start = self.book.windows().iter().map(|window| window.end).max().unwrap_or(self.numbers.common) as u32;
+        let room = (self.numbers.memory as u32).saturating_sub(start);
+        let left = 4u32.saturating_sub(self.book.windows().len() as u32).max(1);
+        let gap = if self.random.one_in(3) { self.random.below(room / 8 + 1) } else { 0 };
+        let share = (room - gap) / left;
+        let length = if self.random.one_in(4) { share / 2 + self.random.below(share + 1) / 2 } else { share };
+        (start + gap, length)
+    }
+
+    /// A window at an edge: empty, past memory's end, on a byte of common or of another window.
+    fn odd_window(&mut self) -> (u32, u32) {
+        let (memory, common) = (self.numbers.memory as u32, self.numbers.common as u32);
+        let count = self.book.windows().len() as u32;
+        let taken = if count == 0 { 0..8 } else { self.book.windows()[self.random.below(count) as usize].clone() };
+        let (start, end) = (taken.start as u32, taken.end as u32);
+        match self.random.below(8) {
+            0 => (end, 0),
+            1 => (memory.wrapping_sub(4), 5),
+            2 => (common.wrapping_sub(1), 9),
+            3 => (end - 1, 8),
+            4 => (start.saturating_sub(7), 8),
+            5 => (self.random.word(), self.random.word()),
+            6 => (u32::MAX - self.random.below(3), self.random.below(5)),
+            _ => (self.random.below(memory.saturating_add(9)), self.random.below(64)),
+        }
+    }
+
+    fn submit(&mut self, parts: u32) {
+        let open = self.book.windows().len() as u32;
+        let known = open > 0 && !self.random.one_in(24);
+        let client = if known { self.random.below(open) as u8 } else { self.unknown_client() };
+        let bounds = if known { self.book.bounds(client.into()) } else { no_bounds() };
+        let room = self.numbers.ring as usize / self.random.pick(&[1, parts as usize]);
+        let batch = made_batches::batch(self.random, &bounds, room);
+        let batch = self.with_odd_length(batch);
+        self.call(1, &[&[client], &(batch.len() as u32).to_le_bytes(), &batch]);
+    }
+
+    fn unknown_client(&mut self) -> u8 {
+        self.random.pick(&[1, 2, 3, 4, 5, 128, 255])
+    }
+
+    /// Sometimes no bytes, no multiple of 4, over the ring's length, or as long as the ring.
+    fn with_odd_length(&mut self, mut batch: Vec<u8>) -> Vec<u8> {
+        let ring = self.numbers.ring as usize;
+        match self.random.below(40) {
+            0 => batch.clear(),
+            1 => batch.resize(batch.len() + 1 + self.random.below(3) as usize, 0),
+            2 => batch.resize(ring + self.random.pick(&[1, 4, 4, 128]), 1),
+            3 => batch.resize(ring, 0),
+            _ => (),
+        }
+        batch
+    }
+
+    fn pending(&mut self) {
+        let client = if self.random.one_in(4) { self.unknown_client() } else { self.random.below(4) as u8 };
+        self.call(3, &[&[client]]);
+    }
+
+    /// One call of a mix.
+    fn next(&mut self, mix: &Mix) {
+        let n = self.random.below(16);
+        if n < mix.submits {
+            self.submit(mix.parts);
+        } else if n < mix.submits + mix.runs {
+            self.call(2, &[]);
+        } else if self.random.one_in(3) {
+            self.open();
+        } else {
+            self.pending();
+        }
+    }
+
+    /// The end is sometimes no call, or a call cut short.
+    fn end(&mut self) {
+        match self.random.below(16) {
+            0 => {
+                let unknown = self.random.pick(&[4, 5, 128, 255]);
+                self.bytes.extend([unknown, 2, 2]);
+            }
+            1 => {
+                let kept = self.random.below(self.bytes.len() as u32 + 1);
+                self.bytes.truncate(kept as usize);
+            }
+            2 => {
+                let length = self.random.pick(&[5, 4096, u32::MAX]).to_le_bytes();
+                self.bytes.extend([1, 0]);
+                self.bytes.extend(length);
+                self.bytes.extend([0; 4]);
+            }
+            _ => (),
+        }
+    }
+}
+
+/// Where a client that isn't open might draw.
+fn no_bounds() -> crate::batch::Bounds {
+    crate::batch::Bounds { window: 64..256, common: 64 }
+}
+
+/// Set-up numbers that are mostly allowed.
+fn numbers(random: &mut Random) -> Numbers {
+    let ring = match random.below(32) {
+        0..=16 => 128 * (1 + random.below(3)),
+        17..=25 => random.pick(&[512, 640, 1024]),
+        26..=28 => random.pick(&[1024, 2048, 4096]),
+        29 => random.pick(&[32640, 32768, 1024]),
+        30 => random.pick(&[128, 128, 0, 100, 32896]),
+        _ => random.pick(&[128, 256, 32772, 4]),
+    };
+    let memory = match random.below(24) {
+        0 => random.below(64),
+        1 => random.pick(&[65536, 16384, 16384, 0]),
+        _ => 256 + random.below(3841),
+    };
+    let common = match random.below(24) {
+        0..=5 => 0,
+        6 => memory,
+        7 => memory + random.below(3),
+        _ => random.below(memory / 2 + 1),
+    };
+    let memory =
+        if random.one_in(48) { random.pick(&[16777215, 16777216, 16777217, 1 << 40, u64::MAX]) } else { memory.into() };
+    Numbers { ring: ring.into(), memory, common: common.into() }
+}
+
+/// Bytes to lend: as many as the set-up number says, or, once in 32 times, some others. Long ones are not lent.
+fn lent(random: &mut Random, number: u64) -> Vec<u8> {
+    let length = number.min(65536) as u32;
+    let other = [0, 1, length / 2, length.saturating_sub(1), length + 1, length + 128];
+    let length = if random.one_in(32) { random.pick(&other) } else { length };
+    random.bytes(length as usize)
+}
+
+/// The answers' buffer: room for all and some more, or, once in eight times, for fewer.
+fn buffer(random: &mut Random, calls: usize) -> Vec<u8> {
+    let all = ANSWER * (calls + 1);
+    let length = match random.below(32) {
+        0 => random.below(ANSWER as u32 + 1),
+        1..=3 => random.below(all as u32),
+        4..=9 => all as u32,
+        _ => all as u32 + random.below(40),
+    };
+    random.bytes(length as usize)
+}
+
+/// The list of a number, of 1 to about 60 calls.
+pub fn list(seed: u64, number: u64) -> List {
+    let random = &mut Random::of_case(seed, number);
+    let numbers = numbers(random);
+    let (ring, memory) = (lent(random, numbers.ring), lent(random, numbers.memory));
+    let allowed = Numbers { ring: 128, memory: 4096, common: 256 };
+    // A refused set up plays nothing; its script is then one for other numbers.
+    let known = if Book::set_up(numbers, 0, &[]).is_ok() { numbers } else { allowed };
+    let book = Book::set_up(known, 0, &[]).ok().expect("allowed numbers");
+    let mix = &MIXES[random.below(5) as usize];
+    let most = random.pick(&[4, 20, 40, 60]);
+    let (opens, calls) = (random.pick(&[0, 1, 1, 2, 2, 3, 3, 4, 4, 5, 5, 6]), 1 + random.below(most));
+    let mut script = Script { random, bytes: Vec::new(), calls: 0, book, numbers: known };
+    for _ in 0..opens {
+        script.open();
+    }
+    for _ in 0..calls {
+        script.next(mix);
+    }
+    script.end();
+    let Script { bytes, calls, random, .. } = script;
+    List { numbers, script: bytes, ring, memory, answers: buffer(random, calls) }
+}
