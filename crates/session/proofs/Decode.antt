@@ -1,0 +1,35 @@
+-- Decoding is the other way of encoding: every list of calls whose numbers fit is that of its bytes.
+use mathlib.Core.Path.{_≡_, refl, ap, _∙_}
+use mathlib.Core.List.{List, [], _∷_, _++_}
+use Prim.Native.Nat.{ℕ, zero, suc, _+_, _≤_}
+use native.Mathlib.Omega.{arith}
+use lib.ListN.{length, length-append}
+use lib.Seq.{drop-drop, take-append-seam, drop-append-seam}
+use Rattle.word.specs.Word.{le32At, leBytes}
+use Rattle.word.proofs.Words.{le32-bytes}
+use Rattle.model.specs.Calls.{Call, opens, submit, run, pending}
+use Rattle.session.specs.Script.{parsed, next, decode, encodeOne, encode, FitsOne, Fits}
+use Rattle.session.proofs.Parsing.{open-long, submit-long, pending-long, next-open, next-submit, next-pending}
+
+-- bytes that begin with a call's
+next-encoded : (call : Call) (rest : List ℕ) → FitsOne call → next (encodeOne call ++ rest) ≡ parsed call rest
+unfolding next encodeOne leBytes le32At
+next-encoded (opens w) rest fits =
+    let bytes : List ℕ = encodeOne (opens w) ++ rest in
+    next-open bytes (omega arith) refl ∙ open-long bytes (omega arith) ∙ rw (le32-bytes (w .start) (fits .0), le32-bytes (w .length) (fits .1))
+next-encoded (submit client batch) rest fits =
+    let bytes : List ℕ = encodeOne (submit client batch) ++ rest in
+    let size : le32At bytes 2 ≡ length batch = le32-bytes (length batch) (fits .1) in
+    let long : 6 + length batch ≤ length bytes = simp length-append (omega arith) in
+    next-submit bytes (omega arith) refl ∙ submit-long bytes (rw size long) ∙ rw (size, take-append-seam batch rest, ← drop-drop (length batch) 6 bytes, drop-append-seam batch rest)
+next-encoded run rest fits = refl
+next-encoded (pending client) rest fits =
+    let bytes : List ℕ = encodeOne (pending client) ++ rest in
+    next-pending bytes (omega arith) refl ∙ pending-long bytes (omega arith)
+
+pub decode-encode : (calls : List Call) → Fits calls → (n : ℕ) → length calls ≤ n → decode n (encode calls) ≡ calls
+unfolding decode encode next
+decode-encode [] fits zero h = refl
+decode-encode [] fits (suc n) h = refl
+decode-encode (call ∷ calls) fits zero h = absurd (omega arith)
+decode-encode (call ∷ calls) fits (suc n) h = rw (next-encoded call (encode calls) (fits .0)) (ap (λ (cs : List Call). call ∷ cs) (decode-encode calls (fits .1) n (omega arith)))

@@ -1,0 +1,9 @@
+-- Laws that this crate's proofs and those of the crates above cite.
+pub mod Parsing
+pub mod Decode
+pub mod Writing
+pub mod Offsets
+pub mod Numbers
+pub mod Turns
+pub mod Going
+pub mod Whole

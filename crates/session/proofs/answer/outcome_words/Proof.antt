@@ -1,0 +1,47 @@
+use Prim.Native.Nat.{_≤_}
+use native.Mathlib.Omega.{arith}
+use Rattle.batch.specs.Batch.{statusOf, offsetOf}
+use Rattle.session.proofs.Numbers.{refused-words, completed-words, completed-small}
+use borrow.Author.Needs.{needs}
+use Rattle.session.proofs.answer.outcome_words.Statement.{statement}
+use Rattle.session.proofs.answer.outcome_words.Tie as tie
+
+small : (c : tie.After-offset) → (statusOf (c .before .before .outcome2 .given .0 .0 .verdict) ≤ 4294967295) × (offsetOf (c .before .before .outcome2 .given .0 .0 .verdict) ≤ 4294967295)
+small c = completed-small _ _ (c .before .before .outcome2 .given .1) (c .before .before .before .before .pre)
+
+enum-known-outcome : tie.Need-enum-known-outcome
+enum-known-outcome c = search needs
+
+enum-known-outcome-2 : tie.Need-enum-known-outcome-2
+enum-known-outcome-2 c = search needs
+
+offset-requires : tie.Need-offset-requires
+offset-requires c κs = search needs
+
+cast-offset : tie.Need-cast-offset
+cast-offset c = omega (arith, c .offset .ensures, small c .1)
+
+status-requires : tie.Need-status-requires
+status-requires c κs = small c .0
+
+number-requires : tie.Need-number-requires
+number-requires c κs = search needs
+
+returns : tie.Need-returns
+returns c = rw (c .before .outcome .given .1) (refused-words _)
+
+returns-2 : tie.Need-returns-2
+returns-2 c = completed-words _ _ _ _ _ (c .before .before .before .before .outcome2 .given .1) (c .before .status .ensures) (c .number .ensures) (c .before .before .offset .ensures)
+
+pub outcome-words-spec : {M : Type 1} → statement M
+outcome-words-spec =
+    tie.close
+    (tie.spec
+    enum-known-outcome
+    enum-known-outcome-2
+    offset-requires
+    cast-offset
+    status-requires
+    number-requires
+    returns
+    returns-2)

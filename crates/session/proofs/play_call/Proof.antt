@@ -1,0 +1,104 @@
+use Prim.Native.Nat.{_≤_}
+use native.Mathlib.Omega.{arith}
+use lib.ListN.{length}
+use Rattle.session.proofs.Numbers.{run-small}
+use Rattle.session.proofs.Turns.{batch-lies, open-plays, submit-plays, run-plays, pending-plays}
+use borrow.Author.Needs.{needs}
+use Rattle.session.proofs.play_call.Statement.{statement}
+use Rattle.session.proofs.play_call.Tie as tie
+
+lies : (c : tie.After-submit-arg) → (c .before .before .request2 .given .0 .1 .0 ≤ c .before .before .request2 .given .0 .1 .1 .0) × (c .before .before .request2 .given .0 .1 .1 .0 ≤ length (c .before .before .before .before .before .before .before .args .bytes .now))
+lies c = batch-lies _ _ _ _ _ (c .before .before .request2 .given .1) (c .before .before .before .before .before .before .before .pre)
+
+enum-known-request : tie.Need-enum-known-request
+enum-known-request c = search needs
+
+open-requires : tie.Need-open-requires
+open-requires c κs = search needs
+
+step-of-requires : tie.Need-step-of-requires
+step-of-requires c κs = search needs
+
+enum-known-request-2 : tie.Need-enum-known-request-2
+enum-known-request-2 c = search needs
+
+sub-submit : tie.Need-sub-submit
+sub-submit c = lies c .0
+
+part-submit-start : tie.Need-part-submit-start
+part-submit-start c = let l = lies c in omega arith
+
+part-submit-end : tie.Need-part-submit-end
+part-submit-end c = let l = lies c in omega arith
+
+submit-requires : tie.Need-submit-requires
+submit-requires c κs = search needs
+
+step-of-requires-2 : tie.Need-step-of-requires-2
+step-of-requires-2 c κs = search needs
+
+enum-told : tie.Need-enum-told
+enum-told c = search needs
+
+run-requires : tie.Need-run-requires
+run-requires c κs = search needs
+
+step-of-run-requires : tie.Need-step-of-run-requires
+step-of-run-requires c κs = rw (c .before .before .run .ensures .0) (run-small _ _ _)
+
+enum-known-request-3 : tie.Need-enum-known-request-3
+enum-known-request-3 c = search needs
+
+pending-requires : tie.Need-pending-requires
+pending-requires c κs = search needs
+
+answer-words-requires : tie.Need-answer-words-requires
+answer-words-requires c κs = search needs
+
+returns : tie.Need-returns
+returns c = rw (c .before .before .before .request .given .1) (open-plays _ _ _ _ _ _ _ _ (c .before .open .ensures) (c .step-of .ensures .0) (c .step-of .ensures .1))
+
+same-length : tie.Need-same-length
+same-length c = search needs
+
+returns-2 : tie.Need-returns-2
+returns-2 c = rw (c .before .before .before .before .before .before .before .request2 .given .1) (submit-plays _ _ _ _ _ _ _ _ _ (c .before .before .before .submit .ensures .0) (c .before .before .before .submit .ensures .1) (c .step-of2 .ensures .0) (c .step-of2 .ensures .1))
+
+same-length-2 : tie.Need-same-length-2
+same-length-2 c = search needs
+
+same-length-3 : tie.Need-same-length-3
+same-length-3 c = search needs
+
+returns-3 : tie.Need-returns-3
+returns-3 c = rw (c .before .before .before .before .before .before .enum-told .given .1) (run-plays _ _ _ _ _ _ _ (c .before .before .before .run .ensures .0) (c .before .before .before .run .ensures .1) (c .step-of-run .ensures .0) (c .step-of-run .ensures .1))
+
+returns-4 : tie.Need-returns-4
+returns-4 c = rw (c .before .before .before .request3 .given .1) (pending-plays _ _ _ _ _ _ (c .before .pending .ensures) (c .answer-words .ensures))
+
+pub play-call-spec : {M : Type 1} → statement M
+play-call-spec =
+    tie.close
+    (tie.spec
+    enum-known-request
+    open-requires
+    step-of-requires
+    enum-known-request-2
+    sub-submit
+    part-submit-start
+    part-submit-end
+    submit-requires
+    step-of-requires-2
+    enum-told
+    run-requires
+    step-of-run-requires
+    enum-known-request-3
+    pending-requires
+    answer-words-requires
+    returns
+    same-length
+    returns-2
+    same-length-2
+    same-length-3
+    returns-3
+    returns-4)

@@ -1,0 +1,50 @@
+use native.Mathlib.Omega.{arith}
+use Rattle.session.proofs.Parsing.{next-none, next-open, next-submit, next-run, run-read, next-pending, next-unknown}
+use borrow.Author.Needs.{needs}
+use Rattle.session.proofs.script.next_call.Statement.{statement}
+use Rattle.session.proofs.script.next_call.Tie as tie
+
+returns : tie.Need-returns
+returns c = next-none _ (c .if1 .taken)
+
+shared-slice-read-match : tie.Need-shared-slice-read-match
+shared-slice-read-match c = search needs
+
+open-in-requires : tie.Need-open-in-requires
+open-in-requires c κs = search needs
+
+submit-in-requires : tie.Need-submit-in-requires
+submit-in-requires c κs = search needs
+
+pending-in-requires : tie.Need-pending-in-requires
+pending-in-requires c κs = search needs
+
+returns-2 : tie.Need-returns-2
+returns-2 c = rw (next-open (c .before .before .before .before .before .args .bytes .now) (omega arith) (c .before .match .keys1)) (c .open-in .ensures)
+
+returns-3 : tie.Need-returns-3
+returns-3 c = rw (next-submit (c .before .before .before .before .before .args .bytes .now) (omega arith) (c .before .match .keys2)) (c .submit-in .ensures)
+
+returns-4 : tie.Need-returns-4
+returns-4 c = rw (next-run (c .before .before .before .before .args .bytes .now) (omega arith) (c .match .keys3)) (run-read (c .before .before .before .before .args .bytes .now) (omega arith))
+
+returns-5 : tie.Need-returns-5
+returns-5 c = rw (next-pending (c .before .before .before .before .before .args .bytes .now) (omega arith) (c .before .match .keys4)) (c .pending-in .ensures)
+
+returns-6 : tie.Need-returns-6
+returns-6 c = next-unknown (c .before .before .before .before .args .bytes .now) (omega arith) (c .match .rest .0 .0 .0 .1) (c .match .rest .0 .0 .1) (c .match .rest .0 .1) (c .match .rest .1)
+
+pub next-call-spec : {M : Type 1} → statement M
+next-call-spec =
+    tie.close
+    (tie.spec
+    returns
+    shared-slice-read-match
+    open-in-requires
+    submit-in-requires
+    pending-in-requires
+    returns-2
+    returns-3
+    returns-4
+    returns-5
+    returns-6)

@@ -1,0 +1,28 @@
+-- What a call of a script does, and what all of them do, in the engine's definitions (crate claims, specs/Engine): the contracts of this
+-- crate's inner functions.
+use mathlib.Core.Path.{_≡_}
+use mathlib.Core.List.{List, _++_}
+use Prim.Native.Nat.{ℕ, _≤_}
+use lib.ListN.{length, drop}
+use Rattle.engine.specs.declared.Outcome.{Outcome}
+use Rattle.engine.specs.Outcome.{valuesOf}
+use Rattle.model.specs.Calls.{Call}
+use Rattle.claims.specs.Engine.{State, called, answersOf, stateAfter}
+use Rattle.session.specs.Answers.{wordsOf, answerBytes}
+
+-- one call: its answer's words, and record, ring and memory after it
+pub record Plays (call : Call) (s after : State) (words : List ℕ) : Type 0 where
+  pub says : words ≡ wordsOf (called call s .answer)
+  pub leaves : after ≡ called call s .after
+
+-- status and offset of an outcome fit in words
+pub record Small (outcome : Outcome) : Type 0 where
+  pub status : valuesOf outcome .status ≤ 4294967295
+  pub offset : valuesOf outcome .offset ≤ 4294967295
+
+-- all of them, from any state: the answers are at the start of the buffer
+pub record PlaysAll (played : List Call) (s : State) (buffer : List ℕ) (count : ℕ) (ringNow memoryNow bufferNow : List ℕ) : Type 0 where
+  pub returned : count ≡ length (answerBytes (answersOf played s))
+  pub bytes : bufferNow ≡ answerBytes (answersOf played s) ++ drop count buffer
+  pub memory-end : memoryNow ≡ stateAfter played s .memory
+  pub ring-end : ringNow ≡ stateAfter played s .ring

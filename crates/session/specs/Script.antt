@@ -1,0 +1,84 @@
+-- A script: a list of calls as bytes. Each call is an opcode byte and its arguments, numbers little-endian, with no padding:
+--   0 open: start and length, four bytes each
+--   1 submit: client, one byte; length, four bytes; that many bytes
+--   2 run
+--   3 pending: client, one byte
+-- An unknown opcode, or a call that is cut short, ends the list.
+use mathlib.Core.List.{List, [], _∷_, _++_}
+use mathlib.Core.Bool.{cond}
+use Prim.Native.Nat.{ℕ, zero, suc, _+_, _<_, _^_}
+use lib.ListN.{length, take, drop, getD}
+use lib.Dec.{ltb, eqb}
+use Rattle.word.specs.Word.{le32At, leBytes}
+use Rattle.model.specs.Calls.{Call, opens, submit, run, pending}
+
+-- what stands at the start of some bytes: no call, or a call and the bytes after it
+pub data Parsed : Type 0 where
+  ended : Parsed
+  parsed : (call : Call) (rest : List ℕ) → Parsed
+
+-- ---- bytes that begin with an opcode
+
+abbrev pub openIn : List ℕ → Parsed
+openIn bytes =
+    cond (ltb (length bytes) 9) ended
+    (parsed (opens (record { start = le32At bytes 1; length = le32At bytes 5 })) (drop 9 bytes))
+
+-- bytes that are too short for the length to be there are too short for the call as well
+abbrev pub submitIn : List ℕ → Parsed
+submitIn bytes =
+    let size : ℕ = le32At bytes 2 in
+    cond (ltb (length bytes) (6 + size)) ended
+    (parsed (submit (getD bytes 1 0) (take size (drop 6 bytes))) (drop (6 + size) bytes))
+
+abbrev pub runIn : List ℕ → Parsed
+runIn bytes = parsed run (drop 1 bytes)
+
+abbrev pub pendingIn : List ℕ → Parsed
+pendingIn bytes = cond (ltb (length bytes) 2) ended (parsed (pending (getD bytes 1 0)) (drop 2 bytes))
+
+-- ---- the list
+
+-- the call that the bytes begin with
+unfoldable pub next : List ℕ → Parsed
+next [] = ended
+next (opcode ∷ body) =
+    cond (eqb opcode 0) (openIn (opcode ∷ body))
+    (cond (eqb opcode 1) (submitIn (opcode ∷ body))
+    (cond (eqb opcode 2) (runIn (opcode ∷ body))
+    (cond (eqb opcode 3) (pendingIn (opcode ∷ body))
+    ended)))
+
+-- a call, and those of the bytes after it
+abbrev pub andThen : (List ℕ → List Call) → Parsed → List Call
+andThen others ended = []
+andThen others (parsed call rest) = call ∷ others rest
+
+-- the calls of a script, n at most
+unfoldable pub decode : (n : ℕ) → (script : List ℕ) → List Call
+decode zero script = []
+decode (suc n) script = andThen (decode n) (next script)
+
+-- ---- the other way
+
+-- the bytes of a call
+unfoldable pub encodeOne : Call → List ℕ
+encodeOne (opens w) = 0 ∷ (leBytes (w .start) ++ leBytes (w .length))
+encodeOne (submit client bytes) = 1 ∷ client ∷ (leBytes (length bytes) ++ bytes)
+encodeOne run = 2 ∷ []
+encodeOne (pending client) = 3 ∷ client ∷ []
+
+unfoldable pub encode : List Call → List ℕ
+encode [] = []
+encode (call ∷ calls) = encodeOne call ++ encode calls
+
+-- there is room for the call's numbers: a byte for a client, four for every other
+abbrev pub FitsOne : Call → Type 0
+FitsOne (opens w) = (w .start < 2 ^ 32) × (w .length < 2 ^ 32)
+FitsOne (submit client bytes) = (client < 2 ^ 8) × (length bytes < 2 ^ 32)
+FitsOne run = Unit {0}
+FitsOne (pending client) = client < 2 ^ 8
+
+abbrev pub Fits : List Call → Type 0
+Fits [] = Unit {0}
+Fits (call ∷ calls) = FitsOne call × Fits calls

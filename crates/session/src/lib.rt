@@ -1,0 +1,141 @@
+// A list of calls, given as bytes, played on the engine; the answers are written as bytes.
+mod answer;
+mod script;
+
+ghost use mathlib.Core.Path.{_≡_};
+ghost use Prim.Native.Nat.{_/_};
+ghost use lib.ListN.{length};
+ghost use Rattle.queue.specs.Answers.{numberOf, valueOf};
+ghost use Rattle.engine.specs.Outcome.{numberOf as refusalOf, valuesOf};
+ghost use Rattle.claims.specs.Engine.{state, told, completion};
+ghost use Rattle.session.specs.Script.{decode};
+ghost use Rattle.session.specs.Requests.{callOf, Lies};
+ghost use Rattle.session.specs.Answers.{twoWords, wordsOf};
+ghost use Rattle.session.specs.Called.{Small, Plays, PlaysAll};
+ghost use Rattle.session.specs.Played.{Played};
+use crate::script::Next;
+use crate::script::Request;
+use engine::Ran;
+use queue::Reply;
+use record::Record;
+
+// An answer's words, and the record after the call.
+struct Step {
+    words: [u32; 6],
+    engine: Record,
+}
+
+fn step_of(reply: Reply) -> Step
+    ensures { λ r. ⌜ (r .words ≡ twoWords (numberOf (reply .answer)) (valueOf (reply .answer))) × (r .engine ≡ reply .engine) ⌝ }
+{
+    let answer = reply.answer;
+    let engine = reply.engine;
+    Step {
+        words: answer::answer_words(answer),
+        engine: engine,
+    }
+}
+
+fn step_of_run(ran: Ran) -> Step
+    requires { ⌜ Small (ran .outcome) ⌝ }
+    ensures { λ r. ⌜ (r .words ≡ wordsOf (told (refusalOf (ran .outcome)) (completion (valuesOf (ran .outcome))))) × (r .engine ≡ ran .engine) ⌝ }
+{
+    let outcome = ran.outcome;
+    let engine = ran.engine;
+    Step {
+        words: answer::outcome_words(outcome),
+        engine: engine,
+    }
+}
+
+// One call, taken from the script's bytes that begin with it.
+fn play_call(
+    engine: Record,
+    ring: &mut [u8],
+    memory: &mut [u8],
+    bytes: &[u8],
+    request: Request,
+) -> Step
+    requires { ⌜ Lies (length (now bytes)) request ⌝ }
+    ensures { λ r. ⌜ Plays (callOf (now (bytes .entry)) request) (state engine (now (ring .entry)) (now (memory .entry)))
+        (state (r .engine) (now (ring .exit)) (now (memory .exit))) (r .words) ⌝ }
+{
+    match request {
+        Request::Open(start, length) => step_of(engine::open(engine, start, length)),
+        Request::Submit(client, from, to) => step_of(engine::submit(
+            engine,
+            ring,
+            client,
+            &bytes[from..to],
+        )),
+        Request::Run => step_of_run(engine::run(engine, ring, memory)),
+        Request::Pending(client) => Step {
+            words: answer::answer_words(engine::pending(engine, client)),
+            engine: engine,
+        },
+    }
+}
+
+// The calls of a script, as many as there is room for their answers.
+fn play_calls(
+    start: Record,
+    ring: &mut [u8],
+    memory: &mut [u8],
+    script: &[u8],
+    answers: &mut [u8],
+) -> usize
+    ensures { λ r. ⌜ PlaysAll (decode (length (now (answers .entry)) / 24) (now (script .entry))) (state start (now (ring .entry)) (now (memory .entry)))
+        (now (answers .entry)) r (now (ring .exit)) (now (memory .exit)) (now (answers .exit)) ⌝ }
+{
+    let mut engine = start;
+    let mut left = answers.len() / 24;
+    let mut at: usize = 0;
+    let mut count: usize = 0;
+    while 0 < left {
+        let bytes = &script[at..];
+        match script::next_call(bytes) {
+            Next::End => {
+                return count;
+            }
+            Next::Call(found) => {
+                let request = found.request;
+                let step = play_call(engine, ring, memory, bytes, request);
+                let words = step.words;
+                answer::write_answer(answers, count, words);
+                engine = step.engine;
+                at = at + found.size;
+                count = count + 24;
+                left = left - 1;
+            }
+        }
+    }
+    count
+}
+
+// Sets up an engine and plays a script on the lent ring and memory. Returns how many bytes of answers it wrote.
+pub fn play(
+    ring_length: usize,
+    memory_length: usize,
+    common_length: usize,
+    ring: &mut [u8],
+    memory: &mut [u8],
+    script: &[u8],
+    answers: &mut [u8],
+) -> usize
+    ensures { λ r. ⌜ Played (record { ring = «ring_length»; memory = «memory_length»; common = «common_length» })
+        (now (ring .entry)) (now (memory .entry)) (now (script .entry)) (now (answers .entry))
+        r (now (ring .exit)) (now (memory .exit)) (now (answers .exit)) ⌝ }
+{
+    if answers.len() < 24 {
+        return 0;
+    }
+    let reply = engine::set_up(ring_length, memory_length, common_length);
+    let engine = reply.engine;
+    let told = reply.answer;
+    let words = answer::answer_words(told);
+    answer::write_answer(answers, 0, words);
+    if words[0] != 0 {
+        return 24;
+    }
+    24 + play_calls(engine, ring, memory, script, &mut answers[24..])
+}

@@ -1,0 +1,90 @@
+// The calls of a script, one at a time.
+ghost use lib.ListN.{length};
+ghost use Rattle.session.specs.Script.{openIn, submitIn, pendingIn, next};
+ghost use Rattle.session.specs.Requests.{Reads};
+
+// A call, taken from bytes that begin with it. A batch is the bytes `from` to `to` of them.
+pub enum Request {
+    Open(u32, u32),
+    Submit(u32, usize, usize),
+    Run,
+    Pending(u32),
+}
+
+// A call, and how many bytes it takes.
+pub struct Found {
+    pub request: Request,
+    pub size: usize,
+}
+
+pub enum Next {
+    End,
+    Call(Found),
+}
+
+// Open: start and length after the opcode.
+fn open_in(bytes: &[u8]) -> Next
+    ensures { λ r. ⌜ Reads (now (bytes .entry)) (openIn (now (bytes .entry))) r ⌝ }
+{
+    if bytes.len() < 9 {
+        return Next::End;
+    }
+    let start = word::read_le32(bytes, 1);
+    let length = word::read_le32(bytes, 5);
+    Next::Call(Found {
+        request: Request::Open(start, length),
+        size: 9,
+    })
+}
+
+// Submit: client, length and batch after the opcode. The length is read only where it is there.
+fn submit_in(bytes: &[u8]) -> Next
+    ensures { λ r. ⌜ Reads (now (bytes .entry)) (submitIn (now (bytes .entry))) r ⌝ }
+{
+    if bytes.len() < 6 {
+        return Next::End;
+    }
+    let size = word::read_le32(bytes, 2) as usize;
+    if bytes.len() - 6 < size {
+        return Next::End;
+    }
+    let client = bytes[1] as u32;
+    let end = 6 + size;
+    Next::Call(Found {
+        request: Request::Submit(client, 6, end),
+        size: end,
+    })
+}
+
+// Pending: the client after the opcode.
+fn pending_in(bytes: &[u8]) -> Next
+    ensures { λ r. ⌜ Reads (now (bytes .entry)) (pendingIn (now (bytes .entry))) r ⌝ }
+{
+    if bytes.len() < 2 {
+        return Next::End;
+    }
+    let client = bytes[1] as u32;
+    Next::Call(Found {
+        request: Request::Pending(client),
+        size: 2,
+    })
+}
+
+// The call that the bytes begin with.
+pub fn next_call(bytes: &[u8]) -> Next
+    ensures { λ r. ⌜ Reads (now (bytes .entry)) (next (now (bytes .entry))) r ⌝ }
+{
+    if bytes.len() == 0 {
+        return Next::End;
+    }
+    match bytes[0] {
+        0 => open_in(bytes),
+        1 => submit_in(bytes),
+        2 => Next::Call(Found {
+            request: Request::Run,
+            size: 1,
+        }),
+        3 => pending_in(bytes),
+        _ => Next::End,
+    }
+}
