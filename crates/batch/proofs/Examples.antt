@@ -1,10 +1,9 @@
--- The examples of 01 that are batches: the worked words, T1, and a fault at each place in a group. Client 0 of the replay program
+-- The examples of 01 that are batches: the worked words, and a fault at each place in a group. Client 0 of the replay program
 -- has the window 16,384 to 28,671, after as much common.
 use Prim.Native.Nat.{ℕ}
 use mathlib.Core.Path.{_≡_, refl}
 use mathlib.Core.List.{List, [], _∷_, _++_}
 use lib.ListN.{length}
-use Rattle.word.specs.Field.{field}
 use Rattle.surface.specs.Surface.{span}
 use Rattle.register.specs.Table.{kindOf}
 use Rattle.register.specs.Bank.{resetBank, storedSurface, stored, written}
@@ -14,7 +13,7 @@ use Rattle.rules.specs.declared.task.Bounds.{Bounds}
 use Rattle.rules.specs.Rules.{badSides, badStride, badSource, badOutput, badDestination, badSurface, sizeMismatch, outOfBounds, samePlace, overlap, taskFault}
 use Rattle.batch.specs.declared.verdict.Verdict.{Verdict}
 use Rattle.batch.specs.declared.verdict.Verdict.the-variants.{Faultless, Faulty}
-use Rattle.batch.specs.Batch.{readFrom, readBatch, verdictOf, statusOf}
+use Rattle.batch.specs.Batch.{readFrom, readBatch, verdictOf}
 
 -- the replay program's bounds for client 0
 abbrev pub bounds : Bounds
@@ -33,13 +32,6 @@ words address =
 abbrev pub verdict : List ℕ → Verdict
 verdict ws = verdictOf (readBatch bounds resetBank ws)
 
--- the headers H1 and H2
-pub H1 : (field 31 16 0x0010000C ≡ 16) × (field 15 2 0x0010000C ≡ 3) × (field 0 0 0x0010000C ≡ 0)
-H1 = (refl, refl, refl)
-
-pub H2 : (field 31 16 0x00300011 ≡ 48) × (field 15 2 0x00300011 ≡ 4) × (field 0 0 0x00300011 ≡ 1)
-H2 = (refl, refl, refl)
-
 -- the worked words are one task, and with address 64 the fault is 27 at 72
 pub one : verdict (words 0x4000) ≡ Faultless 1
 unfolding readFrom written kindOf stored storedSurface taskOf sourceOf destinationOf blendingOf surfaceOf transformOf alphaOf taskFault badSurface badSource badOutput badDestination badSides badStride sizeMismatch outOfBounds samePlace overlap span
@@ -48,11 +40,6 @@ one = refl
 pub outside : verdict (words 64) ≡ Faulty OutOfBounds 72
 unfolding readFrom written kindOf stored storedSurface taskOf sourceOf destinationOf blendingOf surfaceOf transformOf alphaOf taskFault badSurface badSource badOutput badDestination badSides badStride sizeMismatch outOfBounds samePlace overlap span
 outside = refl
-
--- T1
-pub T1 : statusOf (verdict (words 0x4000 ++ words 0x4000 ++ words 0x4000)) ≡ 0x00030001
-unfolding readFrom written kindOf stored storedSurface taskOf sourceOf destinationOf blendingOf surfaceOf transformOf alphaOf taskFault badSurface badSource badOutput badDestination badSides badStride sizeMismatch outOfBounds samePlace overlap span
-T1 = refl
 
 -- the registers are kept from task to task: a second task writes its address alone
 pub kept : verdict (words 0x4000 ++ 0x01100005 ∷ 0x5000 ∷ []) ≡ Faultless 2

@@ -7,3 +7,4 @@ pub mod Numbers
 pub mod Turns
 pub mod Going
 pub mod Whole
+pub mod Examples

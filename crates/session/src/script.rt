@@ -1,5 +1,4 @@
 // The calls of a script, one at a time.
-ghost use lib.ListN.{length};
 ghost use Rattle.session.specs.Script.{openIn, submitIn, pendingIn, next};
 ghost use Rattle.session.specs.Requests.{Reads};
 
