@@ -2,11 +2,11 @@
 use crate::registers;
 use batch::Step;
 use batch::Verdict;
-use cases::line;
 use cases::payload;
 use range::Range;
 use register::Bank;
 use rules::Bounds;
+use text::line;
 
 fn bounds(given: &[u8]) -> Bounds {
     Bounds {

@@ -1,5 +1,4 @@
 // Cases of the registers: a payload begins with the words of the fourteen registers, by rising offset.
-use cases::line;
 use cases::payload;
 use pixel::AlphaMode;
 use pixel::Factor;
@@ -13,6 +12,7 @@ use register::Task;
 use register::Write;
 use register::WriteFault;
 use surface::Surface;
+use text::line;
 use transform::Rotation;
 use transform::Transform;
 

@@ -1,6 +1,3 @@
--- What the programs that run streams of cases share: the line that a case prints, and how its payload is read.
-pub mod Line
-pub mod Hex
-pub mod Digest
+-- What the programs that run streams of cases share: how a case is read, and its payload.
 pub mod Payload
 pub mod Stream

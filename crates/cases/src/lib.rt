@@ -1,16 +1,16 @@
 // What the programs that run streams of cases share. A case is an op byte, its payload's length in two bytes, low byte
 // first, and the payload; each prints one line. tests/independent writes the streams and the lines that must come out.
-pub mod line;
 pub mod payload;
 
 ghost use mathlib.Core.Path.{_≡_};
 ghost use mathlib.Core.Bool.{true};
 ghost use Prim.Native.Nat.{_≤_};
 ghost use lib.ListN.{length, drop};
-ghost use Rattle.cases.specs.Line.{lineOf, pushed};
+ghost use Rattle.text.specs.Line.{lineOf, pushed};
 ghost use Rattle.cases.specs.Stream.{Read};
 use libc::STDIN_FILENO;
 use libc::STDOUT_FILENO;
+use text::line;
 
 // A case that was read, its payload at the start of the buffer. `more` is false if there was none.
 pub struct Case {

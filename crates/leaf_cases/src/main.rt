@@ -4,7 +4,7 @@ mod runs;
 mod transforms;
 mod words;
 
-use cases::line;
+use text::line;
 
 // The text of a case's line: its length. Op 0 is text; the others are by subject, in the high digit of the op.
 fn answer(op: u8, given: &mut [u8], line: &mut [u8]) -> usize {

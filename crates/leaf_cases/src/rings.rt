@@ -1,9 +1,9 @@
 // Cases of batches in the ring.
 ghost use Prim.Native.Nat.{_≤_};
 ghost use lib.ListN.{length};
-use cases::line;
 use cases::payload;
 use ring::Read;
+use text::line;
 
 pub fn run(op: u8, given: &mut [u8], line: &mut [u8]) -> usize {
     match op {

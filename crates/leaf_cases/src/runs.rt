@@ -1,6 +1,6 @@
 // Cases of runs of bytes.
-use cases::line;
 use cases::payload;
+use text::line;
 
 pub fn run(op: u8, given: &[u8], line: &mut [u8]) -> usize {
     match op {

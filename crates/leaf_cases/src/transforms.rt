@@ -1,7 +1,7 @@
 // Cases of flips and quarter turns.
 ghost use Prim.Native.Nat.{_≤_};
-use cases::line;
 use cases::payload;
+use text::line;
 use transform::Flip;
 use transform::Point;
 use transform::Rotation;

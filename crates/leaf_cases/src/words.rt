@@ -1,6 +1,6 @@
 // Cases of words and their fields.
-use cases::line;
 use cases::payload;
+use text::line;
 
 pub fn run(op: u8, given: &mut [u8], line: &mut [u8]) -> usize {
     match op {

@@ -1,12 +1,12 @@
 // Cases of near, alpha modes, factors and rules.
 use crate::colours;
-use cases::line;
 use cases::payload;
 use pixel::AlphaMode;
 use pixel::Colour;
 use pixel::Factor;
 use pixel::Rule;
 use pixel::RuleName;
+use text::line;
 
 // The greatest sum of two products of bytes.
 const GREATEST_SUM: u32 = 130050;

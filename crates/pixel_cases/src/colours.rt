@@ -3,11 +3,11 @@ ghost use mathlib.Core.Path.{_≡_};
 ghost use Prim.Native.Nat.{_+_};
 ghost use mathlib.Core.List.{[], _∷_};
 ghost use lib.ListN.{getD};
-ghost use Rattle.cases.specs.Line.{lineOf, typed};
-ghost use Rattle.cases.specs.Hex.{hexBytes};
-use cases::line;
+ghost use Rattle.text.specs.Line.{lineOf, typed};
+ghost use Rattle.text.specs.Hex.{hexBytes};
 use cases::payload;
 use pixel::Colour;
+use text::line;
 
 pub fn colour_or_zero(given: &[u8], at: u8) -> Colour
     ensures { λ r. ⌜ (r .alpha ≡ getD (now (given .entry)) at 0) × (r .red ≡ getD (now (given .entry)) (at + 1) 0)

@@ -1,10 +1,10 @@
 // Cases of pixel formats.
 use crate::colours;
-use cases::line;
 use cases::payload;
 use pixel::Colour;
 use pixel::Format;
 use pixel::Layout;
+use text::line;
 
 pub fn run(op: u8, given: &[u8], line: &mut [u8]) -> usize {
     let code = payload::word_or_zero(given, 0);

@@ -1,10 +1,10 @@
 // Cases of surfaces and of pixels in memory.
 use crate::colours;
-use cases::line;
 use cases::payload;
 use pixel::Colour;
 use pixel::Format;
 use surface::Surface;
+use text::line;
 
 pub fn run(op: u8, given: &mut [u8], line: &mut [u8]) -> usize {
     match op {

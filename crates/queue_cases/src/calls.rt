@@ -1,9 +1,9 @@
 // The calls. Each prints a refusal's number or 0, the value answered, and the record and the ring after it, each as one number.
 use crate::records;
-use cases::line;
 use cases::payload;
 use queue::Answer;
 use record::Record;
+use text::line;
 
 fn hex_answer(line: &mut [u8], answer: Answer) -> usize {
     match answer {

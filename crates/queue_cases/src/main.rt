@@ -2,7 +2,7 @@
 mod calls;
 mod records;
 
-use cases::line;
+use text::line;
 
 // The text of a case's line: its length. Op 0 is text.
 fn answer(op: u8, given: &mut [u8], line: &mut [u8]) -> usize {

@@ -1,5 +1,4 @@
 // An engine record in a payload, and as one number.
-use cases::line;
 use cases::payload;
 use record::Batch;
 use record::Client;
@@ -8,6 +7,7 @@ use record::Setup;
 use record::Slot;
 use record::SlotState;
 use record::Window;
+use text::line;
 
 // The record at the start of a payload.
 pub fn record_of(given: &[u8]) -> Record {

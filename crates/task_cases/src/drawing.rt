@@ -1,11 +1,11 @@
 // Cases of drawing: a payload is the window's start and length, the common length, what the memory is made of, and the batch.
 use batch::Verdict;
-use cases::line;
 use cases::payload;
 use range::Range;
 use raster::run_batch;
 use register::Bank;
 use rules::Bounds;
+use text::line;
 
 pub fn run(given: &[u8], line: &mut [u8]) -> usize {
     let mut room = io::buffer();

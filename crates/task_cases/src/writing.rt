@@ -1,5 +1,4 @@
 // Cases of the encoder: a payload is the fields and then the buffer.
-use cases::line;
 use cases::payload;
 use encoder::AlphaFields;
 use encoder::Answer;
@@ -10,6 +9,7 @@ use encoder::SourceFields;
 use encoder::SurfaceFields;
 use encoder::TransformFields;
 use encoder::encode;
+use text::line;
 
 fn surface(given: &[u8], at: u8) -> SurfaceFields {
     let words = payload::rest(given, at);

@@ -1,5 +1,5 @@
 use mathlib.Core.Path.{ap}
-use Rattle.cases.specs.Line.{Line}
+use Rattle.text.specs.Line.{Line}
 use borrow.Author.Needs.{needs}
 use Rattle.cases.proofs.print.Statement.{statement}
 use Rattle.cases.proofs.print.Tie as tie

@@ -1,0 +1,251 @@
+-- A file may be cut anywhere: what a step prints, and what the rest of the file prints from where it leaves the reading, is what the file
+-- prints from where the step began.
+use mathlib.Core.Path.{_≡_, refl, sym, ap, _∙_}
+use mathlib.Core.Bool.{Bool, true, false, cond}
+use mathlib.Core.Logic.{_⊎_, inl, inr}
+use mathlib.Core.List.{List, [], _∷_, _++_, append-assoc, append-nil}
+use Prim.Native.Nat.{ℕ, zero, suc, _+_, _≤_, _<_}
+use native.Mathlib.Omega.{arith}
+use lib.ListN.{length, take, drop, length-append, length-take, length-drop, take-append-drop}
+use lib.Seq.{length-take-le, take-all, drop-length, drop-at}
+use lib.Dec.{eqb, ltb}
+use borrow.Author.Tests.{lt-ltb, le-ltb}
+use Rattle.word.proofs.Tests.{split}
+use Rattle.claims.specs.Engine.{State}
+use Rattle.replay.specs.declared.Stage.{Stage}
+use Rattle.replay.specs.declared.Stage.the-variants.{Version, Records, Ended}
+use Rattle.replay.specs.Records.{Entry, File, badVersion, badRecord, cutRecord, ends, andThen, sizeOf, badSize, entryOf, recordsFrom, records}
+use Rattle.replay.specs.Lines.{endingLine, printedFrom, linesFrom, lines}
+use Rattle.replay.specs.Step.{Position, position, atStart, missing, decided, Step, stepIn, step, finishText}
+use Rattle.replay.specs.Cutting.{fedFrom, fedAll, printed, joined, Cutting}
+use Rattle.replay.proofs.Reading.{good-size, size-front, entry-front, decided-short, decided-bad, decided-part, decided-whole, missing-short, missing-bad, missing-rest}
+
+-- ---- fuel
+
+-- as much fuel as there are bytes
+abbrev file : List ℕ → File
+file bytes = recordsFrom (length bytes) bytes
+
+-- the record at the front, with what comes of the bytes behind it
+abbrev front : List ℕ → File → File
+front bytes rest =
+    cond (ltb (length bytes) 4) (ends cutRecord)
+    (cond (badSize (sizeOf bytes)) (ends badRecord)
+    (cond (ltb (length bytes) (4 + sizeOf bytes)) (ends cutRecord)
+    (andThen (entryOf bytes) rest)))
+
+fuel-free : (f g : ℕ) (bytes : List ℕ) → length bytes ≤ f → length bytes ≤ g → recordsFrom f bytes ≡ recordsFrom g bytes
+unfolding recordsFrom
+fuel-free zero zero bytes p q = refl
+fuel-free zero (suc g) [] p q = refl
+fuel-free zero (suc g) (b ∷ more) p q = absurd (omega arith)
+fuel-free (suc f) zero [] p q = refl
+fuel-free (suc f) zero (b ∷ more) p q = absurd (omega arith)
+fuel-free (suc f) (suc g) [] p q = refl
+fuel-free (suc f) (suc g) (b ∷ more) p q =
+    let less = length-drop (4 + sizeOf (b ∷ more)) (b ∷ more) in
+    ap (front (b ∷ more)) (fuel-free f g (drop (4 + sizeOf (b ∷ more)) (b ∷ more)) (omega arith) (omega arith))
+
+file-open : (bytes : List ℕ) → 1 ≤ length bytes → file bytes ≡ front bytes (file (drop (4 + sizeOf bytes) bytes))
+unfolding recordsFrom
+file-open [] h = absurd (omega arith)
+file-open (b ∷ more) h =
+    let less = length-drop (4 + sizeOf (b ∷ more)) (b ∷ more) in
+    ap (front (b ∷ more)) (fuel-free (length more) (length (drop (4 + sizeOf (b ∷ more)) (b ∷ more))) (drop (4 + sizeOf (b ∷ more)) (b ∷ more)) (omega arith) (omega arith))
+
+module _ (bytes : List ℕ) where
+  file-short : 1 ≤ length bytes → length bytes < 4 → file bytes ≡ ends cutRecord
+  file-short some h = file-open bytes some ∙ rw (lt-ltb (length bytes) 4 h)
+
+  module _ (h : 4 ≤ length bytes) where
+    file-bad : badSize (sizeOf bytes) ≡ true → file bytes ≡ ends badRecord
+    file-bad bad = file-open bytes (omega arith) ∙ rw (le-ltb (length bytes) 4 h, bad)
+
+    file-part : badSize (sizeOf bytes) ≡ false → length bytes < 4 + sizeOf bytes → file bytes ≡ ends cutRecord
+    file-part good part = file-open bytes (omega arith) ∙ rw (le-ltb (length bytes) 4 h, good, lt-ltb (length bytes) (4 + sizeOf bytes) part)
+
+    file-whole : badSize (sizeOf bytes) ≡ false → 4 + sizeOf bytes ≤ length bytes → file bytes ≡ andThen (entryOf bytes) (file (drop (4 + sizeOf bytes) bytes))
+    file-whole good all = file-open bytes (omega arith) ∙ rw (le-ltb (length bytes) 4 h, good, le-ltb (length bytes) (4 + sizeOf bytes) all)
+
+-- ---- what is printed from a position on
+
+abbrev linesIn : Stage → Position → (rest : List ℕ) → List ℕ
+linesIn Version p rest = linesFrom (p .state) (records rest)
+linesIn Records p rest = linesFrom (p .state) (file (p .bytes ++ rest))
+linesIn Ended p rest = []
+
+abbrev linesAt : Position → (rest : List ℕ) → List ℕ
+linesAt p rest = linesIn (p .stage) p rest
+
+-- nothing that could be decided is left undecided
+abbrev PendingIn : Stage → List ℕ → Type 0
+PendingIn Version bytes = 0 < 1
+PendingIn Records bytes = 0 < missing bytes
+PendingIn Ended bytes = 0 < 1
+
+abbrev Pending : Position → Type 0
+Pending p = PendingIn (p .stage) (p .bytes)
+
+-- by cases: how far the bytes of a record are there
+data Reach (bytes : List ℕ) : Type 0 where
+  short : length bytes < 4 → Reach bytes
+  bad : 4 ≤ length bytes → badSize (sizeOf bytes) ≡ true → Reach bytes
+  part : 4 ≤ length bytes → badSize (sizeOf bytes) ≡ false → length bytes < 4 + sizeOf bytes → Reach bytes
+  full : 4 ≤ length bytes → badSize (sizeOf bytes) ≡ false → 4 + sizeOf bytes ≤ length bytes → Reach bytes
+
+reach : (bytes : List ℕ) → Reach bytes
+reach bytes = go (split (length bytes) 4)
+  where
+    last : 4 ≤ length bytes → badSize (sizeOf bytes) ≡ false → (length bytes < 4 + sizeOf bytes) ⊎ (4 + sizeOf bytes ≤ length bytes) → Reach bytes
+    last h good (inl less) = part h good less
+    last h good (inr more) = full h good more
+
+    judge : 4 ≤ length bytes → (b : Bool) → badSize (sizeOf bytes) ≡ b → Reach bytes
+    judge h true e = bad h e
+    judge h false e = last h e (split (length bytes) (4 + sizeOf bytes))
+
+    go : (length bytes < 4) ⊎ (4 ≤ length bytes) → Reach bytes
+    go (inl h) = short h
+    go (inr h) = judge h (badSize (sizeOf bytes)) refl
+
+module _ (s : State) (bytes rest : List ℕ) where
+  -- no more bytes than the record has
+  abbrev Exact : Type 0
+  Exact = 4 ≤ length bytes → badSize (sizeOf bytes) ≡ false → length bytes ≤ 4 + sizeOf bytes
+
+  abbrev Onward : Type 0
+  Onward = (linesFrom s (file (bytes ++ rest)) ≡ decided s bytes .text ++ linesAt (decided s bytes .next) rest) × Pending (decided s bytes .next)
+
+  onward-by : Reach bytes → Exact → Onward
+  unfolding printedFrom
+  onward-by (short h) exact = rw (decided-short s bytes h) (refl, rw (missing-short bytes h) (omega arith))
+  onward-by (bad h is) exact =
+      let long : 4 ≤ length (bytes ++ rest) = omega (arith, length-append bytes rest) in
+      let same = size-front bytes rest h in
+      rw (decided-bad s bytes h is, file-bad (bytes ++ rest) long (ap badSize same ∙ is)) (sym (append-nil (endingLine badRecord)), omega arith)
+  onward-by (part h is less) exact = rw (decided-part s bytes h is less) (refl, rw (missing-rest bytes h is) (omega arith))
+  onward-by (full h is more) exact =
+      let long : 4 ≤ length (bytes ++ rest) = omega (arith, length-append bytes rest) in
+      let same = size-front bytes rest h in
+      let all : 4 + sizeOf (bytes ++ rest) ≤ length (bytes ++ rest) = omega (arith, length-append bytes rest) in
+      let some = good-size (sizeOf bytes) is .0 in
+      let end : length bytes ≡ 4 + sizeOf (bytes ++ rest) = omega (arith, exact h is) in
+      let behind = drop-at bytes rest (4 + sizeOf (bytes ++ rest)) end in
+      let is-file : file (bytes ++ rest) ≡ andThen (entryOf bytes) (file rest) =
+      file-whole (bytes ++ rest) long (ap badSize same ∙ is) all
+      ∙ ap (λ (e : Entry). andThen e (file (drop (4 + sizeOf (bytes ++ rest)) (bytes ++ rest)))) (entry-front bytes rest some more)
+      ∙ ap (λ (xs : List ℕ). andThen (entryOf bytes) (file xs)) behind in
+      rw (decided-whole s bytes is more, is-file) (refl, rw (missing-short [] (omega arith)) (omega arith))
+
+-- ---- one step
+
+-- what is taken and what is left
+taken-left : (n : ℕ) (xs : List ℕ) → take n xs ++ drop (length (take n xs)) xs ≡ xs
+taken-left n xs = go (split n (length xs))
+  where
+    go : (n < length xs) ⊎ (length xs ≤ n) → take n xs ++ drop (length (take n xs)) xs ≡ xs
+    go (inl h) = rw (length-take-le n xs (omega arith)) (take-append-drop n xs)
+    go (inr h) = rw (take-all n xs h, drop-length) (append-nil xs)
+
+-- no more bytes are taken than the record has
+exact-by : (bytes input : List ℕ) → 0 < missing bytes → Reach bytes
+    → let all : List ℕ = bytes ++ take (missing bytes) input in 4 ≤ length all → badSize (sizeOf all) ≡ false → length all ≤ 4 + sizeOf all
+exact-by bytes input some (short h) = λ long good.
+    omega (arith, length-append bytes (take (missing bytes) input), length-take (missing bytes) input, missing-short bytes h)
+exact-by bytes input some (bad h is) = absurd (omega (arith, missing-bad bytes h is))
+exact-by bytes input some (part h is less) = λ long good.
+    omega (arith, length-append bytes (take (missing bytes) input), length-take (missing bytes) input, missing-rest bytes h is, size-front bytes (take (missing bytes) input) h)
+exact-by bytes input some (full h is more) = absurd (omega (arith, missing-rest bytes h is))
+
+-- it prints the first of what is printed, leaves the reading ready for more, and uses a byte if there is one
+pub record Advances (p : Position) (input rest : List ℕ) (s : Step) : Type 0 where
+  pub prints : linesAt p (input ++ rest) ≡ s .text ++ linesAt (s .next) (drop (s .used) input ++ rest)
+  pub pending : Pending (s .next)
+  pub uses : 1 ≤ length input → 1 ≤ s .used
+
+version-by : (b : Bool) (s : State) (byte : ℕ) (more rest : List ℕ)
+    → let t : Step = cond b (record { used = 1; kept = []; text = []; next = position Records [] s }) (record { used = 1; kept = []; text = endingLine badVersion; next = position Ended [] s }) in
+    (linesFrom s (cond b (file (more ++ rest)) (ends badVersion)) ≡ t .text ++ linesAt (t .next) (drop (t .used) (byte ∷ more) ++ rest)) × Pending (t .next) × (1 ≤ t .used)
+unfolding printedFrom
+version-by true s byte more rest = (refl, rw (missing-short [] (omega arith)) (omega arith), omega arith)
+version-by false s byte more rest = (sym (append-nil (endingLine badVersion)), omega arith, omega arith)
+
+advances-in : (g : Stage) (bytes : List ℕ) (s : State) (input rest : List ℕ) → PendingIn g bytes → Advances (position g bytes s) input rest (stepIn g (position g bytes s) input)
+unfolding stepIn records
+advances-in Version bytes s [] rest h = record { prints = refl; pending = h; uses = λ none. none }
+advances-in Version bytes s (version ∷ more) rest h =
+    let all = version-by (eqb version 1) s version more rest in
+    record { prints = all .0; pending = all .1; uses = λ some. all .2 }
+advances-in Records bytes s input rest h =
+    let part : List ℕ = take (missing bytes) input in
+    let left : List ℕ = drop (length part) input in
+    let on = onward-by s (bytes ++ part) (left ++ rest) (reach (bytes ++ part)) (exact-by bytes input h (reach bytes)) in
+    let whole-input : bytes ++ (input ++ rest) ≡ (bytes ++ part) ++ (left ++ rest) =
+    ap (λ (xs : List ℕ). bytes ++ (xs ++ rest)) (sym (taken-left (missing bytes) input))
+    ∙ ap (λ (xs : List ℕ). bytes ++ xs) (append-assoc part left rest)
+    ∙ sym (append-assoc bytes part (left ++ rest)) in
+    record {
+      prints = ap (λ (xs : List ℕ). linesFrom s (file xs)) whole-input ∙ on .0;
+      pending = on .1;
+      uses = λ some. omega (arith, length-take (missing bytes) input);
+    }
+advances-in Ended bytes s input rest h = record { prints = refl; pending = h; uses = λ some. some }
+
+pub advances : (p : Position) (input rest : List ℕ) → Pending p → Advances p input rest (step p input)
+advances p input rest h = advances-in (p .stage) (p .bytes) (p .state) input rest h
+
+-- ---- the end
+
+cut : (bytes : List ℕ) → Reach bytes → 1 ≤ length bytes → 0 < missing bytes → file bytes ≡ ends cutRecord
+cut bytes (short h) some less = file-short bytes some h
+cut bytes (bad h is) some less = absurd (omega (arith, missing-bad bytes h is))
+cut bytes (part h is few) some less = file-part bytes h is few
+cut bytes (full h is more) some less = absurd (omega (arith, missing-rest bytes h is))
+
+ends-cut : (bytes : List ℕ) (s : State) → 1 ≤ length bytes → 0 < missing bytes → linesFrom s (file (bytes ++ [])) ≡ endingLine cutRecord
+unfolding printedFrom
+ends-cut bytes s some less = ap (λ (xs : List ℕ). linesFrom s (file xs)) (append-nil bytes) ∙ ap (linesFrom s) (cut bytes (reach bytes) some less)
+
+ends-in : (g : Stage) (bytes : List ℕ) (s : State) → PendingIn g bytes → linesAt (position g bytes s) [] ≡ finishText g (length bytes)
+unfolding records printedFrom finishText recordsFrom
+ends-in Version bytes s h = refl
+ends-in Records [] s h = refl
+ends-in Records (b ∷ more) s h = ends-cut (b ∷ more) s (omega arith) h
+ends-in Ended bytes s h = refl
+
+-- ---- a piece, and all pieces
+
+fed : (fuel : ℕ) (p : Position) (piece rest : List ℕ) → length piece ≤ fuel → Pending p
+    → (linesAt p (piece ++ rest) ≡ fedFrom fuel p piece .text ++ linesAt (fedFrom fuel p piece .last) rest) × Pending (fedFrom fuel p piece .last)
+unfolding fedFrom
+fed zero p [] rest few h = (refl, h)
+fed zero p (b ∷ more) rest few h = absurd (omega arith)
+fed (suc fuel) p [] rest few h = (refl, h)
+fed (suc fuel) p (b ∷ more) rest few h =
+    let one = advances p (b ∷ more) rest h in
+    let s : Step = step p (b ∷ more) in
+    let used = one .uses (omega arith) in
+    let left : List ℕ = drop (s .used) (b ∷ more) in
+    let less : length left ≤ fuel = omega (arith, length-drop (s .used) (b ∷ more)) in
+    let then = fed fuel (s .next) left rest less (one .pending) in
+    (one .prints ∙ ap (λ (xs : List ℕ). s .text ++ xs) (then .0) ∙ sym (append-assoc (s .text) (fedFrom fuel (s .next) left .text) (linesAt (fedFrom fuel (s .next) left .last) rest)), then .1)
+
+all : (p : Position) (pieces : List (List ℕ)) → Pending p
+    → (linesAt p (joined pieces) ≡ fedAll p pieces .text ++ linesAt (fedAll p pieces .last) []) × Pending (fedAll p pieces .last)
+unfolding fedAll joined
+all p [] h = (refl, h)
+all p (piece ∷ pieces) h =
+    let one = fed (length piece) p piece (joined pieces) (omega arith) h in
+    let last : Position = fedFrom (length piece) p piece .last in
+    let then = all last pieces (one .1) in (
+      one .0 ∙ ap (λ (xs : List ℕ). fedFrom (length piece) p piece .text ++ xs) (then .0)
+          ∙ sym (append-assoc (fedFrom (length piece) p piece .text) (fedAll last pieces .text) (linesAt (fedAll last pieces .last) [])),
+      then .1,
+    )
+
+pub cutting : Cutting
+unfolding lines
+cutting pieces =
+    let fed-all = all atStart pieces (omega arith) in
+    let last : Position = fedAll atStart pieces .last in
+    sym (fed-all .0 ∙ ap (λ (xs : List ℕ). fedAll atStart pieces .text ++ xs) (ends-in (last .stage) (last .bytes) (last .state) (fed-all .1)))

@@ -1,0 +1,7 @@
+-- Laws that this crate's proofs cite, and the theorem on pieces.
+pub mod Printing
+pub mod Serving
+pub mod Reading
+pub mod Feeding
+pub mod Cutting
+pub mod Examples

@@ -1,0 +1,113 @@
+-- Laws of a record submitted and run, and of the start.
+use mathlib.Core.Path.{_≡_, refl, sym, ap, _∙_}
+use mathlib.Core.List.{List}
+use Prim.Native.Nat.{ℕ, zero, suc, _<_}
+use native.Mathlib.Omega.{arith}
+use lib.ListN.{replicate}
+use Rattle.record.specs.declared.Window.{Window}
+use Rattle.record.specs.declared.Record.{Record}
+use Rattle.queue.specs.declared.Reply.{Reply}
+use Rattle.queue.specs.Answers.{numberOf}
+use Rattle.queue.specs.Calls.{setUp, openOf, submitOf, submitRing}
+use Rattle.engine.specs.declared.Completion.{Completion}
+use Rattle.engine.specs.declared.Outcome.the-variants.{Refused, Completed}
+use Rattle.engine.specs.declared.Ran.{Ran}
+use Rattle.engine.specs.Outcome.{numberOf as refusalOf, valuesOf}
+use Rattle.engine.specs.Run.{oldest, oldestVerdict, runNumber, answered, runOf, runMemory}
+use Rattle.model.specs.Calls.{run, refused}
+use Rattle.claims.specs.Engine.{state, Called, told, completion, called, stateAfter}
+use Rattle.replay.specs.declared.Served.{Served}
+use Rattle.replay.specs.Records.{Entry}
+use Rattle.replay.specs.Lines.{refusalLine, answerLine, served, started, starting}
+use Rattle.replay.specs.Calls.{Prints, Serves}
+
+-- ---- the start
+
+abbrev windowFrom : ℕ → Window
+windowFrom start = record { start = start; length = 12288 }
+
+abbrev opened : Record
+opened =
+    let none : Record = setUp 32768 65536 16384 .engine in
+    let one : Record = openOf none (windowFrom 16384) .engine in
+    let two : Record = openOf one (windowFrom 28672) .engine in
+    let three : Record = openOf two (windowFrom 40960) .engine in
+    openOf three (windowFrom 53248) .engine
+
+started-engine : (ring memory : List ℕ) → started ring memory .engine ≡ opened
+unfolding started stateAfter called
+started-engine ring memory = refl
+
+pub starting-engine : starting .engine ≡ opened
+unfolding starting
+starting-engine = started-engine (replicate 32768 0) (replicate 65536 0)
+
+-- ---- what run answers
+
+answered-refused : (n : ℕ) (c : Completion) (m : ℕ) → answered n (Completed c) ≡ Refused m → 0 < m
+unfolding answered
+answered-refused zero c m e = absurd (let z : _≡_ {A = ℕ} 0 1 = cc in omega arith)
+answered-refused (suc n) c m e =
+    let same : suc n ≡ m = cc in
+    omega arith
+
+-- a refusal has a number
+pub run-refused : (engine : Record) (ring memory : List ℕ) (m : ℕ) → runOf engine ring memory .outcome ≡ Refused m → 0 < m
+unfolding runOf
+run-refused engine ring memory m e =
+    answered-refused (runNumber engine ring memory) (record { client = oldest engine .client; ticket = oldest engine .ticket; verdict = oldestVerdict engine ring }) m e
+
+-- what is printed of it
+pub outcome-refused : (client number : ℕ) → 0 < number
+    → answerLine client (told (refusalOf (Refused number)) (completion (valuesOf (Refused number)))) ≡ refusalLine client number
+unfolding answerLine told
+outcome-refused client zero h = absurd (omega arith)
+outcome-refused client (suc number) h = refl
+
+-- ---- a record
+
+module _ (engine : Record) (ring memory : List ℕ) (entry : Entry) where
+  abbrev reply : Reply
+  reply = submitOf engine ring (entry .client) (entry .batch)
+
+  abbrev rung : List ℕ
+  rung = submitRing engine ring (entry .client) (entry .batch)
+
+  -- refused: nothing is run
+  served-refused : (k : ℕ) → numberOf (reply .answer) ≡ suc k
+      → served entry (state engine ring memory) ≡ record { answer = refused (suc k); after = state (reply .engine) rung memory }
+  unfolding served called told
+  served-refused k e = rw e
+
+  -- accepted: then it is run
+  served-ran : numberOf (reply .answer) ≡ 0 → served entry (state engine ring memory) ≡ called run (state (reply .engine) rung memory)
+  unfolding served called told
+  served-ran e = rw e
+
+module _ (engine : Record) (ring memory : List ℕ) (entry : Entry) (line : List ℕ) (s : Served) (r : Reply) (ring′ memory′ line′ : List ℕ)
+    (submitted : r ≡ submitOf engine ring (entry .client) (entry .batch)) (rung-is : ring′ ≡ submitRing engine ring (entry .client) (entry .batch)) where
+  pub serves-refused : (number : ℕ) → number ≡ numberOf (r .answer) → (number ≡ 0 → ⊥) → s .engine ≡ r .engine → memory′ ≡ memory
+      → Prints (refusalLine (entry .client) number) line (s .written) line′ → Serves engine ring memory entry line s ring′ memory′ line′
+  unfolding answerLine
+  serves-refused zero e some same kept prints = absurd (some refl)
+  serves-refused (suc k) e some same kept prints =
+      let all = served-refused engine ring memory entry k (ap (λ (q : Reply). numberOf (q .answer)) (sym submitted) ∙ sym e) in
+      record {
+        engine-is = same ∙ ap (λ (q : Reply). q .engine) submitted ∙ ap (λ (q : Called). q .after .engine) (sym all);
+        ring-is = rung-is ∙ ap (λ (q : Called). q .after .ring) (sym all);
+        memory-is = kept ∙ ap (λ (q : Called). q .after .memory) (sym all);
+        prints = rw all prints;
+      }
+
+  pub serves-ran : (ran : Ran) → numberOf (r .answer) ≡ 0 → ran ≡ runOf (r .engine) ring′ memory → memory′ ≡ runMemory (r .engine) ring′ memory → s .engine ≡ ran .engine
+      → Prints (answerLine (entry .client) (told (refusalOf (ran .outcome)) (completion (valuesOf (ran .outcome))))) line (s .written) line′
+      → Serves engine ring memory entry line s ring′ memory′ line′
+  unfolding called
+  serves-ran ran e ran-is drawn same prints =
+      let all = served-ran engine ring memory entry (ap (λ (q : Reply). numberOf (q .answer)) (sym submitted) ∙ e) in
+      record {
+        engine-is = rw (all, ← submitted, ← rung-is, ← ran-is) same;
+        ring-is = rw (all) rung-is;
+        memory-is = rw (all, ← submitted, ← rung-is) drawn;
+        prints = rw (all, ← submitted, ← rung-is, ← ran-is) prints;
+      }

@@ -1,0 +1,100 @@
+-- The lines that a replay file prints (01, "Writer and replay"), as bytes of ASCII.
+use mathlib.Core.List.{List, [], _∷_, _++_}
+use mathlib.Core.Bool.{Bool, true, false, cond}
+use Prim.Native.Nat.{ℕ}
+use lib.ListN.{replicate}
+use Rattle.model.specs.Calls.{Setup, Call, opens, submit, run, Verdict, Answer, opened, accepted, completed, ready, refused}
+use Rattle.claims.specs.Engine.{State, Called, called, stateAfter, begin}
+use Rattle.text.specs.Hex.{upperWord}
+use Rattle.text.specs.Decimal.{decimal}
+use Rattle.replay.specs.Records.{Entry, Ending, whole, badVersion, badRecord, cutRecord, File}
+
+-- ---- one line
+
+-- a space, and what follows it
+abbrev pub spaced : List ℕ → List ℕ
+spaced text = 32 ∷ text
+
+-- "desk, ticket, status in eight upper-case hex digits, fault, place", "ended by a line feed"
+unfoldable pub completionLine : (client ticket : ℕ) → Verdict → List ℕ
+completionLine client ticket v =
+    decimal client
+    ++ (spaced (decimal ticket)
+    ++ (spaced (upperWord (v .status))
+    ++ (spaced (decimal (v .fault))
+    ++ (spaced (decimal (v .offset))
+    ++ (10 ∷ [])))))
+
+-- "A refused submit prints `0 - - 6 0` with its desk and number."
+unfoldable pub refusalLine : (client number : ℕ) → List ℕ
+refusalLine client number = decimal client ++ ((32 ∷ 45 ∷ 32 ∷ 45 ∷ 32 ∷ []) ++ (decimal number ++ (32 ∷ 48 ∷ 10 ∷ [])))
+
+-- the line of what was answered last of a client's record: by run, or by a submit that was refused. Where run is refused, as it is with a
+-- memory of another length, its number is told as submit's is. Neither answers otherwise
+unfoldable pub answerLine : (client : ℕ) → Answer → List ℕ
+answerLine client (completed own ticket v) = completionLine own ticket v
+answerLine client (refused number) = refusalLine client number
+answerLine client (opened id) = []
+answerLine client (accepted ticket) = []
+answerLine client (ready count) = []
+
+-- what is told of a file's end: nothing, `bad version`, `bad record`, `cut record`
+unfoldable pub endingLine : Ending → List ℕ
+endingLine whole = []
+endingLine badVersion = 98 ∷ 97 ∷ 100 ∷ 32 ∷ 118 ∷ 101 ∷ 114 ∷ 115 ∷ 105 ∷ 111 ∷ 110 ∷ 10 ∷ []
+endingLine badRecord = 98 ∷ 97 ∷ 100 ∷ 32 ∷ 114 ∷ 101 ∷ 99 ∷ 111 ∷ 114 ∷ 100 ∷ 10 ∷ []
+endingLine cutRecord = 99 ∷ 117 ∷ 116 ∷ 32 ∷ 114 ∷ 101 ∷ 99 ∷ 111 ∷ 114 ∷ 100 ∷ 10 ∷ []
+
+-- ---- the records, one after another
+
+abbrev pub isAccepted : Answer → Bool
+isAccepted (accepted ticket) = true
+isAccepted (refused number) = false
+isAccepted (completed own ticket v) = false
+isAccepted (opened id) = false
+isAccepted (ready count) = false
+
+-- "submits each record and, if accepted, runs it": what is answered last, and what is left
+unfoldable pub served : Entry → State → Called
+served entry s =
+    let submitted : Called = called (submit (entry .client) (entry .batch)) s in
+    cond (isAccepted (submitted .answer)) (called run (submitted .after)) submitted
+
+-- "Each prints one line"
+abbrev pub entryLine : Entry → State → List ℕ
+entryLine entry s = answerLine (entry .client) (served entry s .answer)
+
+unfoldable pub printedFrom : State → List Entry → Ending → List ℕ
+printedFrom s [] ending = endingLine ending
+printedFrom s (entry ∷ entries) ending = entryLine entry s ++ printedFrom (served entry s .after) entries ending
+
+-- what a file prints from a state of the engine on
+abbrev pub linesFrom : State → File → List ℕ
+linesFrom s file = printedFrom s (file .entries) (file .ending)
+
+-- ---- the start
+
+-- "a 32,768-byte ring, 65,536 .. bytes of memory, 16,384 of them common"
+abbrev pub setup : Setup
+setup = record { ring = 32768; memory = 65536; common = 16384 }
+
+-- "four windows of 12,288", after common
+abbrev pub opening : List Call
+opening =
+    opens (record { start = 16384; length = 12288 })
+    ∷ opens (record { start = 28672; length = 12288 })
+    ∷ opens (record { start = 40960; length = 12288 })
+    ∷ opens (record { start = 53248; length = 12288 })
+    ∷ []
+
+-- set up and opened, with this ring and memory
+unfoldable pub started : (ring memory : List ℕ) → State
+started ring memory = stateAfter opening (begin setup ring memory)
+
+-- the program's: all of both zero
+unfoldable pub starting : State
+starting = started (replicate 32768 0) (replicate 65536 0)
+
+-- what a file prints
+unfoldable pub lines : File → List ℕ
+lines file = linesFrom starting file

@@ -1,0 +1,77 @@
+-- Laws of lines: a text in parts, and the bytes of a list one by one.
+use mathlib.Core.Path.{_≡_, refl, sym, ap, _∙_}
+use mathlib.Core.List.{List, [], _∷_, _++_}
+use Prim.Native.Nat.{ℕ, suc, _+_, _/_, _%_, _≤_, _<_}
+use native.Mathlib.Nat.{add-zero}
+use native.Mathlib.Omega.{arith}
+use native.Mathlib.Numerals.{add-one}
+use lib.ListN.{length, getD, set, drop, length-set, drop-of-length-le}
+use lib.Seq.{sets, drop-cons}
+use borrow.Author.Tests.{lt-ltb}
+use Rattle.word.specs.Word.{byteOf, beBytes}
+use Rattle.word.specs.Splice.{spliced}
+use Rattle.word.proofs.Splice.{sets-spliced}
+use Rattle.text.specs.Line.{Line, lineOf, pushed, typed}
+use Rattle.text.specs.Hex.{hexByte, hexBytes, hexWord, upperByte, upperWord}
+
+-- one text after another
+pub typed-append : (l : Line) (xs ys : List ℕ) → typed l (xs ++ ys) ≡ typed (typed l xs) ys
+unfolding typed
+typed-append l [] ys = refl
+typed-append l (x ∷ xs) ys = typed-append (pushed l x) xs ys
+
+-- one byte's digits, and those of the others
+pub typed-bytes : (l : Line) (byte : ℕ) (bytes : List ℕ) → typed l (hexBytes (byte ∷ bytes)) ≡ typed (typed l (hexByte byte)) (hexBytes bytes)
+unfolding hexBytes
+typed-bytes l byte bytes = typed-append l (hexByte byte) (hexBytes bytes)
+
+-- a word's digits, byte by byte
+pub typed-word : (l : Line) (word : ℕ) → typed l (hexWord word) ≡ typed (typed (typed (typed l (hexByte (word / 16777216 % 256))) (hexByte (word / 65536 % 256))) (hexByte (word / 256 % 256))) (hexByte (word % 256))
+unfolding hexWord beBytes byteOf
+typed-word l word =
+    let lowest : word / 1 % 256 ≡ word % 256 = omega arith in
+    simp typed-bytes (rw lowest (unfold typed hexBytes in refl))
+
+-- the same in upper case
+pub typed-upper : (l : Line) (word : ℕ) → typed l (upperWord word) ≡ typed (typed (typed (typed l (upperByte (word / 16777216 % 256))) (upperByte (word / 65536 % 256))) (upperByte (word / 256 % 256))) (upperByte (word % 256))
+unfolding upperWord byteOf
+typed-upper l word =
+    let lowest : word / 1 % 256 ≡ word % 256 = omega arith in
+    simp typed-append (rw lowest)
+
+-- a text that fits: it stands in the buffer, and other bytes are as they were
+typed-sets : (text bytes : List ℕ) (n : ℕ) → n + length text ≤ length bytes → typed (lineOf bytes n) text ≡ lineOf (sets bytes n text) (n + length text)
+unfolding typed pushed
+typed-sets [] bytes n fits = ap (λ (k : ℕ). lineOf bytes k) (sym (add-zero n))
+typed-sets (t ∷ text) bytes n fits =
+    let on : n + 1 + length text ≡ n + suc (length text) = omega arith in
+    rw (lt-ltb n (length bytes) (omega arith)) (typed-sets text (set bytes n t) (n + 1) (simp length-set (omega arith)) ∙ rw (on, add-one))
+
+pub typed-whole : (bytes text : List ℕ) → length text ≤ length bytes → typed (lineOf bytes 0) text ≡ lineOf (spliced 0 text bytes) (length text)
+typed-whole bytes text fits =
+    let none : 0 + length text ≡ length text = omega arith in
+    typed-sets text bytes 0 (omega arith)
+    ∙ ap (λ (k : ℕ). lineOf (sets bytes 0 text) k) none
+    ∙ ap (λ (bs : List ℕ). lineOf bs (length text)) (sets-spliced 0 text bytes (omega arith))
+
+-- the rest of a list is its next element and what follows that
+module _ (l : Line) (xs : List ℕ) (i : ℕ) (h : i < length xs) where
+  next : drop i xs ≡ getD xs i 0 ∷ drop (i + 1) xs
+  next = rw (add-one, drop-cons xs i 0)
+
+  pub typed-next : typed l (drop i xs) ≡ typed (pushed l (getD xs i 0)) (drop (i + 1) xs)
+  unfolding typed
+  typed-next = rw next
+
+  pub bytes-next : typed l (hexBytes (drop i xs)) ≡ typed (typed l (hexByte (getD xs i 0))) (hexBytes (drop (i + 1) xs))
+  bytes-next = ap (λ (ys : List ℕ). typed l (hexBytes ys)) next ∙ typed-bytes l (getD xs i 0) (drop (i + 1) xs)
+
+-- past a list's end nothing is left to be typed
+module _ (l : Line) (xs : List ℕ) (i : ℕ) (h : length xs ≤ i) where
+  pub typed-none : typed l (drop i xs) ≡ l
+  unfolding typed
+  typed-none = rw (drop-of-length-le xs h)
+
+  pub bytes-none : typed l (hexBytes (drop i xs)) ≡ l
+  unfolding typed hexBytes
+  bytes-none = rw (drop-of-length-le xs h)

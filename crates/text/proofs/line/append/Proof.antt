@@ -1,0 +1,60 @@
+use mathlib.Core.Path.{_≡_, refl, sym, _∙_}
+use Prim.Native.Nat.{_-_, _≤_}
+use lib.ListN.{length, drop}
+use Rattle.text.specs.Line.{lineOf, typed}
+use Rattle.text.proofs.Typing.{typed-none, typed-next}
+use borrow.Author.Needs.{needs}
+use Rattle.text.proofs.line.append.Statement.{statement}
+use Rattle.text.proofs.line.append.Tie as tie
+
+abbrev Inv-loop : tie.InvT-loop
+Inv-loop line₀ n text end₀ i₀ line end i =
+    (i ≤ length text) × (length line ≡ length line₀) × (typed (lineOf line end) (drop i text) ≡ typed (lineOf line₀ n) text)
+
+abbrev μ-loop : tie.MeasureT-loop
+μ-loop line₀ n text end₀ i₀ line end i = length text - i
+
+loop-holds : tie.Need-loop-holds Inv-loop μ-loop
+loop-holds c = (search needs, refl, refl)
+
+shared-slice-read-push : tie.Need-shared-slice-read-push Inv-loop μ-loop
+shared-slice-read-push c = search needs
+
+push-requires : tie.Need-push-requires Inv-loop μ-loop
+push-requires c κs = search needs
+
+add-i : tie.Need-add-i Inv-loop μ-loop
+add-i c = search needs
+
+loop-less : tie.Need-loop-less Inv-loop μ-loop
+loop-less c = search needs
+
+loop-again : tie.Need-loop-again Inv-loop μ-loop
+loop-again c =
+    let l = c .before .before .before .before .before .before .loop in
+    let a = c .before .before .before .before .before .before .before .before .before .args in
+    let turn = typed-next (lineOf (l .line) (l .end)) (a .text .now) (l .i) (c .before .before .before .before .before .loop-test .taken) in
+    (search needs, search needs, cc (turn, l .inv .2, c .before .before .push .ensures))
+
+same-length : tie.Need-same-length Inv-loop μ-loop
+same-length c = search needs
+
+returns : tie.Need-returns Inv-loop μ-loop
+returns c =
+    let l = c .before .loop in
+    sym (typed-none (lineOf (l .line) (l .end)) (c .before .before .before .before .args .text .now) (l .i) (c .loop-test .left)) ∙ l .inv .2
+
+pub append-spec : {M : Type 1} → statement M
+append-spec =
+    tie.close
+    (tie.spec
+    Inv-loop
+    μ-loop
+    loop-holds
+    shared-slice-read-push
+    push-requires
+    add-i
+    loop-less
+    loop-again
+    same-length
+    returns)

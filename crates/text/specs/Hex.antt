@@ -1,0 +1,45 @@
+-- Numbers as text: hexadecimal digits in ASCII, the highest first.
+use Prim.Native.Nat.{ℕ, _+_, _-_, _/_, _%_}
+use mathlib.Core.Bool.{Bool, cond}
+use mathlib.Core.List.{List, [], _∷_, _++_}
+use lib.Dec.{ltb}
+use Rattle.word.specs.Word.{byteOf, beBytes}
+
+-- the character of a digit below 16: 0 to 9, then a to f
+abbrev pub digitOf : ℕ → ℕ
+digitOf value = cond (ltb value 10) (48 + value) (97 + (value - 10))
+
+-- a byte: two digits
+unfoldable pub hexByte : ℕ → List ℕ
+hexByte byte = digitOf (byte / 16) ∷ digitOf (byte % 16) ∷ []
+
+-- bytes in order
+unfoldable pub hexBytes : List ℕ → List ℕ
+hexBytes [] = []
+hexBytes (byte ∷ bytes) = hexByte byte ++ hexBytes bytes
+
+-- a number of 32 bits: eight digits
+unfoldable pub hexWord : ℕ → List ℕ
+hexWord word = hexBytes (beBytes word)
+
+-- a number of 64 bits: sixteen digits
+unfoldable pub hexLong : ℕ → List ℕ
+hexLong number = hexWord (number / 4294967296) ++ hexWord (number % 4294967296)
+
+-- a truth value: 01 or 00
+unfoldable pub hexFlag : Bool → List ℕ
+hexFlag value = hexByte (cond value 1 0)
+
+-- ---- with digits in upper case (01, "Writer and replay": "status in eight upper-case hex digits")
+
+-- the character of a digit below 16: 0 to 9, then A to F
+abbrev pub upperOf : ℕ → ℕ
+upperOf value = cond (ltb value 10) (48 + value) (65 + (value - 10))
+
+-- a byte: two digits
+unfoldable pub upperByte : ℕ → List ℕ
+upperByte byte = upperOf (byte / 16) ∷ upperOf (byte % 16) ∷ []
+
+-- a number of 32 bits: eight digits
+unfoldable pub upperWord : ℕ → List ℕ
+upperWord word = upperByte (byteOf word 3) ++ (upperByte (byteOf word 2) ++ (upperByte (byteOf word 1) ++ upperByte (byteOf word 0)))

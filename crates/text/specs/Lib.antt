@@ -1,0 +1,5 @@
+-- Text in a lent buffer.
+pub mod Line
+pub mod Hex
+pub mod Decimal
+pub mod Digest

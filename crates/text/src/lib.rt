@@ -1,0 +1,2 @@
+// Text in a lent buffer: numbers as digits, and texts one after another.
+pub mod line;
