@@ -1,6 +1,6 @@
 -- The tasks of a reading, whatever its ending: each of them is sound, there are at most half as many as words, and in a finished
 -- reading they are as many as the task-end marks.
-use Prim.Native.Nat.{ℕ, zero, suc, _+_, _*_, _<_, _≤_}
+use Prim.Native.Nat.{ℕ, zero, suc, _+_, _*_, _<_, _≤_, _%_}
 use mathlib.Core.Path.{_≡_, refl, ap, _∙_}
 use mathlib.Core.Bool.{Bool, true, false, cond}
 use mathlib.Core.List.{List, [], _∷_}
@@ -140,26 +140,33 @@ few-from bounds b k (inside zero offset true head) (h ∷ ws) =
 pub tasks-few : (bounds : Bounds) (bank : Bank) (ws : List ℕ) → 2 * length (readBatch bounds bank ws .tasks) ≤ length ws
 tasks-few bounds bank ws = few-from bounds bank 0 start ws
 
+fault-small : (f : Fault) → faultStatus f ≤ 4294967295
+fault-small ReservedBits = omega arith
+fault-small GroupLength = omega arith
+fault-small OpenTask = omega arith
+fault-small NotWritable = omega arith
+fault-small Forbidden = omega arith
+fault-small BadSurface = omega arith
+fault-small SizeMismatch = omega arith
+fault-small OutOfBounds = omega arith
+fault-small Overlap = omega arith
+
+-- the status word of 32 bits
+pub tasks-rest : (n : ℕ) → n % 65536 * 65536 + 1 ≡ (n * 65536 + 1) % 4294967296
+tasks-rest n = omega arith
+
+pub fault-rest : (f : Fault) → faultStatus f ≡ faultStatus f % 4294967296
+fault-rest f = omega (arith, fault-small f)
+
 -- so the status word of a batch of up to 524,280 bytes fits in 32 bits
 pub status-fits : (bounds : Bounds) (bank : Bank) (ring : List ℕ) (offset size : ℕ) → size ≤ 524280
     → statusOf (verdictOf (readBatch bounds bank (batchWords ring offset size))) ≤ 4294967295
 status-fits bounds bank ring offset size small =
     go (readBatch bounds bank (batchWords ring offset size)) (omega (arith, tasks-few bounds bank (batchWords ring offset size), words-fit ring offset size))
   where
-    fault : (f : Fault) → faultStatus f ≤ 4294967295
-    fault ReservedBits = omega arith
-    fault GroupLength = omega arith
-    fault OpenTask = omega arith
-    fault NotWritable = omega arith
-    fault Forbidden = omega arith
-    fault BadSurface = omega arith
-    fault SizeMismatch = omega arith
-    fault OutOfBounds = omega arith
-    fault Overlap = omega arith
-
     by : (n : ℕ) (e : Ending) → n ≤ 65535 → statusOf (verdictAfter n e) ≤ 4294967295
     by n finished h = omega arith
-    by n (faulty f o b) h = fault f
+    by n (faulty f o b) h = fault-small f
 
     go : (r : Reading) → length (r .tasks) ≤ 65535 → statusOf (verdictOf r) ≤ 4294967295
     go r h = by (length (r .tasks)) (r .ending) h

@@ -1,6 +1,6 @@
 // A whole batch judged.
 ghost use mathlib.Core.Path.{_≡_};
-ghost use Prim.Native.Nat.{_≤_};
+ghost use Prim.Native.Nat.{_%_};
 ghost use Rattle.ring.specs.Segment.{batchWords};
 ghost use Rattle.batch.specs.Batch.{readBatch, verdictOf, statusOf, numberOf, offsetOf};
 use crate::walk;
@@ -16,13 +16,12 @@ pub enum Verdict {
 }
 
 impl Verdict {
-    // The status word, which must fit: 65,535 tasks do, and no ring of the engine holds more than 4,096.
+    // The status word, modulo 2 to the 32nd: 65,535 tasks fit, and no ring of the engine holds more than 4,096.
     pub fn status(self) -> u32
-        requires { ⌜ statusOf self ≤ 4294967295 ⌝ }
-        ensures { λ r. ⌜ r ≡ statusOf self ⌝ }
+        ensures { λ r. ⌜ r ≡ statusOf self % 4294967296 ⌝ }
     {
         match self {
-            Verdict::Faultless(tasks) => (tasks as u32) * 65536 + 1,
+            Verdict::Faultless(tasks) => ((tasks % 65536) as u32) * 65536 + 1,
             Verdict::Faulty(fault, _) => fault.status(),
         }
     }

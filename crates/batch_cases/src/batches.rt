@@ -30,30 +30,9 @@ pub fn judged(given: &[u8], line: &mut [u8]) -> usize {
 }
 
 fn hex_verdict(line: &mut [u8], verdict: Verdict) -> usize {
-    match verdict {
-        Verdict::Faultless(tasks) => hex_three(line, status(tasks), 0, 0),
-        Verdict::Faulty(fault, place) => hex_three(
-            line,
-            fault.status(),
-            fault.number(),
-            place as u64,
-        ),
-    }
-}
-
-// The status of so many tasks. No payload holds as many as 65,536.
-fn status(tasks: usize) -> u32 {
-    if tasks < 65536 {
-        Verdict::Faultless(tasks).status()
-    } else {
-        0
-    }
-}
-
-fn hex_three(line: &mut [u8], status: u32, number: u32, place: u64) -> usize {
-    let a = line::hex_word(line, 0, status);
-    let b = line::hex_word(line, a, number);
-    line::hex_word(line, b, (place % 4294967296) as u32)
+    let a = line::hex_word(line, 0, verdict.status());
+    let b = line::hex_word(line, a, verdict.number());
+    line::hex_word(line, b, ((verdict.offset() as u64) % 4294967296) as u32)
 }
 
 // The same of a batch that repeats some bytes, in a ring of 32,768.

@@ -84,19 +84,5 @@ fn submit_to(engine: Record, ring: &mut [u8], client: u32, batch: &[u8], line: &
     let reply = queue::submit(engine, ring, client, batch);
     let answer = reply.answer;
     let after = reply.engine;
-    hex_reply(line, answer, after, mix_all(ring))
-}
-
-fn mix_all(bytes: &[u8]) -> u32 {
-    let mut sum = 0;
-    let mut i = 0;
-    while i < bytes.len() {
-        sum = mix_byte(sum, bytes[i]);
-        i += 1;
-    }
-    sum
-}
-
-fn mix_byte(sum: u32, byte: u8) -> u32 {
-    line::mix(sum, byte as u32)
+    hex_reply(line, answer, after, line::mix_all(ring))
 }

@@ -1,7 +1,7 @@
 -- What is answered fits in words of 32 bits, and is the words of crate claims' answer.
 use mathlib.Core.Path.{_≡_, refl}
 use mathlib.Core.Bool.{true, not}
-use Prim.Native.Nat.{ℕ, zero, suc, _≤_, _<_}
+use Prim.Native.Nat.{ℕ, zero, suc, _≤_, _<_, _%_}
 use mathlib.Core.List.{List, [], _∷_}
 use native.Mathlib.Omega.{arith}
 use lib.ListN.{length}
@@ -61,6 +61,9 @@ completed-words o d status fault offset e s f p = rw (e, s, f, p)
 
 pub completed-small : (o : Outcome) (d : Completion) → o ≡ Completed d → Small o → (statusOf (d .verdict) ≤ 4294967295) × (offsetOf (d .verdict) ≤ 4294967295)
 completed-small o d e s = let q = rw e at s in (q .status, q .offset)
+
+pub word-whole : (n : ℕ) → n ≤ 4294967295 → n % 4294967296 ≡ n
+word-whole n small = omega arith
 
 -- a batch of a valid record has no more bytes than the longest ring
 oldest-short : (engine : Record) → valid engine ≡ true → 0 < takenSlots engine → oldest engine .length ≤ 32768

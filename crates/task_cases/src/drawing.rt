@@ -55,43 +55,9 @@ fn drawn(memory: &mut [u8], batch: &[u8], bounds: Bounds, line: &mut [u8]) -> us
     if memory.len() < bounds.common {
         return line::refused(line);
     }
-    match run_batch(memory, batch, 0, batch.len(), bounds, Bank::reset()) {
-        Verdict::Faultless(tasks) => hex_all(line, status(tasks), 0, 0, memory),
-        Verdict::Faulty(fault, place) => hex_all(
-            line,
-            fault.status(),
-            fault.number(),
-            place,
-            memory,
-        ),
-    }
-}
-
-fn status(tasks: usize) -> u32 {
-    if tasks < 65536 {
-        Verdict::Faultless(tasks).status()
-    } else {
-        0
-    }
-}
-
-fn hex_all(line: &mut [u8], status: u32, number: u32, place: usize, memory: &[u8]) -> usize {
-    let a = line::hex_word(line, 0, status);
-    let b = line::hex_word(line, a, number);
-    let c = line::hex_word(line, b, ((place as u64) % 4294967296) as u32);
-    line::hex_word(line, c, mix_all(memory))
-}
-
-fn mix_all(bytes: &[u8]) -> u32 {
-    let mut sum = 0;
-    let mut i = 0;
-    while i < bytes.len() {
-        sum = mix_byte(sum, bytes[i]);
-        i += 1;
-    }
-    sum
-}
-
-fn mix_byte(sum: u32, byte: u8) -> u32 {
-    line::mix(sum, byte as u32)
+    let verdict = run_batch(memory, batch, 0, batch.len(), bounds, Bank::reset());
+    let a = line::hex_word(line, 0, verdict.status());
+    let b = line::hex_word(line, a, verdict.number());
+    let c = line::hex_word(line, b, ((verdict.offset() as u64) % 4294967296) as u32);
+    line::hex_word(line, c, line::mix_all(memory))
 }

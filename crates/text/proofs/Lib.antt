@@ -1,3 +1,4 @@
 -- Laws that this crate's proofs and those of the crates above cite.
 pub mod Typing
 pub mod Digits
+pub mod Mixing

@@ -12,7 +12,7 @@ use Rattle.word.specs.Word.{byteOf, beBytes}
 use Rattle.word.specs.Splice.{spliced}
 use Rattle.word.proofs.Splice.{sets-spliced}
 use Rattle.text.specs.Line.{Line, lineOf, pushed, typed}
-use Rattle.text.specs.Hex.{hexByte, hexBytes, hexWord, upperByte, upperWord}
+use Rattle.text.specs.Hex.{hexByte, hexBytes, hexWord}
 
 -- one text after another
 pub typed-append : (l : Line) (xs ys : List ℕ) → typed l (xs ++ ys) ≡ typed (typed l xs) ys
@@ -32,13 +32,6 @@ typed-word l word =
     let lowest : word / 1 % 256 ≡ word % 256 = omega arith in
     simp typed-bytes (rw lowest (unfold typed hexBytes in refl))
 
--- the same in upper case
-pub typed-upper : (l : Line) (word : ℕ) → typed l (upperWord word) ≡ typed (typed (typed (typed l (upperByte (word / 16777216 % 256))) (upperByte (word / 65536 % 256))) (upperByte (word / 256 % 256))) (upperByte (word % 256))
-unfolding upperWord byteOf
-typed-upper l word =
-    let lowest : word / 1 % 256 ≡ word % 256 = omega arith in
-    simp typed-append (rw lowest)
-
 -- a text that fits: it stands in the buffer, and other bytes are as they were
 typed-sets : (text bytes : List ℕ) (n : ℕ) → n + length text ≤ length bytes → typed (lineOf bytes n) text ≡ lineOf (sets bytes n text) (n + length text)
 unfolding typed pushed
@@ -55,16 +48,16 @@ typed-whole bytes text fits =
     ∙ ap (λ (bs : List ℕ). lineOf bs (length text)) (sets-spliced 0 text bytes (omega arith))
 
 -- the rest of a list is its next element and what follows that
-module _ (l : Line) (xs : List ℕ) (i : ℕ) (h : i < length xs) where
-  next : drop i xs ≡ getD xs i 0 ∷ drop (i + 1) xs
-  next = rw (add-one, drop-cons xs i 0)
+pub rest-next : (xs : List ℕ) (i : ℕ) → i < length xs → drop i xs ≡ getD xs i 0 ∷ drop (i + 1) xs
+rest-next xs i h = rw (add-one, drop-cons xs i 0)
 
+module _ (l : Line) (xs : List ℕ) (i : ℕ) (h : i < length xs) where
   pub typed-next : typed l (drop i xs) ≡ typed (pushed l (getD xs i 0)) (drop (i + 1) xs)
   unfolding typed
-  typed-next = rw next
+  typed-next = rw (rest-next xs i h)
 
   pub bytes-next : typed l (hexBytes (drop i xs)) ≡ typed (typed l (hexByte (getD xs i 0))) (hexBytes (drop (i + 1) xs))
-  bytes-next = ap (λ (ys : List ℕ). typed l (hexBytes ys)) next ∙ typed-bytes l (getD xs i 0) (drop (i + 1) xs)
+  bytes-next = ap (λ (ys : List ℕ). typed l (hexBytes ys)) (rest-next xs i h) ∙ typed-bytes l (getD xs i 0) (drop (i + 1) xs)
 
 -- past a list's end nothing is left to be typed
 module _ (l : Line) (xs : List ℕ) (i : ℕ) (h : length xs ≤ i) where

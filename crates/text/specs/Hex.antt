@@ -1,13 +1,13 @@
--- Numbers as text: hexadecimal digits in ASCII, the highest first.
+-- Numbers as text: hexadecimal digits in ASCII, the highest first (01, "Writer and replay": "eight upper-case hex digits").
 use Prim.Native.Nat.{ℕ, _+_, _-_, _/_, _%_}
 use mathlib.Core.Bool.{Bool, cond}
 use mathlib.Core.List.{List, [], _∷_, _++_}
 use lib.Dec.{ltb}
-use Rattle.word.specs.Word.{byteOf, beBytes}
+use Rattle.word.specs.Word.{beBytes}
 
--- the character of a digit below 16: 0 to 9, then a to f
+-- the character of a digit below 16: 0 to 9, then A to F
 abbrev pub digitOf : ℕ → ℕ
-digitOf value = cond (ltb value 10) (48 + value) (97 + (value - 10))
+digitOf value = cond (ltb value 10) (48 + value) (65 + (value - 10))
 
 -- a byte: two digits
 unfoldable pub hexByte : ℕ → List ℕ
@@ -29,17 +29,3 @@ hexLong number = hexWord (number / 4294967296) ++ hexWord (number % 4294967296)
 -- a truth value: 01 or 00
 unfoldable pub hexFlag : Bool → List ℕ
 hexFlag value = hexByte (cond value 1 0)
-
--- ---- with digits in upper case (01, "Writer and replay": "status in eight upper-case hex digits")
-
--- the character of a digit below 16: 0 to 9, then A to F
-abbrev pub upperOf : ℕ → ℕ
-upperOf value = cond (ltb value 10) (48 + value) (65 + (value - 10))
-
--- a byte: two digits
-unfoldable pub upperByte : ℕ → List ℕ
-upperByte byte = upperOf (byte / 16) ∷ upperOf (byte % 16) ∷ []
-
--- a number of 32 bits: eight digits
-unfoldable pub upperWord : ℕ → List ℕ
-upperWord word = upperByte (byteOf word 3) ++ (upperByte (byteOf word 2) ++ (upperByte (byteOf word 1) ++ upperByte (byteOf word 0)))

@@ -5,9 +5,9 @@ ghost use Prim.Native.Nat.{_≤_, _<_};
 ghost use mathlib.Core.List.{_++_};
 ghost use lib.ListN.{length};
 ghost use Rattle.text.specs.Line.{lineOf, pushed, typed};
-ghost use Rattle.text.specs.Hex.{digitOf, hexByte, hexBytes, hexWord, hexLong, hexFlag, upperOf, upperByte, upperWord};
+ghost use Rattle.text.specs.Hex.{digitOf, hexByte, hexBytes, hexWord, hexLong, hexFlag};
 ghost use Rattle.text.specs.Decimal.{decimal};
-ghost use Rattle.text.specs.Digest.{mixed};
+ghost use Rattle.text.specs.Digest.{mixed, mixedAll};
 
 pub fn push(line: &mut [u8], n: usize, byte: u8) -> usize
     ensures { λ r. ⌜ lineOf (now (line .exit)) r ≡ pushed (lineOf (now (line .entry)) n) byte ⌝ }
@@ -26,7 +26,7 @@ fn digit(value: u8) -> u8
     if value < 10 {
         b'0' + value
     } else {
-        b'a' + (value - 10)
+        b'A' + (value - 10)
     }
 }
 
@@ -103,35 +103,6 @@ pub fn decimal(line: &mut [u8], n: usize, value: u64) -> usize
     push(line, end, b'0' + ((value % 10) as u8))
 }
 
-fn upper_digit(value: u8) -> u8
-    requires { ⌜ value < 16 ⌝ }
-    ensures { λ r. ⌜ r ≡ upperOf value ⌝ }
-{
-    if value < 10 {
-        b'0' + value
-    } else {
-        b'A' + (value - 10)
-    }
-}
-
-// A byte in two digits, in upper case.
-fn upper_byte(line: &mut [u8], n: usize, byte: u8) -> usize
-    ensures { λ r. ⌜ lineOf (now (line .exit)) r ≡ typed (lineOf (now (line .entry)) n) (upperByte byte) ⌝ }
-{
-    let high = push(line, n, upper_digit(byte / 16));
-    push(line, high, upper_digit(byte % 16))
-}
-
-// A word in eight digits, in upper case.
-pub fn upper_word(line: &mut [u8], n: usize, word: u32) -> usize
-    ensures { λ r. ⌜ lineOf (now (line .exit)) r ≡ typed (lineOf (now (line .entry)) n) (upperWord word) ⌝ }
-{
-    let a = upper_byte(line, n, (word / 16777216 % 256) as u8);
-    let b = upper_byte(line, a, (word / 65536 % 256) as u8);
-    let c = upper_byte(line, b, (word / 256 % 256) as u8);
-    upper_byte(line, c, (word % 256) as u8)
-}
-
 pub fn flag(line: &mut [u8], value: bool) -> usize
     ensures { λ r. ⌜ lineOf (now (line .exit)) r ≡ typed (lineOf (now (line .entry)) 0) (hexFlag value) ⌝ }
 {
@@ -154,4 +125,23 @@ pub fn mix(digest: u32, value: u32) -> u32
     ensures { λ r. ⌜ r ≡ mixed digest value ⌝ }
 {
     (((digest as u64) * 31 + (value as u64)) % 4294967296) as u32
+}
+
+fn mix_byte(digest: u32, byte: u8) -> u32
+    ensures { λ r. ⌜ r ≡ mixed digest byte ⌝ }
+{
+    mix(digest, byte as u32)
+}
+
+// All bytes of a slice as one number.
+pub fn mix_all(bytes: &[u8]) -> u32
+    ensures { λ r. ⌜ r ≡ mixedAll 0 (now (bytes .entry)) ⌝ }
+{
+    let mut digest: u32 = 0;
+    let mut i = 0;
+    while i < bytes.len() {
+        digest = mix_byte(digest, bytes[i]);
+        i += 1;
+    }
+    digest
 }

@@ -39,7 +39,7 @@ impl Answer {
 
     fn line(&self) -> String {
         match self {
-            Answer::Bytes(bytes) => bytes.iter().map(|byte| format!("{byte:02x}")).collect(),
+            Answer::Bytes(bytes) => bytes.iter().map(|byte| format!("{byte:02X}")).collect(),
             Answer::Past => "past".into(),
             Answer::Refused => "-".into(),
         }

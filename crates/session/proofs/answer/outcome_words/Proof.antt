@@ -1,7 +1,8 @@
+use mathlib.Core.Path.{_∙_}
 use Prim.Native.Nat.{_≤_}
 use native.Mathlib.Omega.{arith}
 use Rattle.batch.specs.Batch.{statusOf, offsetOf}
-use Rattle.session.proofs.Numbers.{refused-words, completed-words, completed-small}
+use Rattle.session.proofs.Numbers.{refused-words, completed-words, completed-small, word-whole}
 use borrow.Author.Needs.{needs}
 use Rattle.session.proofs.answer.outcome_words.Statement.{statement}
 use Rattle.session.proofs.answer.outcome_words.Tie as tie
@@ -22,7 +23,7 @@ cast-offset : tie.Need-cast-offset
 cast-offset c = omega (arith, c .offset .ensures, small c .1)
 
 status-requires : tie.Need-status-requires
-status-requires c κs = small c .0
+status-requires c κs = search needs
 
 number-requires : tie.Need-number-requires
 number-requires c κs = search needs
@@ -31,7 +32,7 @@ returns : tie.Need-returns
 returns c = rw (c .before .outcome .given .1) (refused-words _)
 
 returns-2 : tie.Need-returns-2
-returns-2 c = completed-words _ _ _ _ _ (c .before .before .before .before .outcome2 .given .1) (c .before .status .ensures) (c .number .ensures) (c .before .before .offset .ensures)
+returns-2 c = completed-words _ _ _ _ _ (c .before .before .before .before .outcome2 .given .1) (c .before .status .ensures ∙ word-whole (statusOf (c .before .before .before .before .outcome2 .given .0 .0 .verdict)) (small (c .before .before) .0)) (c .number .ensures) (c .before .before .offset .ensures)
 
 pub outcome-words-spec : {M : Type 1} → statement M
 outcome-words-spec =

@@ -1,4 +1,8 @@
-use native.Mathlib.Omega.{arith}
+use mathlib.Core.Path.{sym, ap, _∙_}
+use Prim.Native.Nat.{_%_}
+use Rattle.batch.specs.declared.verdict.Verdict.{Verdict}
+use Rattle.batch.specs.Batch.{statusOf}
+use Rattle.batch.proofs.Tasks.{tasks-rest, fault-rest}
 use borrow.Author.Needs.{needs}
 use Rattle.batch.proofs.verdict.Verdict.status.Statement.{statement}
 use Rattle.batch.proofs.verdict.Verdict.status.Tie as tie
@@ -7,13 +11,13 @@ enum-known-self : tie.Need-enum-known-self
 enum-known-self c = search needs
 
 cast-result : tie.Need-cast-result
-cast-result c = omega (arith, rw (c .before .self .given .1) at (c .before .before .before .pre))
+cast-result c = search needs
 
 mul-result : tie.Need-mul-result
-mul-result c = omega (arith, rw (c .before .self .given .1) at (c .before .before .before .pre))
+mul-result c = search needs
 
 add-result : tie.Need-add-result
-add-result c = omega (arith, rw (c .before .self .given .1) at (c .before .before .before .pre))
+add-result c = search needs
 
 enum-known-self-2 : tie.Need-enum-known-self-2
 enum-known-self-2 c = search needs
@@ -22,10 +26,10 @@ status-requires : tie.Need-status-requires
 status-requires c κs = search needs
 
 returns : tie.Need-returns
-returns c = rw (c .before .self .given .1)
+returns c = tasks-rest (c .before .self .given .0 .0) ∙ ap (λ (v : Verdict). statusOf v % 4294967296) (sym (c .before .self .given .1))
 
 returns-2 : tie.Need-returns-2
-returns-2 c = search needs
+returns-2 c = c .status .ensures ∙ fault-rest (c .before .before .self2 .given .0 .0) ∙ ap (λ (v : Verdict). statusOf v % 4294967296) (sym (c .before .before .self2 .given .1))
 
 pub status-spec : {M : Type 1} → statement M
 status-spec =
