@@ -1,5 +1,4 @@
 -- The blending rules by name (01, "Pixels": 000 and 001 number them differently; only the names count).
-use Rattle.pixel.specs.declared.blend.Factor.{Factor}
 use Rattle.pixel.specs.declared.blend.Rule.{Rule}
 use Rattle.pixel.specs.declared.blend.RuleName.{RuleName}
 use Rattle.pixel.specs.declared.blend.RuleName.the-variants.{None, Clear, Src, Dst, SrcOver, DstOver, SrcIn, DstIn, SrcOut, DstOut, SrcAtop, DstAtop, Xor, Add}

@@ -1,10 +1,10 @@
 -- What the tests on runs say of their bytes.
-use mathlib.Core.Path.{_≡_, refl}
+use mathlib.Core.Path.{_≡_}
 use mathlib.Core.Bool.{true, false}
-use Prim.Native.Nat.{ℕ, _≤_, _<_, min, max}
+use Prim.Native.Nat.{ℕ, _≤_, min, max}
 use native.Mathlib.Omega.{arith}
-use lib.Dec.{leb, ltb}
-use borrow.Author.Tests.{leb-true, ltb-true, ltb-false, lt-ltb, le-leb}
+use lib.Dec.{leb}
+use borrow.Author.Tests.{leb-true, ltb-true, ltb-false}
 use Rattle.range.specs.declared.Range.{Range}
 use Rattle.range.specs.Range.{Holds, inside, shared}
 use Rattle.word.proofs.Tests.{and-true}

@@ -1,7 +1,7 @@
 // One row of a task.
 ghost use mathlib.Core.Path.{_≡_};
 ghost use mathlib.Core.Bool.{true, false};
-ghost use Prim.Native.Nat.{ℕ, _+_, _≤_};
+ghost use Prim.Native.Nat.{_+_, _≤_};
 ghost use lib.ListN.{length, getD};
 ghost use Rattle.surface.specs.Surface.{rowLength};
 ghost use Rattle.rows.specs.Row.{wordColour, Spells};

@@ -4,13 +4,13 @@ ghost use mathlib.Core.Bool.{not, _&&_};
 ghost use mathlib.Core.List.{[]};
 ghost use Prim.Native.Nat.{_+_, _-_, _%_, _≤_, _<_};
 ghost use lib.ListN.{length, take, drop};
-ghost use lib.Dec.{leb, ltb, eqb};
+ghost use lib.Dec.{leb, eqb};
 ghost use Rattle.ring.specs.Segment.{wrapped};
 ghost use Rattle.record.specs.Setup.{badRing, badMemory, badLength};
 ghost use Rattle.record.specs.Slots.{added, ready, total, countOf, isFreeState, lowestFree};
 ghost use Rattle.record.specs.Tickets.{ticketBefore, stateHas, place, stateBatch};
 ghost use Rattle.record.specs.Clients.{isOpen, windowsOf, sharesAny, badWindow, noneBad, countsRight};
-ghost use Rattle.record.specs.Rules.{readRule, numberRules, batchRules, valid};
+ghost use Rattle.record.specs.Rules.{numberRules, batchRules, valid};
 use range::Range;
 
 // The numbers of set up, in bytes.

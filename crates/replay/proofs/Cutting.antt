@@ -17,7 +17,7 @@ use Rattle.replay.specs.declared.Stage.the-variants.{Version, Records, E
 use Rattle.replay.specs.Records.{Entry, File, badVersion, badRecord, cutRecord, ends, andThen, sizeOf, badSize, entryOf, recordsFrom, records}
 use Rattle.replay.specs.Lines.{endingLine, printedFrom, linesFrom, lines}
 use Rattle.replay.specs.Step.{Position, position, atStart, missing, decided, Step, stepIn, step, finishText}
-use Rattle.replay.specs.Cutting.{fedFrom, fedAll, printed, joined, Cutting}
+use Rattle.replay.specs.Cutting.{fedFrom, fedAll, printed, joined}
 use Rattle.replay.proofs.Reading.{good-size, size-front, entry-front, decided-short, decided-bad, decided-part, decided-whole, missing-short, missing-bad, missing-rest}
 
 -- ---- fuel
@@ -69,21 +69,21 @@ module _ (bytes : List ℕ) where
 
 -- ---- what is printed from a position on
 
-abbrev linesIn : Stage → Position → (rest : List ℕ) → List ℕ
+abbrev pub linesIn : Stage → Position → (rest : List ℕ) → List ℕ
 linesIn Version p rest = linesFrom (p .state) (records rest)
 linesIn Records p rest = linesFrom (p .state) (file (p .bytes ++ rest))
 linesIn Ended p rest = []
 
-abbrev linesAt : Position → (rest : List ℕ) → List ℕ
+abbrev pub linesAt : Position → (rest : List ℕ) → List ℕ
 linesAt p rest = linesIn (p .stage) p rest
 
--- nothing that could be decided is left undecided
-abbrev PendingIn : Stage → List ℕ → Type 0
-PendingIn Version bytes = 0 < 1
+-- nothing that could be decided is left undecided, and no more bytes are held than an unfinished record may have
+abbrev pub PendingIn : Stage → List ℕ → Type 0
+PendingIn Version bytes = length bytes < 32773
 PendingIn Records bytes = 0 < missing bytes
-PendingIn Ended bytes = 0 < 1
+PendingIn Ended bytes = length bytes < 32773
 
-abbrev Pending : Position → Type 0
+abbrev pub Pending : Position → Type 0
 Pending p = PendingIn (p .stage) (p .bytes)
 
 -- by cases: how far the bytes of a record are there
@@ -194,6 +194,17 @@ advances-in Ended bytes s input rest h = record { prints = refl; pending = h; us
 pub advances : (p : Position) (input rest : List ℕ) → Pending p → Advances p input rest (step p input)
 advances p input rest h = advances-in (p .stage) (p .bytes) (p .state) input rest h
 
+pub pending-few : (g : Stage) (bytes : List ℕ) → PendingIn g bytes → length bytes < 32773
+pending-few Version bytes h = h
+pending-few Records bytes h = go (reach bytes)
+  where
+    go : Reach bytes → length bytes < 32773
+    go (short few) = omega arith
+    go (bad long is) = absurd (omega (arith, missing-bad bytes long is))
+    go (part long is less) = omega (arith, good-size (sizeOf bytes) is .1)
+    go (full long is more) = absurd (omega (arith, missing-rest bytes long is))
+pending-few Ended bytes h = h
+
 -- ---- the end
 
 cut : (bytes : List ℕ) → Reach bytes → 1 ≤ length bytes → 0 < missing bytes → file bytes ≡ ends cutRecord
@@ -206,7 +217,7 @@ ends-cut : (bytes : List ℕ) (s : State) → 1 ≤ length bytes → 0 < missing
 unfolding printedFrom
 ends-cut bytes s some less = ap (λ (xs : List ℕ). linesFrom s (file xs)) (append-nil bytes) ∙ ap (linesFrom s) (cut bytes (reach bytes) some less)
 
-ends-in : (g : Stage) (bytes : List ℕ) (s : State) → PendingIn g bytes → linesAt (position g bytes s) [] ≡ finishText g (length bytes)
+pub ends-in : (g : Stage) (bytes : List ℕ) (s : State) → PendingIn g bytes → linesAt (position g bytes s) [] ≡ finishText g (length bytes)
 unfolding records printedFrom finishText recordsFrom
 ends-in Version bytes s h = refl
 ends-in Records [] s h = refl
@@ -243,9 +254,9 @@ all p (piece ∷ pieces) h =
       then .1,
     )
 
-pub cutting : Cutting
+pub steps : (pieces : List (List ℕ)) → printed pieces ≡ lines (records (joined pieces))
 unfolding lines
-cutting pieces =
+steps pieces =
     let fed-all = all atStart pieces (omega arith) in
     let last : Position = fedAll atStart pieces .last in
     sym (fed-all .0 ∙ ap (λ (xs : List ℕ). fedAll atStart pieces .text ++ xs) (ends-in (last .stage) (last .bytes) (last .state) (fed-all .1)))

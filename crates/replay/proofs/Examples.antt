@@ -1,28 +1,36 @@
 -- What the definitions say of small files and of the paper's lines, computed.
 use mathlib.Core.Path.{_≡_, refl}
-use mathlib.Core.List.{List, [], _∷_, _++_}
-use Prim.Native.Nat.{ℕ}
-use Rattle.word.specs.Word.{byteOf, be32At}
-use Rattle.text.specs.Hex.{upperByte, upperWord}
+use mathlib.Core.List.{[], _∷_}
+use Rattle.word.specs.Word.{byteOf, be32At, beBytes}
+use Rattle.record.specs.Slots.{ready, sum}
+use Rattle.record.specs.Tickets.{lastGiven, inOrder}
+use Rattle.record.specs.Clients.{windowsOf, sharesAny, noneBad, countsRight}
+use Rattle.record.specs.Rules.{endToEnd, lengthsAllowed, ofOpen, valid}
+use Rattle.queue.specs.Answers.{answered}
+use Rattle.queue.specs.Refusals.{firstOf}
+use Rattle.queue.specs.Calls.{unless, fresh, setUp, withClient, openOf}
+use Rattle.model.specs.Calls.{opened}
+use Rattle.claims.specs.Engine.{told, called, answersOf, begin}
+use Rattle.text.specs.Hex.{hexByte, hexBytes, hexWord}
 use Rattle.text.specs.Decimal.{digitsIn, decimal}
 use Rattle.replay.specs.Records.{whole, badVersion, badRecord, cutRecord, ends, andThen, recordsFrom, records}
-use Rattle.replay.specs.Lines.{completionLine, refusalLine}
+use Rattle.replay.specs.Lines.{completionLine, refusalLine, setup, opening}
 
 -- `0 0 00010001 0 0`
 pub drawn : completionLine 0 0 (record { status = 0x00010001; fault = 0; offset = 0 })
     ≡ 48 ∷ 32 ∷ 48 ∷ 32 ∷ 48 ∷ 48 ∷ 48 ∷ 49 ∷ 48 ∷ 48 ∷ 48 ∷ 49 ∷ 32 ∷ 48 ∷ 32 ∷ 48 ∷ 10 ∷ []
-unfolding completionLine digitsIn decimal byteOf upperByte upperWord
+unfolding completionLine digitsIn decimal byteOf beBytes hexByte hexBytes hexWord
 drawn = refl
 
 -- `0 0 00000002 27 72`
 pub faulty : completionLine 0 0 (record { status = 0x00000002; fault = 27; offset = 72 })
     ≡ 48 ∷ 32 ∷ 48 ∷ 32 ∷ 48 ∷ 48 ∷ 48 ∷ 48 ∷ 48 ∷ 48 ∷ 48 ∷ 50 ∷ 32 ∷ 50 ∷ 55 ∷ 32 ∷ 55 ∷ 50 ∷ 10 ∷ []
-unfolding completionLine digitsIn decimal byteOf upperByte upperWord
+unfolding completionLine digitsIn decimal byteOf beBytes hexByte hexBytes hexWord
 faulty = refl
 
 -- digits above 9 are in upper case: `1AF`
-pub upper : upperWord 0x000001AF ≡ 48 ∷ 48 ∷ 48 ∷ 48 ∷ 48 ∷ 49 ∷ 65 ∷ 70 ∷ []
-unfolding byteOf upperByte upperWord
+pub upper : hexWord 0x000001AF ≡ 48 ∷ 48 ∷ 48 ∷ 48 ∷ 48 ∷ 49 ∷ 65 ∷ 70 ∷ []
+unfolding byteOf beBytes hexByte hexBytes hexWord
 upper = refl
 
 -- `0 - - 6 0`
@@ -69,3 +77,8 @@ long = refl
 pub longest : records (1 ∷ 0 ∷ 0 ∷ 128 ∷ 1 ∷ []) ≡ ends cutRecord
 unfolding records recordsFrom be32At
 longest = refl
+
+-- set up is accepted, and the four windows are opened
+pub opens-four : answersOf opening (begin setup [] []) ≡ opened 0 ∷ opened 1 ∷ opened 2 ∷ opened 3 ∷ []
+unfolding answersOf called told setUp openOf fresh withClient unless firstOf answered valid windowsOf sharesAny noneBad countsRight endToEnd lengthsAllowed ofOpen lastGiven inOrder ready sum
+opens-four = refl

@@ -4,4 +4,5 @@ pub mod Serving
 pub mod Reading
 pub mod Feeding
 pub mod Cutting
+pub mod Playing
 pub mod Examples

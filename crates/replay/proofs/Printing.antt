@@ -1,37 +1,32 @@
 -- Laws of the lines: texts typed one after another into a buffer that has room for any line.
 use mathlib.Core.Path.{_≡_, refl, ap, _∙_}
 use mathlib.Core.List.{List, [], _∷_, _++_}
-use Prim.Native.Nat.{ℕ, _+_, _*_, _/_, _%_, _≤_}
+use Prim.Native.Nat.{ℕ, _+_, _/_, _%_, _≤_}
 use native.Mathlib.Omega.{arith}
 use lib.ListN.{length, length-append}
-use Rattle.word.specs.Word.{byteOf}
+use Rattle.word.specs.Word.{byteOf, beBytes}
 use Rattle.word.specs.Splice.{spliced}
 use Rattle.model.specs.Calls.{Verdict}
 use Rattle.text.specs.Line.{Line, lineOf, pushed, typed}
-use Rattle.text.specs.Hex.{upperByte, upperWord}
+use Rattle.text.specs.Hex.{hexByte, hexBytes, hexWord}
 use Rattle.text.specs.Decimal.{decimal}
 use Rattle.text.proofs.Typing.{typed-append, typed-whole}
 use Rattle.replay.specs.Lines.{spaced, completionLine, refusalLine}
 use Rattle.replay.specs.Calls.{Prints}
 
 -- eight digits show a number modulo 2 to the 32nd
-upper-rest : (n : ℕ) → upperWord (n % 4294967296) ≡ upperWord n
-unfolding upperWord byteOf
-upper-rest n =
+pub hex-rest : (n : ℕ) → hexWord (n % 4294967296) ≡ hexWord n
+unfolding hexWord hexBytes beBytes byteOf
+hex-rest n =
     let d : n % 4294967296 / 16777216 % 256 ≡ n / 16777216 % 256 = omega arith in
     let c : n % 4294967296 / 65536 % 256 ≡ n / 65536 % 256 = omega arith in
     let b : n % 4294967296 / 256 % 256 ≡ n / 256 % 256 = omega arith in
     let a : n % 4294967296 / 1 % 256 ≡ n / 1 % 256 = omega arith in
     rw (d, c, b, a)
 
-pub upper-tasks : (tasks : ℕ) → upperWord (tasks % 65536 * 65536 + 1) ≡ upperWord (tasks * 65536 + 1)
-upper-tasks tasks =
-    let low : tasks % 65536 * 65536 + 1 ≡ (tasks * 65536 + 1) % 4294967296 = omega arith in
-    ap upperWord low ∙ upper-rest (tasks * 65536 + 1)
-
-upper-size : (n : ℕ) → length (upperWord n) ≡ 8
-unfolding upperWord upperByte
-upper-size n = refl
+hex-size : (n : ℕ) → length (hexWord n) ≡ 8
+unfolding hexWord hexBytes hexByte beBytes
+hex-size n = refl
 
 -- nothing printed
 pub prints-none : (line : List ℕ) → Prints [] line 0 line
@@ -74,7 +69,7 @@ module _ (line line′ : List ℕ) (written : ℕ) (room : 128 ≤ length line) 
       → length (decimal client) ≤ 20 → length (decimal ticket) ≤ 20 → length (decimal (v .fault)) ≤ 20 → length (decimal (v .offset)) ≤ 20
       → a ≡ typed (lineOf line 0) (decimal client)
       → b ≡ typed a (spaced (decimal ticket))
-      → c ≡ typed b (spaced (upperWord (v .status)))
+      → c ≡ typed b (spaced (hexWord (v .status)))
       → d ≡ typed c (spaced (decimal (v .fault)))
       → f ≡ typed d (spaced (decimal (v .offset)))
       → lineOf line′ written ≡ typed f (10 ∷ [])
@@ -83,25 +78,25 @@ module _ (line line′ : List ℕ) (written : ℕ) (room : 128 ≤ length line) 
   completion-typed client ticket v a b c d f m n o p ea eb ec ed ef e =
       let last : List ℕ = spaced (decimal (v .offset)) ++ (10 ∷ []) in
       let late : List ℕ = spaced (decimal (v .fault)) ++ last in
-      let word : List ℕ = spaced (upperWord (v .status)) ++ late in
+      let word : List ℕ = spaced (hexWord (v .status)) ++ late in
       let w = typed-append (lineOf line 0) (decimal client) (spaced (decimal ticket) ++ word) in
       let x = typed-append a (spaced (decimal ticket)) word in
-      let y = typed-append b (spaced (upperWord (v .status))) late in
+      let y = typed-append b (spaced (hexWord (v .status))) late in
       let z = typed-append c (spaced (decimal (v .fault))) last in
       let q = typed-append d (spaced (decimal (v .offset))) (10 ∷ []) in
-      prints-typed (completionLine client ticket v) line written line′ (simp length-append (omega (arith, upper-size (v .status)))) room (cc)
+      prints-typed (completionLine client ticket v) line written line′ (simp length-append (omega (arith, hex-size (v .status)))) room (cc)
 
   pub completion-prints : (client ticket : ℕ) (v : Verdict) (word fault offset : ℕ) (a b s c d f : Line)
       → length (decimal client) ≤ 20 → length (decimal ticket) ≤ 20 → length (decimal fault) ≤ 20 → length (decimal offset) ≤ 20
-      → upperWord word ≡ upperWord (v .status) → fault ≡ v .fault → offset ≡ v .offset
+      → hexWord word ≡ hexWord (v .status) → fault ≡ v .fault → offset ≡ v .offset
       → a ≡ typed (lineOf line 0) (decimal client)
       → b ≡ typed a (32 ∷ decimal ticket)
       → s ≡ pushed b 32
-      → c ≡ typed s (upperWord word)
+      → c ≡ typed s (hexWord word)
       → d ≡ typed c (32 ∷ decimal fault)
       → f ≡ typed d (32 ∷ decimal offset)
       → lineOf line′ written ≡ pushed f 10
       → Prints (completionLine client ticket v) line written line′
   completion-prints client ticket v word fault offset a b s c d f m n o p is-word is-fault is-offset ea eb es ec ed ef e =
-      let spaces = typed-spaced b (upperWord word) in
+      let spaces = typed-spaced b (hexWord word) in
       completion-typed client ticket v a b c d f m n (rw (← is-fault) o) (rw (← is-offset) p) ea eb (cc) (cc) (cc) (e ∙ typed-one f 10)

@@ -42,6 +42,15 @@ pub starting-engine : starting .engine ≡ opened
 unfolding starting
 starting-engine = started-engine (replicate 32768 0) (replicate 65536 0)
 
+-- opening changes neither ring nor memory
+started-state : (ring memory : List ℕ) → state (started ring memory .engine) ring memory ≡ started ring memory
+unfolding started stateAfter called
+started-state ring memory = refl
+
+pub starting-state : state (starting .engine) (replicate 32768 0) (replicate 65536 0) ≡ starting
+unfolding starting
+starting-state = started-state (replicate 32768 0) (replicate 65536 0)
+
 -- ---- what run answers
 
 answered-refused : (n : ℕ) (c : Completion) (m : ℕ) → answered n (Completed c) ≡ Refused m → 0 < m

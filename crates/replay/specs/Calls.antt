@@ -20,6 +20,7 @@ use Rattle.replay.specs.Step.{Position, position, decided, Step, idle, s
 abbrev pub positionOf : Replay → (held ring memory : List ℕ) → Position
 positionOf r held ring memory = position (r .stage) (take (r .held) held) (state (r .engine) ring memory)
 
+-- and the other way round
 abbrev pub replayAt : Position → Replay
 replayAt p = record { engine = p .state .engine; stage = p .stage; held = length (p .bytes) }
 
@@ -39,6 +40,7 @@ unfoldable pub fedStep : Replay → (held ring memory input line : List ℕ) →
 fedStep r held ring memory input line =
     cond (suffice r held line) (step (positionOf r held ring memory) input) (idle (positionOf r held ring memory))
 
+-- the replay after it
 abbrev pub fedReplay : Replay → (held ring memory input line : List ℕ) → Replay
 fedReplay r held ring memory input line =
     cond (suffice r held line) (replayAt (fedStep r held ring memory input line .next)) r
@@ -55,6 +57,7 @@ pub record Feeds (r : Replay) (held ring memory input line : List ℕ) (f : Fed)
 
 -- ---- finish
 
+-- what it prints: nothing into a line that may be too short
 abbrev pub finishedText : Replay → (line : List ℕ) → List ℕ
 finishedText r line = cond (leb 128 (length line)) (finishText (r .stage) (r .held)) []
 

@@ -2,11 +2,14 @@
 -- proofs/Cutting.antt proves it.
 use mathlib.Core.Path.{_≡_}
 use mathlib.Core.List.{List, [], _∷_, _++_}
-use Prim.Native.Nat.{ℕ, zero, suc}
-use lib.ListN.{length, drop}
+use Prim.Native.Nat.{ℕ, zero, suc, _≤_}
+use lib.ListN.{length, take, drop, replicate}
+use Rattle.replay.specs.declared.Replay.{Replay}
+use Rattle.replay.specs.declared.Fed.{Fed}
 use Rattle.replay.specs.Records.{records}
 use Rattle.replay.specs.Lines.{lines}
 use Rattle.replay.specs.Step.{Position, atStart, Step, step, finishOf}
+use Rattle.replay.specs.Calls.{replayAt, Prints, Feeds, finishedText}
 
 -- what was printed, and where the reading stands
 pub record Printed : Type 0 where
@@ -44,6 +47,28 @@ unfoldable pub joined : List (List ℕ) → List ℕ
 joined [] = []
 joined (piece ∷ pieces) = piece ++ joined pieces
 
--- The promise.
-abbrev pub Cutting : Type 0
-Cutting = (pieces : List (List ℕ)) → printed pieces ≡ lines (records (joined pieces))
+-- ---- the same of the calls
+
+-- Calls of feed and finish as a caller makes them, one after the other, each by its contract: a piece is fed until it is used up, and what a
+-- call wrote into the line is printed. A slice that is lent keeps its length.
+pub data Played : Replay → (held ring memory line : List ℕ) → (pieces : List (List ℕ)) → (output : List ℕ) → Type 0 where
+  finishing : {r : Replay} {held ring memory line : List ℕ} {written : ℕ} {line′ : List ℕ}
+      → Prints (finishedText r line) line written line′
+      → Played r held ring memory line [] (take written line′)
+  onto : {r : Replay} {held ring memory line : List ℕ} {pieces : List (List ℕ)} {output : List ℕ}
+      → Played r held ring memory line pieces output
+      → Played r held ring memory line ([] ∷ pieces) output
+  feeding : {r : Replay} {held ring memory line : List ℕ} {byte : ℕ} {more : List ℕ} {pieces : List (List ℕ)} {output : List ℕ}
+      {f : Fed} {held′ ring′ memory′ line′ : List ℕ}
+      → Feeds r held ring memory (byte ∷ more) line f held′ ring′ memory′ line′
+      → length held′ ≡ length held
+      → length line′ ≡ length line
+      → Played (f .replay) held′ ring′ memory′ line′ (drop (f .used) (byte ∷ more) ∷ pieces) output
+      → Played r held ring memory line ((byte ∷ more) ∷ pieces) (take (f .written) line′ ++ output)
+
+-- The promise: of the steps, and of the calls, from start's replay on, with buffers that suffice.
+pub record Cutting : Type 0 where
+  pub steps : (pieces : List (List ℕ)) → printed pieces ≡ lines (records (joined pieces))
+  pub calls : (held line : List ℕ) (pieces : List (List ℕ)) (output : List ℕ) → 32773 ≤ length held → 128 ≤ length line
+      → Played (replayAt atStart) held (replicate 32768 0) (replicate 65536 0) line pieces output
+      → output ≡ lines (records (joined pieces))

@@ -5,7 +5,7 @@ use Prim.Native.Nat.{ℕ}
 use lib.ListN.{replicate}
 use Rattle.model.specs.Calls.{Setup, Call, opens, submit, run, Verdict, Answer, opened, accepted, completed, ready, refused}
 use Rattle.claims.specs.Engine.{State, Called, called, stateAfter, begin}
-use Rattle.text.specs.Hex.{upperWord}
+use Rattle.text.specs.Hex.{hexWord}
 use Rattle.text.specs.Decimal.{decimal}
 use Rattle.replay.specs.Records.{Entry, Ending, whole, badVersion, badRecord, cutRecord, File}
 
@@ -20,7 +20,7 @@ unfoldable pub completionLine : (client ticket : ℕ) → Verdict → List ℕ
 completionLine client ticket v =
     decimal client
     ++ (spaced (decimal ticket)
-    ++ (spaced (upperWord (v .status))
+    ++ (spaced (hexWord (v .status))
     ++ (spaced (decimal (v .fault))
     ++ (spaced (decimal (v .offset))
     ++ (10 ∷ [])))))

@@ -11,7 +11,6 @@ ghost use Rattle.queue.specs.Answers.{numberOf};
 ghost use Rattle.engine.specs.Outcome.{numberOf as refusalOf, valuesOf};
 ghost use Rattle.claims.specs.Engine.{state, told, completion};
 ghost use Rattle.text.specs.Line.{lineOf, typed};
-ghost use Rattle.text.specs.Hex.{upperWord};
 ghost use Rattle.text.specs.Decimal.{decimal};
 ghost use Rattle.replay.specs.Records.{badSize, badVersion};
 ghost use Rattle.replay.specs.Lines.{completionLine, refusalLine, answerLine, endingLine};
@@ -86,16 +85,6 @@ fn field(line: &mut [u8], n: usize, value: u64) -> usize
     line::decimal(line, end, value)
 }
 
-// The status word. Eight digits show it modulo 2 to the 32nd; no batch of the engine has so many tasks that it would matter.
-fn status_word(verdict: Verdict) -> u32
-    ensures { λ r. ⌜ upperWord r ≡ upperWord (statusOf verdict) ⌝ }
-{
-    match verdict {
-        Verdict::Faultless(tasks) => ((tasks % 65536) as u32) * 65536 + 1,
-        Verdict::Faulty(fault, _) => fault.status(),
-    }
-}
-
 fn completion_line(line: &mut [u8], client: u32, ticket: u32, verdict: Verdict) -> usize
     requires { ⌜ 128 ≤ length (now line) ⌝ }
     ensures { λ r. ⌜ Prints (completionLine client ticket (record { status = statusOf verdict; fault = faultOf verdict; offset = offsetOf verdict }))
@@ -104,7 +93,7 @@ fn completion_line(line: &mut [u8], client: u32, ticket: u32, verdict: Verdict) 
     let a = line::decimal(line, 0, client as u64);
     let b = field(line, a, ticket as u64);
     let c = line::push(line, b, b' ');
-    let d = line::upper_word(line, c, status_word(verdict));
+    let d = line::hex_word(line, c, verdict.status());
     let e = field(line, d, verdict.number() as u64);
     let f = field(line, e, verdict.offset() as u64);
     line::push(line, f, b'\n')

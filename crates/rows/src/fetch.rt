@@ -1,7 +1,7 @@
 // Rows of colours, fetched into a buffer.
 ghost use mathlib.Core.Path.{_≡_};
-ghost use Prim.Native.Nat.{ℕ, _+_, _*_, _≤_, _<_};
-ghost use lib.ListN.{length, getD};
+ghost use Prim.Native.Nat.{_+_, _*_, _≤_, _<_};
+ghost use lib.ListN.{length};
 ghost use Rattle.pixel.specs.Formats.{bytesOf};
 ghost use Rattle.transform.specs.Transform.{Within, rotatedSize};
 ghost use Rattle.surface.specs.Surface.{pixelStart};

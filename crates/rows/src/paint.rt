@@ -1,6 +1,6 @@
 // Rows of bytes, drawn from colours.
 ghost use mathlib.Core.Path.{_≡_};
-ghost use Prim.Native.Nat.{ℕ, _*_, _≤_};
+ghost use Prim.Native.Nat.{_≤_};
 ghost use lib.ListN.{length, getD};
 ghost use Rattle.rows.specs.Row.{wordColour, rowOf, Wide};
 ghost use Rattle.rows.specs.Mixed.{prepared, alphaed, mixed};

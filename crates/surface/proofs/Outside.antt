@@ -12,7 +12,7 @@ use Rattle.pixel.specs.Colours.{packed}
 use Rattle.pixel.specs.declared.colour.Colour.{Colour}
 use Rattle.surface.specs.declared.Surface.{Surface}
 use Rattle.surface.specs.Surface.{rowLength, rowStart, pixelStart, span, InRow}
-use Rattle.surface.specs.Rows.{rows, rowByte}
+use Rattle.surface.specs.Rows.{rowByte}
 use Rattle.surface.specs.Drawn.{drawn, drawnOn}
 use Rattle.surface.proofs.Sizes.{bytes-some}
 use Rattle.surface.proofs.Mapi.{length-mapi, getD-mapi, mapi-stays, mapi-ext, mapi-agree}

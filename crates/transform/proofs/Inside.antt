@@ -4,11 +4,10 @@ use mathlib.Core.Bool.{Bool, true, false}
 use native.Mathlib.Omega.{arith}
 use Rattle.transform.specs.declared.Rotation.{Rotation}
 use Rattle.transform.specs.declared.Rotation.the-variants.{Upright, Clockwise, Half, CounterClockwise}
-use Rattle.transform.specs.declared.Flip.{Flip}
 use Rattle.transform.specs.declared.Transform.{Transform}
 use Rattle.transform.specs.declared.Size.{Size}
 use Rattle.transform.specs.declared.Point.{Point}
-use Rattle.transform.specs.Transform.{Within, rotatedSize, unrotated, mirrored, unflipped, sourceOf}
+use Rattle.transform.specs.Transform.{Within, rotatedSize, unrotated, mirrored, sourceOf}
 
 pub unrotated-within : (r : Rotation) (s : Size) (p : Point) → Within (rotatedSize r s) p → Within s (unrotated r s p)
 unrotated-within Upright s p h = h

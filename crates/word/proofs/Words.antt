@@ -1,11 +1,10 @@
 -- Laws of words in bytes.
-use mathlib.Core.Path.{_≡_, refl, ap, _∙_}
+use mathlib.Core.Path.{_≡_, refl, ap}
 use mathlib.Core.List.{List, [], _∷_}
 use Prim.Native.Nat.{ℕ, zero, suc, _+_, _*_, _/_, _%_, _^_, _<_}
-use native.Mathlib.Nat.{mod-lt}
 use native.Mathlib.Omega.{arith}
 use lib.ListN.{length, getD}
-use Rattle.word.specs.Word.{byteOf, le32, be32, le32At, be32At, leBytes, beBytes, words}
+use Rattle.word.specs.Word.{byteOf, le32, le32At, words}
 
 -- the low bytes of a number, one more at a time
 low-two : (word : ℕ) → word % 256 + word / 256 % 256 * 256 ≡ word % 65536

@@ -3,7 +3,7 @@ ghost use mathlib.Core.Path.{_≡_};
 ghost use Prim.Native.Nat.{_+_, _≤_, _<_};
 ghost use mathlib.Core.List.{[], _∷_};
 ghost use lib.ListN.{length};
-ghost use Rattle.word.specs.Word.{le32, be32, le32At, be32At, leBytes, beBytes};
+ghost use Rattle.word.specs.Word.{le32, le32At, be32At, leBytes, beBytes};
 ghost use Rattle.word.specs.Field.{field};
 ghost use Rattle.word.specs.Splice.{spliced};
 

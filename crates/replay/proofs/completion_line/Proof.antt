@@ -1,5 +1,7 @@
+use mathlib.Core.Path.{ap, _∙_}
 use Rattle.batch.specs.Batch.{statusOf, numberOf, offsetOf}
-use Rattle.replay.proofs.Printing.{completion-prints}
+use Rattle.text.specs.Hex.{hexWord}
+use Rattle.replay.proofs.Printing.{hex-rest, completion-prints}
 use borrow.Author.Needs.{needs}
 use Rattle.replay.proofs.completion_line.Statement.{statement}
 use Rattle.replay.proofs.completion_line.Tie as tie
@@ -13,11 +15,11 @@ field-requires c κs = search needs
 push-requires : tie.Need-push-requires
 push-requires c κs = search needs
 
-status-word-requires : tie.Need-status-word-requires
-status-word-requires c κs = search needs
+status-requires : tie.Need-status-requires
+status-requires c κs = search needs
 
-upper-word-requires : tie.Need-upper-word-requires
-upper-word-requires c κs = search needs
+hex-word-requires : tie.Need-hex-word-requires
+hex-word-requires c κs = search needs
 
 number-requires : tie.Need-number-requires
 number-requires c κs = search needs
@@ -49,8 +51,8 @@ returns c =
     let fault = c .before .before .before .before .before .before .before .before .before .before .before .field2 .ensures in
     let offset = c .before .before .before .before .before .before .field3 .ensures in
     completion-prints _ _ _ (s .pre) (s .args .client) (s .args .ticket) (record { status = statusOf v; fault = numberOf v; offset = offsetOf v }) _ _ _ _ _ _ _ _ _
-    (client .1) (ticket .1) (fault .1) (offset .1) (c .before .before .before .before .before .before .before .before .before .before .before .before .before .before .before .before .before .status-word .ensures) (c .before .before .before .before .before .before .before .before .before .before .before .before .number .ensures) (c .before .before .before .before .before .before .before .offset .ensures)
-    (client .0) (ticket .0) (c .before .before .before .before .before .before .before .before .before .before .before .before .before .before .before .before .before .before .before .before .before .push .ensures) (c .before .before .before .before .before .before .before .before .before .before .before .before .before .before .before .before .upper-word .ensures) (fault .0) (offset .0) (c .before .before .push2 .ensures)
+    (client .1) (ticket .1) (fault .1) (offset .1) (ap hexWord (c .before .before .before .before .before .before .before .before .before .before .before .before .before .before .before .before .before .status .ensures) ∙ hex-rest (statusOf v)) (c .before .before .before .before .before .before .before .before .before .before .before .before .number .ensures) (c .before .before .before .before .before .before .before .offset .ensures)
+    (client .0) (ticket .0) (c .before .before .before .before .before .before .before .before .before .before .before .before .before .before .before .before .before .before .before .before .before .push .ensures) (c .before .before .before .before .before .before .before .before .before .before .before .before .before .before .before .before .hex-word .ensures) (fault .0) (offset .0) (c .before .before .push2 .ensures)
 
 pub completion-line-spec : {M : Type 1} → statement M
 completion-line-spec =
@@ -59,8 +61,8 @@ completion-line-spec =
     decimal-requires
     field-requires
     push-requires
-    status-word-requires
-    upper-word-requires
+    status-requires
+    hex-word-requires
     number-requires
     cast-field
     field-requires-2

@@ -1,5 +1,4 @@
 use native.Mathlib.Omega.{arith}
-use Rattle.transform.specs.Transform.{Within}
 use borrow.Author.Needs.{needs}
 use Rattle.leaf_cases.proofs.transforms.source.Statement.{statement}
 use Rattle.leaf_cases.proofs.transforms.source.Tie as tie
