@@ -34,7 +34,7 @@ opened =
     let three : Record = openOf two (windowFrom 40960) .engine in
     openOf three (windowFrom 53248) .engine
 
-started-engine : (ring memory : List ℕ) → started ring memory .engine ≡ opened
+pub started-engine : (ring memory : List ℕ) → started ring memory .engine ≡ opened
 unfolding started stateAfter called
 started-engine ring memory = refl
 
@@ -43,7 +43,7 @@ unfolding starting
 starting-engine = started-engine (replicate 32768 0) (replicate 65536 0)
 
 -- opening changes neither ring nor memory
-started-state : (ring memory : List ℕ) → state (started ring memory .engine) ring memory ≡ started ring memory
+pub started-state : (ring memory : List ℕ) → state (started ring memory .engine) ring memory ≡ started ring memory
 unfolding started stateAfter called
 started-state ring memory = refl
 

@@ -1,0 +1,88 @@
+use mathlib.Core.Path.{_≡_, sym, _∙_}
+use mathlib.Core.Bool.{true, _&&_}
+use Prim.Native.Nat.{ℕ, _≤_, _<_}
+use native.Mathlib.Omega.{arith}
+use lib.Dec.{leb, ltb}
+use borrow.Author.Needs.{needs}
+use borrow.Author.Tests.{leb-true, ltb-true, not-true, not-false}
+use Rattle.word.proofs.Tests.{and-true}
+use Rattle.ppm.specs.Rectangle.{isSide, rectangleOf}
+use Rattle.ppm.proofs.rectangle.rectangle_of.Statement.{statement}
+use Rattle.ppm.proofs.rectangle.rectangle_of.Tie as tie
+
+-- the numbers fit their registers
+sized : (width height stride : ℕ) → isSide width && isSide height && ltb stride 65536 ≡ true → (width ≤ 4096) × (height ≤ 4096) × (stride < 65536)
+sized width height stride e =
+    let all = and-true (isSide width && isSide height) (ltb stride 65536) e in
+    let sides = and-true (isSide width) (isSide height) (all .0) in (
+      leb-true width 4096 (and-true (leb 1 width) (leb width 4096) (sides .0) .1),
+      leb-true height 4096 (and-true (leb 1 height) (leb height 4096) (sides .1) .1),
+      ltb-true stride 65536 (all .1),
+    )
+
+good : (c : tie.Else1) →
+    isSide (c .before .before .before .args .width) && isSide (c .before .before .before .args .height) && ltb (c .before .before .before .args .stride) 65536 ≡ true
+good c =
+    let a = c .before .before .before .args in
+    rw (c .before .before .is-side .ensures, c .before .is-side2 .ensures) at (not-false
+    (c .before .before .is-side .result && c .before .is-side2 .result && ltb (a .stride) 65536) (c .if1 .left))
+
+fits : (c : tie.Else1) → (c .before .before .before .args .width ≤ 4096) × (c .before .before .before .args .height ≤ 4096) × (c .before .before .before .args .stride < 65536)
+fits c = sized _ _ _ (good c)
+
+is-side-requires : tie.Need-is-side-requires
+is-side-requires c κs = search needs
+
+is-side-requires-2 : tie.Need-is-side-requires-2
+is-side-requires-2 c κs = search needs
+
+returns : tie.Need-returns
+unfolding rectangleOf
+returns c =
+    let a = c .before .before .before .args in
+    let bad =
+    rw (c .before .before .is-side .ensures, c .before .is-side2 .ensures) at (not-true
+    (c .before .before .is-side .result && c .before .is-side2 .result && ltb (a .stride) 65536) (c .if1 .taken)) in
+    rw bad
+
+cast-t12 : tie.Need-cast-t12
+cast-t12 c = omega (arith, fits c .2)
+
+cast-t13 : tie.Need-cast-t13
+cast-t13 c = omega (arith, fits c .0)
+
+cast-t14 : tie.Need-cast-t14
+cast-t14 c = omega (arith, fits c .1)
+
+new-requires : tie.Need-new-requires
+new-requires c κs = search needs
+
+is-inside-requires : tie.Need-is-inside-requires
+is-inside-requires c κs = search needs
+
+returns-2 : tie.Need-returns-2
+unfolding rectangleOf
+returns-2 c =
+    let e = rw (c .before .before .new .ensures) at (sym (c .before .is-inside .ensures) ∙ c .if2 .taken) in
+    rw (good (c .before .before .before), e)
+
+returns-3 : tie.Need-returns-3
+unfolding rectangleOf
+returns-3 c =
+    let e = rw (c .before .before .new .ensures) at (sym (c .before .is-inside .ensures) ∙ c .if2 .left) in
+    rw (good (c .before .before .before), e)
+
+pub rectangle-of-spec : {M : Type 1} → statement M
+rectangle-of-spec =
+    tie.close
+    (tie.spec
+    is-side-requires
+    is-side-requires-2
+    returns
+    cast-t12
+    cast-t13
+    cast-t14
+    new-requires
+    is-inside-requires
+    returns-2
+    returns-3)

@@ -1,0 +1,13 @@
+// A rectangle of memory as a picture (PPM): the words that name it, its header and its rows.
+pub mod picture;
+pub mod rectangle;
+pub mod words;
+
+pub use picture::header;
+pub use picture::row;
+pub use rectangle::Rectangle;
+pub use rectangle::rectangle_of;
+pub use words::Named;
+pub use words::Number;
+pub use words::format_named;
+pub use words::number_of;

@@ -1,0 +1,93 @@
+// What words of a command line mean: numbers, and names of formats.
+ghost use mathlib.Core.Path.{_≡_};
+ghost use Prim.Native.Nat.{_-_};
+ghost use Rattle.ppm.specs.Words.{isDigit, numberOf, small as smallOf, isWord, formatNamed};
+use pixel::Format;
+
+pub enum Number {
+    Value(u32),
+    Wrong,
+}
+
+pub enum Named {
+    Known(Format),
+    Unknown,
+}
+
+fn is_digit(byte: u8) -> bool
+    ensures { λ r. ⌜ r ≡ isDigit byte ⌝ }
+{
+    (b'0' <= byte) & (byte <= b'9')
+}
+
+// The value of a digit. What is below `0` counts as 0.
+fn digit_value(byte: u8) -> u64
+    ensures { λ r. ⌜ r ≡ byte - 48 ⌝ }
+{
+    if byte < b'0' { 0 } else { (byte - b'0') as u64 }
+}
+
+// A number in decimal digits. It stops at the first character that is no digit, or as soon as the number is too large, so
+// that no sum wraps, however long the text is.
+pub fn number_of(text: &[u8]) -> Number
+    ensures { λ r. ⌜ r ≡ numberOf (now (text .entry)) ⌝ }
+{
+    if text.len() == 0 {
+        return Number::Wrong;
+    }
+    let mut value: u64 = 0;
+    let mut i = 0;
+    while i < text.len() {
+        let byte = text[i];
+        let next = value * 10 + digit_value(byte);
+        let good = is_digit(byte) & (next < 4294967296);
+        if !good {
+            return Number::Wrong;
+        }
+        value = next;
+        i += 1;
+    }
+    Number::Value(value as u32)
+}
+
+fn small(byte: u8) -> u8
+    ensures { λ r. ⌜ r ≡ smallOf byte ⌝ }
+{
+    if (b'A' <= byte) & (byte <= b'Z') {
+        byte + 32
+    } else {
+        byte
+    }
+}
+
+// Whether a text is a word of small letters, itself in letters of either kind.
+fn is_word(text: &[u8], word: &[u8]) -> bool
+    ensures { λ r. ⌜ r ≡ isWord (now (text .entry)) (now (word .entry)) ⌝ }
+{
+    if text.len() != word.len() {
+        return false;
+    }
+    let mut i = 0;
+    while i < text.len() {
+        if small(text[i]) != word[i] {
+            return false;
+        }
+        i += 1;
+    }
+    true
+}
+
+pub fn format_named(text: &[u8]) -> Named
+    ensures { λ r. ⌜ r ≡ formatNamed (now (text .entry)) ⌝ }
+{
+    if is_word(text, b"argb8888") {
+        return Named::Known(Format::Argb8888);
+    }
+    if is_word(text, b"rgb888") {
+        return Named::Known(Format::Rgb888);
+    }
+    if is_word(text, b"rgb565") {
+        return Named::Known(Format::Rgb565);
+    }
+    Named::Unknown
+}

@@ -1,0 +1,36 @@
+-- Laws of what is reached: by some lines gathered, by one reading after another, from the start.
+use mathlib.Core.Path.{_≡_, refl, sym, ap, _∙_}
+use mathlib.Core.List.{List, []}
+use Prim.Native.Nat.{ℕ, _+_}
+use Rattle.record.specs.declared.Record.{Record}
+use Rattle.claims.specs.Engine.{State, state}
+use Rattle.replay.specs.declared.Stage.the-variants.{Version}
+use Rattle.replay.specs.declared.Replay.{Replay}
+use Rattle.replay.specs.Lines.{started}
+use Rattle.replay.specs.Step.{Position, position, atStart}
+use Rattle.replay.specs.Cutting.{Printed, fedFrom}
+use Rattle.replay.specs.Calls.{positionOf, replayAt}
+use Rattle.replay.proofs.Serving.{started-engine, starting-engine, started-state}
+use Rattle.replay_io.specs.Gather.{Gathers}
+use Rattle.replay_io.specs.Reached.{Reaches, here, onward, Replayed}
+
+pub gathers-reach : (p q r : Position) (input out : List ℕ) (used written : ℕ) (out′ : List ℕ) → Reaches p q → Gathers q input out used written r out′ → Reaches p r
+unfolding fedFrom
+gathers-reach p q r input out used written out′ reached g = onward reached (g .steps + 0) input (ap (λ (x : Printed). x .last) (g .onward 0))
+
+pub reaches-on : (p q r : Position) → Reaches p q → Reaches q r → Reaches p r
+reaches-on p q r a here = a
+reaches-on p q r a (onward b steps input e) = onward (reaches-on p _ _ a b) steps input e
+
+-- start's replay stands at the start
+pub start-at : (held ring memory : List ℕ) → positionOf (replayAt atStart) held ring memory ≡ position Version [] (started ring memory)
+start-at held ring memory =
+    ap (position Version []) (ap (λ (e : Record). state e ring memory) (starting-engine ∙ sym (started-engine ring memory)) ∙ started-state ring memory)
+
+-- memory, where it was reached
+pub replayed : (ring memory : List ℕ) (r : Replay) (held ring′ memory′ : List ℕ) → Reaches (position Version [] (started ring memory)) (positionOf r held ring′ memory′) → Replayed memory memory′
+replayed ring memory r held ring′ memory′ reached = record { ring = ring; last = positionOf r held ring′ memory′; reached = reached; left = refl }
+
+-- nothing read
+pub unread : (memory : List ℕ) → Replayed memory memory
+unread memory = record { ring = []; last = position Version [] (started [] memory); reached = here; left = ap (λ (s : State). s .memory) (started-state [] memory) }

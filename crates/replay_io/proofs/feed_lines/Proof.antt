@@ -1,0 +1,161 @@
+use mathlib.Core.Path.{_≡_, refl}
+use lib.Dec.{leb, ltb}
+use borrow.Author.Tests.{ltb-true}
+use Rattle.word.proofs.Tests.{and-true}
+use Rattle.replay.specs.Calls.{positionOf}
+use Rattle.replay_io.proofs.Gathering.{Going, going-none, going-more, gathers-more}
+use Prim.Native.Nat.{_+_, _-_, _≤_, _<_}
+use lib.ListN.{length}
+use native.Mathlib.Omega.{arith}
+use denote.Ref.{now}
+use Rattle.surface.proofs.Parts.{length-mid}
+use Rattle.replay_io.proofs.Bounds.{used-within, prints-within}
+use borrow.Author.Needs.{needs}
+use Rattle.replay_io.proofs.feed_lines.Statement.{statement}
+use Rattle.replay_io.proofs.feed_lines.Tie as tie
+
+abbrev Inv-loop : tie.InvT-loop
+Inv-loop held₀ ring₀ memory₀ input out₀ now₀ used₀ written₀ held ring memory out now used written =
+    Going (positionOf now₀ held₀ ring₀ memory₀) input out₀ used written (positionOf now held ring memory) out
+    × (used ≤ length input)
+    × (written ≤ length out₀)
+    × (length held ≡ length held₀)
+    × (length ring ≡ length ring₀)
+    × (length memory ≡ length memory₀)
+    × (length out ≡ length out₀)
+
+abbrev μ-loop : tie.MeasureT-loop
+μ-loop held₀ ring₀ memory₀ input out₀ now₀ used₀ written₀ held ring memory out now used written = length input - used
+
+-- input is left
+some : (c : tie.In-loop Inv-loop μ-loop) → c .before .loop .used < length (now (c .before .before .before .before .before .before .before .args .input))
+some c =
+    let l = c .before .loop in
+    let input = now (c .before .before .before .before .before .before .before .args .input) in
+    ltb-true (l .used) (length input) (and-true (ltb (l .used) (length input)) (leb 128 (length (l .out) - l .written)) (c .loop-test .taken) .0)
+
+-- what a call used and wrote lies within the input and the lines
+bounds : (c : tie.After-feed Inv-loop μ-loop) →
+    (c .before .before .before .before .before .before .before .loop .used + c .feed .result .used ≤ length (now (c .before .before .before .before .before .before .before .before .before .before .before .before .before .args .input)))
+    × (c .before .before .before .before .before .before .before .loop .written + c .feed .result .written ≤ length (now (c .before .before .before .before .before .before .before .before .before .before .before .before .before .args .out)))
+bounds c =
+    let l = c .before .before .before .before .before .before .before .loop in
+    let input = now (c .before .before .before .before .before .before .before .before .before .before .before .before .before .args .input) in
+    let e = c .feed .ensures in (
+      omega (arith, used-within _ _ _ _ _ _ _ _ _ _ _ e, length-mid (l .used) (length input - l .used) input (omega arith)),
+      omega (arith, prints-within _ _ _ _ (e .prints) (c .feed .kept .1 .1 .1 .1 .1 .0), length-mid (l .written) (length (l .out) - l .written) (l .out) (omega arith)),
+    )
+
+loop-holds : tie.Need-loop-holds Inv-loop μ-loop
+loop-holds c = (going-none _ _ _, search needs, search needs, search needs, search needs, search needs, search needs)
+
+sub-loop : tie.Need-sub-loop Inv-loop μ-loop
+sub-loop c = search needs
+
+sub-feed : tie.Need-sub-feed Inv-loop μ-loop
+sub-feed c = search needs
+
+part-feed-start : tie.Need-part-feed-start Inv-loop μ-loop
+part-feed-start c = search needs
+
+part-feed-end : tie.Need-part-feed-end Inv-loop μ-loop
+part-feed-end c = search needs
+
+sub-feed-2 : tie.Need-sub-feed-2 Inv-loop μ-loop
+sub-feed-2 c = search needs
+
+part-feed-start-2 : tie.Need-part-feed-start-2 Inv-loop μ-loop
+part-feed-start-2 c = search needs
+
+part-feed-end-2 : tie.Need-part-feed-end-2 Inv-loop μ-loop
+part-feed-end-2 c = search needs
+
+feed-requires : tie.Need-feed-requires Inv-loop μ-loop
+feed-requires c κs = search needs
+
+add-written : tie.Need-add-written Inv-loop μ-loop
+add-written c = omega (arith, bounds (c .before .before .before .before .before .before .before .before .before .before), c .before .before .before .before .before .before .before .before .before .before .before .before .before .before .before .before .before .before .before .before .before .before .before .good .1 .1 .1 .1 .1 .0 .0)
+
+add-used : tie.Need-add-used Inv-loop μ-loop
+add-used c = omega (arith, bounds (c .before .before .before .before .before .before .before .before .before .before), c .before .before .before .before .before .before .before .before .before .before .before .before .before .before .before .before .before .before .before .before .before .before .before .good .1 .1 .1 .1 .0 .0)
+
+loop-less : tie.Need-loop-less Inv-loop μ-loop
+loop-less c = omega (arith, bounds (c .before .before .before .before .before .before .before .before .before .before .before), c .if1 .left)
+
+loop-again : tie.Need-loop-again Inv-loop μ-loop
+loop-again c =
+    let d = c .before .before .before .before .before .before .before .before .before .before .before in
+    let l = d .before .before .before .before .before .before .before .loop in
+    let k = bounds d in (
+      going-more _ _ _ (l .used) (l .written) (l .now) _ _ _ (l .out) (l .inv .0) (some (d .before .before .before .before .before .before)) _ _ (d .feed .result) _ _ _ _ refl refl (k .0) (k .1) (d .feed .ensures) (c .if1 .left),
+      k .0,
+      k .1,
+      search needs,
+      search needs,
+      search needs,
+      search needs,
+    )
+
+same-length : tie.Need-same-length Inv-loop μ-loop
+same-length c = search needs
+
+same-length-2 : tie.Need-same-length-2 Inv-loop μ-loop
+same-length-2 c = search needs
+
+same-length-3 : tie.Need-same-length-3 Inv-loop μ-loop
+same-length-3 c = search needs
+
+same-length-4 : tie.Need-same-length-4 Inv-loop μ-loop
+same-length-4 c = search needs
+
+returns : tie.Need-returns Inv-loop μ-loop
+returns c = c .before .loop .inv .0 .so
+
+same-length-5 : tie.Need-same-length-5 Inv-loop μ-loop
+same-length-5 c = search needs
+
+same-length-6 : tie.Need-same-length-6 Inv-loop μ-loop
+same-length-6 c = search needs
+
+same-length-7 : tie.Need-same-length-7 Inv-loop μ-loop
+same-length-7 c = search needs
+
+same-length-8 : tie.Need-same-length-8 Inv-loop μ-loop
+same-length-8 c = search needs
+
+returns-2 : tie.Need-returns-2 Inv-loop μ-loop
+returns-2 c =
+    let d = c .before .before .before .before .before .before .before .before .before .before .before in
+    let l = d .before .before .before .before .before .before .before .loop in
+    let k = bounds d in
+    gathers-more _ _ _ (l .used) (l .written) (l .now) _ _ _ (l .out) (l .inv .0) (some (d .before .before .before .before .before .before)) _ _ (d .feed .result) _ _ _ _ refl refl (k .0) (k .1) (d .feed .ensures)
+
+pub feed-lines-spec : {M : Type 1} → statement M
+feed-lines-spec =
+    tie.close
+    (tie.spec
+    Inv-loop
+    μ-loop
+    loop-holds
+    sub-loop
+    sub-feed
+    part-feed-start
+    part-feed-end
+    sub-feed-2
+    part-feed-start-2
+    part-feed-end-2
+    feed-requires
+    add-written
+    add-used
+    loop-less
+    loop-again
+    same-length
+    same-length-2
+    same-length-3
+    same-length-4
+    returns
+    same-length-5
+    same-length-6
+    same-length-7
+    same-length-8
+    returns-2)

@@ -1,0 +1,115 @@
+use denote.Ref.{now}
+use Rattle.surface.proofs.Parts.{length-mid}
+use mathlib.Core.Path.{_≡_}
+use Prim.Native.Nat.{_-_, _≤_}
+use native.Mathlib.Omega.{arith}
+use lib.ListN.{length}
+use Rattle.replay.specs.Calls.{positionOf}
+use Rattle.replay_io.specs.Reached.{Reaches, here}
+use Rattle.replay_io.proofs.Reaching.{gathers-reach}
+use borrow.Author.Needs.{needs}
+use Rattle.replay_io.proofs.feed_piece.Statement.{statement}
+use Rattle.replay_io.proofs.feed_piece.Tie as tie
+
+abbrev Inv-loop : tie.InvT-loop
+Inv-loop held₀ ring₀ memory₀ piece shows out₀ now₀ used₀ well₀ held ring memory out now used well =
+    (used ≤ length piece) × (65536 ≡ length out) × (length held ≡ length held₀) × (length ring ≡ length ring₀) × (length memory ≡ length memory₀)
+    × Reaches (positionOf now₀ held₀ ring₀ memory₀) (positionOf now held ring memory)
+
+abbrev μ-loop : tie.MeasureT-loop
+μ-loop held₀ ring₀ memory₀ piece shows out₀ now₀ used₀ well₀ held ring memory out now used well = length piece - used
+
+large-buffer-requires : tie.Need-large-buffer-requires Inv-loop μ-loop
+large-buffer-requires c κs = search needs
+
+loop-holds : tie.Need-loop-holds Inv-loop μ-loop
+loop-holds c = (search needs, search needs, search needs, search needs, search needs, here)
+
+sub-feed-lines : tie.Need-sub-feed-lines Inv-loop μ-loop
+sub-feed-lines c = search needs
+
+part-feed-lines-start : tie.Need-part-feed-lines-start Inv-loop μ-loop
+part-feed-lines-start c = search needs
+
+part-feed-lines-end : tie.Need-part-feed-lines-end Inv-loop μ-loop
+part-feed-lines-end c = search needs
+
+slice-aggregate-feed-lines : tie.Need-slice-aggregate-feed-lines Inv-loop μ-loop
+slice-aggregate-feed-lines c = search needs
+
+feed-lines-requires : tie.Need-feed-lines-requires Inv-loop μ-loop
+feed-lines-requires c κs = search needs
+
+add-used : tie.Need-add-used Inv-loop μ-loop
+add-used c = omega (arith, c .before .before .before .before .before .before .before .before .feed-lines .ensures .within, length-mid (c .before .before .before .before .before .before .before .before .before .before .before .before .before .before .before .loop .used) (length (now (c .before .before .before .before .before .before .before .before .before .before .before .before .before .before .before .before .before .before .before .before .before .args .piece)) - c .before .before .before .before .before .before .before .before .before .before .before .before .before .before .before .loop .used) (now (c .before .before .before .before .before .before .before .before .before .before .before .before .before .before .before .before .before .before .before .before .before .args .piece)) (omega arith), c .before .before .before .before .before .before .before .before .before .before .before .before .before .before .before .before .before .before .before .before .before .good .1 .1 .1 .1 .0 .0)
+
+slice-aggregate-show : tie.Need-slice-aggregate-show Inv-loop μ-loop
+slice-aggregate-show c = search needs
+
+show-requires : tie.Need-show-requires Inv-loop μ-loop
+show-requires c κs = search needs
+
+loop-less : tie.Need-loop-less Inv-loop μ-loop
+loop-less c = search needs
+
+loop-again : tie.Need-loop-again Inv-loop μ-loop
+loop-again c =
+    let l = c .before .before .before .before .before .before .before .before .before .before .before .before .before .before .before .before .before .before .loop in
+    let f = c .before .before .before .before .before .before .before .before .before .before .before .feed-lines in
+    let piece = now (c .before .before .before .before .before .before .before .before .before .before .before .before .before .before .before .before .before .before .before .before .before .before .before .before .args .piece) in
+    let rest = length-mid (l .used) (length piece - l .used) piece (omega (arith, l .inv .0)) in
+    (omega (arith, f .ensures .within, rest, l .inv .0), search needs, search needs, search needs, search needs, gathers-reach _ _ _ _ _ _ _ _ (l .inv .5) (f .ensures))
+
+same-length : tie.Need-same-length Inv-loop μ-loop
+same-length c = search needs
+
+same-length-2 : tie.Need-same-length-2 Inv-loop μ-loop
+same-length-2 c = search needs
+
+same-length-3 : tie.Need-same-length-3 Inv-loop μ-loop
+same-length-3 c = search needs
+
+returns : tie.Need-returns Inv-loop μ-loop
+returns c = search needs
+
+same-length-4 : tie.Need-same-length-4 Inv-loop μ-loop
+same-length-4 c = search needs
+
+same-length-5 : tie.Need-same-length-5 Inv-loop μ-loop
+same-length-5 c = search needs
+
+same-length-6 : tie.Need-same-length-6 Inv-loop μ-loop
+same-length-6 c = search needs
+
+returns-2 : tie.Need-returns-2 Inv-loop μ-loop
+returns-2 c =
+    let l = c .before .before .before .before .before .before .before .before .before .before .before .before .before .before .before .before .before .before .loop in
+    let f = c .before .before .before .before .before .before .before .before .before .before .before .feed-lines in
+    gathers-reach _ _ _ _ _ _ _ _ (l .inv .5) (f .ensures)
+
+pub feed-piece-spec : {M : Type 1} → statement M
+feed-piece-spec =
+    tie.close
+    (tie.spec
+    Inv-loop
+    μ-loop
+    large-buffer-requires
+    loop-holds
+    sub-feed-lines
+    part-feed-lines-start
+    part-feed-lines-end
+    slice-aggregate-feed-lines
+    feed-lines-requires
+    add-used
+    slice-aggregate-show
+    show-requires
+    loop-less
+    loop-again
+    same-length
+    same-length-2
+    same-length-3
+    returns
+    same-length-4
+    same-length-5
+    same-length-6
+    returns-2)

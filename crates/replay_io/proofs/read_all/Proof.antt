@@ -1,0 +1,88 @@
+use mathlib.Core.Path.{_≡_, sym, subst}
+use mathlib.Core.List.{[]}
+use lib.ListN.{length}
+use Rattle.replay.specs.declared.Stage.the-variants.{Version}
+use Rattle.replay.specs.Lines.{started}
+use Rattle.replay.specs.Step.{position}
+use Rattle.replay.specs.Calls.{positionOf}
+use Rattle.replay_io.specs.Reached.{Reaches, here}
+use Rattle.replay_io.proofs.Reaching.{reaches-on, start-at}
+use borrow.Author.Needs.{needs}
+use Rattle.replay_io.proofs.read_all.Statement.{statement}
+use Rattle.replay_io.proofs.read_all.Tie as tie
+
+abbrev Inv-loop : tie.InvT-loop
+Inv-loop fd name held₀ ring₀ memory₀ shows progress₀ turns₀ more₀ held ring memory progress turns more =
+    (length held ≡ length held₀) × (length ring ≡ length ring₀) × (length memory ≡ length memory₀)
+    × Reaches (position Version [] (started ring₀ memory₀)) (positionOf (progress .replay) held ring memory)
+
+abbrev μ-loop : tie.MeasureT-loop
+μ-loop fd name held₀ ring₀ memory₀ shows progress₀ turns₀ more₀ held ring memory progress turns more = turns
+
+start-requires : tie.Need-start-requires Inv-loop μ-loop
+start-requires c κs = search needs
+
+loop-holds : tie.Need-loop-holds Inv-loop μ-loop
+loop-holds c =
+    let a = c .before .before .before .before .before .args in
+    (search needs, search needs, search needs, rw (c .start .ensures, start-at (a .held .now) (a .ring .now) (a .memory .now)) here)
+
+read-some-requires : tie.Need-read-some-requires Inv-loop μ-loop
+read-some-requires c κs = search needs
+
+sub-turns : tie.Need-sub-turns Inv-loop μ-loop
+sub-turns c = search needs
+
+loop-less : tie.Need-loop-less Inv-loop μ-loop
+loop-less c = search needs
+
+loop-again : tie.Need-loop-again Inv-loop μ-loop
+loop-again c =
+    let l = c .before .before .before .before .before .before .before .before .before .before .before .before .before .loop in
+    let s = c .before .before .before .before .before .before .read-some in
+    (search needs, search needs, search needs, reaches-on _ _ _ (l .inv .3) (s .ensures))
+
+same-length : tie.Need-same-length Inv-loop μ-loop
+same-length c = search needs
+
+same-length-2 : tie.Need-same-length-2 Inv-loop μ-loop
+same-length-2 c = search needs
+
+same-length-3 : tie.Need-same-length-3 Inv-loop μ-loop
+same-length-3 c = search needs
+
+returns : tie.Need-returns Inv-loop μ-loop
+returns c = search needs
+
+same-length-4 : tie.Need-same-length-4 Inv-loop μ-loop
+same-length-4 c = search needs
+
+same-length-5 : tie.Need-same-length-5 Inv-loop μ-loop
+same-length-5 c = search needs
+
+same-length-6 : tie.Need-same-length-6 Inv-loop μ-loop
+same-length-6 c = search needs
+
+returns-2 : tie.Need-returns-2 Inv-loop μ-loop
+returns-2 c = search needs
+
+pub read-all-spec : {M : Type 1} → statement M
+read-all-spec =
+    tie.close
+    (tie.spec
+    Inv-loop
+    μ-loop
+    start-requires
+    loop-holds
+    read-some-requires
+    sub-turns
+    loop-less
+    loop-again
+    same-length
+    same-length-2
+    same-length-3
+    returns
+    same-length-4
+    same-length-5
+    same-length-6
+    returns-2)
