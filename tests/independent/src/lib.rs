@@ -12,6 +12,7 @@ pub mod picture;
 pub mod pixel;
 pub mod pixel_cases;
 pub mod play;
+pub mod programs;
 pub mod questions;
 pub mod queue;
 pub mod queue_cases;

@@ -2,7 +2,7 @@
 //! random lists of calls, and reads replay files.
 //!
 //! independent NAME DIR               writes DIR/stdin and DIR/stdout for the program crate NAME
-//! independent all DIR                does so for each program crate, in DIR/NAME
+//! independent all DIR                does so for each program crate, in DIR/NAME, replay_main and picture too
 //! independent samples DIR            writes sample replay files with their lines into DIR
 //! independent --count COUNT SEED     plays COUNT random lists and prints what came how often
 //! independent replay [FILE]          prints the lines of a replay file, or of standard input
@@ -11,7 +11,7 @@
 use independent::picture::Rectangle;
 use independent::stream::Stream;
 use independent::tally::Tally;
-use independent::{batch_cases, leaf_cases, pixel_cases, play, queue_cases, replay, samples, scripts, task_cases};
+use independent::{batch_cases, leaf_cases, pixel_cases, play, programs, queue_cases, replay, samples, scripts, task_cases};
 use std::io::{Error, Read, Result, Write};
 use std::path::Path;
 use std::process::ExitCode;
@@ -34,7 +34,8 @@ fn write(stream: &Stream, dir: &Path) -> Result<()> {
 /// Writes the streams of the crates that `name` asks for.
 fn write_named(name: &str, dir: &Path) -> Result<()> {
     if name == "all" {
-        return CRATES.iter().try_for_each(|(crate_name, cases)| write(&cases(), &dir.join(crate_name)));
+        CRATES.iter().try_for_each(|(crate_name, cases)| write(&cases(), &dir.join(crate_name)))?;
+        return programs::write(dir);
     }
     let known = CRATES.iter().find(|(crate_name, _)| *crate_name == name);
     let (_, cases) = known.ok_or_else(|| Error::other(format!("no program crate {name}")))?;
