@@ -18,7 +18,8 @@ use Rattle.claims.specs.OfModel.{real}
 use Rattle.claims.specs.Engine.{State, state, called, answersOf, stateAfter, Accepted, begin}
 use Rattle.claims.specs.Demand3.{LikeModel}
 use Rattle.claims.proofs.Cases.{number, done, by-number}
-use Rattle.claims.proofs.Related.{seenWindows, numbersIn, seen, Related}
+use Rattle.claims.proofs.Seen.{seenWindows}
+use Rattle.claims.proofs.Related.{numbersIn, seen, Related}
 use Rattle.claims.proofs.Tables.{alike}
 use Rattle.claims.proofs.Steps.{Alike, either-alike, open-done, submit-done, pending-done}
 use Rattle.claims.proofs.Runs.{run-done}

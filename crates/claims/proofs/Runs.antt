@@ -19,7 +19,8 @@ use Rattle.claims.specs.Way.{boundsOf, numbersOf}
 use Rattle.claims.specs.OfModel.{real}
 use Rattle.claims.specs.Engine.{State}
 use Rattle.claims.proofs.Cases.{number, done}
-use Rattle.claims.proofs.Related.{seenBatch, seenWaiting, seen, Sound, window-at}
+use Rattle.claims.proofs.Seen.{seenBatch, seenWaiting}
+use Rattle.claims.proofs.Related.{seen, Sound, window-at}
 use Rattle.claims.proofs.Steps.{Alike}
 
 module _ (setup : Setup) (n : ℕ) (s : State) (S : Sound setup n s) (count : ℕ) (next : s .engine .next ≡ count % 4294967296) (z : number run s ≡ 0) where

@@ -19,7 +19,8 @@ use Rattle.model.specs.Model.{Step, unless, effect}
 use Rattle.claims.specs.OfModel.{real}
 use Rattle.claims.specs.Engine.{State, Called}
 use Rattle.claims.proofs.Cases.{given, number, done, either}
-use Rattle.claims.proofs.Related.{seen-snoc, seenBatch, seen, Sound, Related, open-count, client-count}
+use Rattle.claims.proofs.Seen.{seen-snoc, seenBatch}
+use Rattle.claims.proofs.Related.{seen, Sound, Related, open-count, client-count}
 
 -- the same answer, and related ends
 abbrev pub Alike : Setup → ℕ → Called → Step → Type 0

@@ -20,7 +20,8 @@ use Rattle.model.specs.Calls.{Setup, Call, opens, submit, run, pending}
 use Rattle.model.specs.Refusals.{table, firstOf as firstRow, refusal}
 use Rattle.claims.specs.Engine.{State}
 use Rattle.claims.proofs.Cases.{given, number}
-use Rattle.claims.proofs.Related.{seenWindows, numbersIn, seen, Sound, facts, open-count, slots-count, bytes-count}
+use Rattle.claims.proofs.Seen.{seenWindows}
+use Rattle.claims.proofs.Related.{numbersIn, seen, Sound, facts, open-count, slots-count, bytes-count}
 
 -- ---- row 4
 

@@ -130,3 +130,18 @@ pub fn cut() -> Vec<u8> {
     let whole = file(&[(0, bytes(&WORKED)), (1, bytes(&WORKED))]);
     whole[..whole.len() - 7].to_vec()
 }
+
+/// A good task and then one that reaches past the window: neither is drawn.
+pub fn judged_first() -> Vec<u8> {
+    let sheet = sheet(16, 8);
+    let beyond = Place { address: window_start(1) - 4, ..sheet };
+    file(&[(0, batch(&[fill(sheet, 0xFFE0_4040), fill(beyond, 0xFF40_40E0)]))])
+}
+
+/// Two batches of 20,000 bytes in a ring of 32,768: the second goes on at byte 0. Each task sets a pixel of its own.
+pub fn wrapped() -> Vec<u8> {
+    let sheet = Place { stride: 256, ..sheet(64, 8) };
+    let pixel = |i: u32| fill(sheet.part(i % 64, i / 64, 1, 1), 0xFF00_0000 | (i * 0x01_0A4F) % 0x0100_0000);
+    let pixels = |from: u32| batch(&(from..from + 250).map(pixel).collect::<Vec<Fields>>());
+    file(&[(0, pixels(0)), (0, pixels(250))])
+}

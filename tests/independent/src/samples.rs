@@ -21,7 +21,7 @@ const fn sample(
 }
 
 /// The samples in the order in which to look at them.
-pub const SAMPLES: [Sample; 14] = [
+pub const SAMPLES: [Sample; 16] = [
     sample("hello", &["16384 8 2 1 ARGB8888"], files::hello, "01's worked words: two pixels of one colour by client 0"),
     sample("outside", &[], files::outside, "the same with address 64: fault 27 at byte 72, and nothing is drawn"),
     sample("blend", &["16384 64 16 8 ARGB8888"], files::blend, "a half-clear colour by SRC_OVER over a fill"),
@@ -49,6 +49,18 @@ pub const SAMPLES: [Sample; 14] = [
         LEFT_OVER,
         files::left_over,
         "registers start at reset in every batch, and stay from task to task",
+    ),
+    sample(
+        "judged_first",
+        &["16384 64 16 8 ARGB8888"],
+        files::judged_first,
+        "a good task before a faulty one: the whole batch is judged first, so nothing is drawn",
+    ),
+    sample(
+        "wrapped",
+        &["16384 256 64 8 ARGB8888"],
+        files::wrapped,
+        "a batch that goes on at byte 0 of the ring; each of its tasks sets a pixel of its own",
     ),
     sample("refused", &[], files::refused, "refused submits: 6 for lengths 0 and 5; 5 for client 7, also where both hold"),
     sample("faults", &[], files::faults, "one of each fault, 20 to 28"),
@@ -114,7 +126,8 @@ mod tests {
 
     #[test]
     fn faultless() {
-        for name in ["hello", "blend", "rules", "turn", "formats", "page"] {
+        assert_eq!(lines("judged_first"), "0 0 00000002 27 152\n");
+        for name in ["hello", "wrapped", "blend", "rules", "turn", "formats", "page"] {
             assert!(lines(name).lines().all(|line| line.contains("0001 0 0")), "{name}: {}", lines(name));
         }
         assert_eq!(lines("left_over_registers"), "0 0 00010001 0 0\n0 1 00020001 0 0\n0 2 00000002 25 0\n");
