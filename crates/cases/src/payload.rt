@@ -1,24 +1,18 @@
 // A case's payload. Numbers in it are little-endian. What lies past its end reads as 0, so that nothing has to be asked of
 // a caller.
 ghost use mathlib.Core.Path.{_≡_};
-ghost use Prim.Native.Nat.{_+_, _*_, min};
+ghost use Prim.Native.Nat.{_+_, _*_};
 ghost use lib.ListN.{getD, drop};
 ghost use Rattle.word.specs.Word.{le32At};
 ghost use Rattle.range.specs.Range.{runOf};
 ghost use Rattle.cases.specs.Payload.{halfAt, longAt};
 use range::Range;
 
-pub fn least(a: usize, b: usize) -> usize
-    ensures { λ r. ⌜ r ≡ min a b ⌝ }
-{
-    if a < b { a } else { b }
-}
-
 // What follows the first `at` bytes.
 pub fn rest(payload: &[u8], at: u8) -> &[u8]
     ensures { λ r. ⌜ now r ≡ drop at (now (payload .entry)) ⌝ }
 {
-    let from = least(at as usize, payload.len());
+    let from = range::least(at as usize, payload.len());
     &payload[from..]
 }
 

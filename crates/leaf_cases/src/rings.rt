@@ -94,7 +94,7 @@ fn copy_from(given: &mut [u8], batch: &mut [u8], line: &mut [u8]) -> usize {
 fn move_to(to: &mut [u8], from: &[u8]) -> usize
     ensures { λ r. ⌜ r ≤ length (now (to .exit)) ⌝ }
 {
-    let n = payload::least(to.len(), from.len());
+    let n = range::least(to.len(), from.len());
     let mut i = 0;
     while i < n {
         to[i] = from[i];

@@ -1,7 +1,7 @@
 // A replay file read, run and printed, a piece at a time and in constant memory. The caller lends every buffer: `held` for
 // the bytes of an unfinished record, the engine's ring and memory, and `line` for the one line that a call may print.
 ghost use mathlib.Core.Path.{_≡_};
-ghost use Prim.Native.Nat.{ℕ, _+_, _≤_, _<_, min};
+ghost use Prim.Native.Nat.{ℕ, _+_, _≤_, _<_};
 ghost use mathlib.Core.Bool.{cond};
 ghost use mathlib.Core.List.{[], _∷_};
 ghost use lib.ListN.{length, take};
@@ -256,12 +256,6 @@ fn decide(
     }
 }
 
-fn least(a: usize, b: usize) -> usize
-    ensures { λ r. ⌜ r ≡ min a b ⌝ }
-{
-    if a < b { a } else { b }
-}
-
 // Input for a record, of which the first `have` bytes of `held` are there.
 fn feed_record(
     engine: Record,
@@ -277,7 +271,7 @@ fn feed_record(
         have (now (held .entry)) (now (line .entry)) r (now (held .exit)) (now (ring .exit)) (now (memory .exit)) (now (line .exit)) ⌝ }
 {
     let wanted = bytes_missing(held, have);
-    let taken = least(wanted, input.len());
+    let taken = range::least(wanted, input.len());
     // It never goes on at byte 0: no record is longer than `held`.
     ring::copy_in(held, have, &input[..taken]);
     let told = decide(engine, held, have + taken, ring, memory, line);

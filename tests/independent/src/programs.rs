@@ -12,7 +12,7 @@ fn several() -> Vec<u8> {
     let files = [
         sample_files::faults(),
         sample_files::refused(),
-        sample_files::four_desks(),
+        sample_files::four_clients(),
         sample_files::rules(),
         sample_files::left_over(),
         sample_files::turn(),

@@ -78,7 +78,7 @@ pub fn formats() -> Vec<u8> {
     file(&[(0, batch(&tasks)), (0, batch(&copies))])
 }
 
-pub fn four_desks() -> Vec<u8> {
+pub fn four_clients() -> Vec<u8> {
     let at = |desk: u32| Place { address: window_start(desk), ..sheet(8, 2) };
     let mut records: Vec<(u8, Vec<u8>)> =
         (0..4).map(|desk| (desk as u8, batch(&[fill(at(desk), 0xFF00_0000 | 0x40 << (8 * (desk % 3)))]))).collect();

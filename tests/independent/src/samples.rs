@@ -39,9 +39,9 @@ pub const SAMPLES: [Sample; 16] = [
     ),
     sample("formats", FORMATS, files::formats, "bars in ARGB8888, copied to RGB888 and RGB565, and from there back"),
     sample(
-        "four_desks",
+        "four_clients",
         &[],
-        files::four_desks,
+        files::four_clients,
         "each client draws; client 1 then may neither draw in 0's window nor read it",
     ),
     sample(
