@@ -3,7 +3,11 @@
 pub mod Ways
 -- a step of the walk, and the verdict
 pub mod Steps
+-- what holds of every reading
+pub mod Readings
 -- the tasks of a reading: each is sound, their number
 pub mod Tasks
+-- where a fault lies
+pub mod Offsets
 -- the examples of 01
 pub mod Examples

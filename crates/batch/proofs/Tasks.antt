@@ -2,7 +2,7 @@
 -- reading they are as many as the task-end marks.
 use Prim.Native.Nat.{ℕ, zero, suc, _+_, _*_, _<_, _≤_, _%_}
 use mathlib.Core.Path.{_≡_, refl, ap, _∙_}
-use mathlib.Core.Bool.{Bool, true, false, cond}
+use mathlib.Core.Bool.{true, false, cond}
 use mathlib.Core.List.{List, [], _∷_}
 use native.Mathlib.Omega.{arith}
 use lib.Dec.{eqb, ltb}
@@ -14,53 +14,24 @@ use Rattle.ring.specs.Segment.{batchWords}
 use Rattle.register.specs.Bank.{written}
 use Rattle.register.specs.Task.{taskOf}
 use Rattle.register.specs.declared.bank.Bank.{Bank}
-use Rattle.register.specs.declared.bank.Write.{Write}
-use Rattle.register.specs.declared.bank.Write.the-variants.{Bank as Taken, Refused}
 use Rattle.register.specs.declared.task.Task.{Task}
 use Rattle.rules.specs.declared.fault.Fault.{Fault}
 use Rattle.rules.specs.declared.fault.Fault.the-variants.{ReservedBits, GroupLength, OpenTask, NotWritable, Forbidden, BadSurface, SizeMismatch, OutOfBounds, Overlap}
 use Rattle.rules.specs.declared.task.Bounds.{Bounds}
 use Rattle.rules.specs.declared.task.Check.{Check}
-use Rattle.rules.specs.declared.task.Check.the-variants.{Fine, Wrong}
-use Rattle.rules.specs.Faults.{writeFault, faultStatus}
+use Rattle.rules.specs.Faults.{faultStatus}
 use Rattle.rules.specs.Rules.{taskFault}
 use Rattle.rules.specs.Sound.{Sound, AllSound}
 use Rattle.rules.proofs.Passes.{passes}
 use Rattle.batch.specs.declared.walk.Step.{Step}
 use Rattle.batch.specs.declared.walk.Step.the-variants.{Task as Next}
 use Rattle.batch.specs.declared.verdict.Verdict.the-variants.{Faultless}
-use Rattle.batch.specs.Batch.{Reading, Ending, finished, faulty, done, andThen, Place, start, inside, reservedBits, badLength, opened, wrote, judged, groupOf, readFrom, readBatch, verdictAfter, verdictOf, statusOf, tasksDrawn, drawnOf}
+use Rattle.batch.specs.Batch.{Reading, Ending, finished, faulty, done, Place, start, inside, badLength, opened, judged, groupOf, readFrom, readBatch, verdictAfter, verdictOf, statusOf, tasksDrawn, drawnOf}
 use Rattle.batch.specs.Marks.{marksFrom, marks}
 use Rattle.batch.specs.Walk.{follows, Continues}
 use Rattle.batch.proofs.Ways.{words-fit}
 use Rattle.batch.proofs.Steps.{faultless-finished}
-
--- the reading after a header, by the place that it leads to, and after a written word, by the bank
-abbrev onFrom : Bounds → Bank → ℕ → List ℕ → Place → Reading
-onFrom bounds b k ws place = readFrom bounds b (k + 1) place ws
-
-abbrev onWith : Bounds → ℕ → Place → List ℕ → Bank → Reading
-onWith bounds k place ws next = readFrom bounds next (k + 1) place ws
-
--- ---- what holds of every reading holds after each way on
-
-module _ (P : Reading → Type 0) (b : Bank) (stops : (f : Fault) (offset : ℕ) → P (done (faulty f offset b))) where
-  opened-all : (k h follow : ℕ) (go : Place → Reading) → (badLength (field 15 2 h) follow ≡ false → P (go (groupOf k h))) → P (opened b k h follow go)
-  opened-all k h follow go on = by (reservedBits h) (badLength (field 15 2 h) follow) refl
-    where
-      by : (r l : Bool) → badLength (field 15 2 h) follow ≡ l
-          → P (cond r (done (faulty ReservedBits (4 * k) b)) (cond l (done (faulty GroupLength (4 * k) b)) (go (groupOf k h))))
-      by true l e = stops ReservedBits (4 * k)
-      by false true e = stops GroupLength (4 * k)
-      by false false e = on e
-
-  wrote-all : (k : ℕ) (w : Write) (go : Bank → Reading) → ((next : Bank) → P (go next)) → P (wrote b k w go)
-  wrote-all k (Taken next) go on = on next
-  wrote-all k (Refused f) go on = stops (writeFault f) (4 * k)
-
-  judged-all : (check : Check) (head : ℕ) (after : Reading) → (check ≡ Fine → P (andThen (taskOf b) after)) → P (judged check b head after)
-  judged-all Fine head after on = on refl
-  judged-all (Wrong f) head after on = stops f (4 * head)
+use Rattle.batch.proofs.Readings.{onFrom, onWith, opened-all, wrote-all, judged-all}
 
 -- ---- each task is sound
 
@@ -69,10 +40,10 @@ module _ (bounds : Bounds) where
   Good r = AllSound bounds (r .tasks)
 
   good-open : (b : Bank) (k h follow : ℕ) (go : Place → Reading) → Good (go (groupOf k h)) → Good (opened b k h follow go)
-  good-open b k h follow go on = opened-all Good b (λ f o. tt) k h follow go (λ l. on)
+  good-open b k h follow go on = opened-all Good b k (λ f. tt) h follow go (λ l. on)
 
   good-judged : (b : Bank) (head : ℕ) (after : Reading) → Good after → Good (judged (taskFault bounds (taskOf b)) b head after)
-  good-judged b head after on = judged-all Good b (λ f o. tt) (taskFault bounds (taskOf b)) head after (λ e. (passes bounds (taskOf b) e, on))
+  good-judged b head after on = judged-all Good b head (λ f. tt) (taskFault bounds (taskOf b)) after (λ e. (passes bounds (taskOf b) e, on))
 
   good-from : (b : Bank) (k : ℕ) (place : Place) (ws : List ℕ) → Good (readFrom bounds b k place ws)
   unfolding readFrom
@@ -80,10 +51,10 @@ module _ (bounds : Bounds) where
   good-from b k start (h ∷ ws) = good-open b k h (length ws) (onFrom bounds b k ws) (good-from b (k + 1) (groupOf k h) ws)
   good-from b k (inside (suc n) offset ends head) [] = tt
   good-from b k (inside (suc n) offset ends head) (w ∷ ws) =
-      wrote-all Good b (λ f o. tt) k (written b offset w) (onWith bounds k (inside n (offset + 4) ends head) ws) (λ next. good-from next (k + 1) (inside n (offset + 4) ends head) ws)
+      wrote-all Good b k (λ f. tt) (written b offset w) (onWith bounds k (inside n (offset + 4) ends head) ws) (λ next. good-from next (k + 1) (inside n (offset + 4) ends head) ws)
   good-from b k (inside zero offset false head) [] = tt
   good-from b k (inside zero offset false head) (h ∷ ws) = good-open b k h (length ws) (onFrom bounds b k ws) (good-from b (k + 1) (groupOf k h) ws)
-  good-from b k (inside zero offset true head) [] = good-judged b head (done finished) tt
+  good-from b k (inside zero offset true head) [] = good-judged b head (done b finished) tt
   good-from b k (inside zero offset true head) (h ∷ ws) =
       good-judged b head (opened b k h (length ws) (onFrom bounds b k ws)) (good-open b k h (length ws) (onFrom bounds b k ws) (good-from b (k + 1) (groupOf k h) ws))
 
@@ -96,11 +67,11 @@ module _ (bounds : Bounds) where
     where
       go : (e : Ending) (ts : List Task) → AllSound bounds ts → AllSound bounds (drawnOf e ts)
       go finished ts h = h
-      go (faulty f o b) ts h = tt
+      go (faulty f o) ts h = tt
 
   -- and so is the task that a step hands out
   pub step-sound : (ws : List ℕ) (b : Bank) (k : ℕ) (s : Step) → Continues bounds ws b k s → (t : Task) (b′ : Bank) (k′ : ℕ) → s ≡ Next t b′ k′ → Sound bounds t
-  step-sound ws b k s go t b′ k′ e = (rw (go .means ∙ ap (follows bounds ws) e) at (good-from b k start (drop k ws))) .0
+  step-sound ws b k s go t b′ k′ e = (rw (go .means ∙ ap (follows bounds ws b) e) at (good-from b k start (drop k ws))) .0
 
 -- ---- at most half as many tasks as words
 
@@ -115,12 +86,12 @@ Few (inside left offset ends head) ws r = left ≤ length ws → 2 * length (r .
 
 few-open : (b : Bank) (k h : ℕ) (ws : List ℕ) (go : Place → Reading) → Few (groupOf k h) ws (go (groupOf k h)) → 2 * length (opened b k h (length ws) go .tasks) ≤ length (h ∷ ws)
 few-open b k h ws go on =
-    opened-all (λ r. 2 * length (r .tasks) ≤ length (h ∷ ws)) b (λ f o. omega arith) k h (length ws) go
+    opened-all (λ r. 2 * length (r .tasks) ≤ length (h ∷ ws)) b k (λ f. omega arith) h (length ws) go
     (λ l. let c = some (field 15 2 h) (length ws) l in omega (arith, on (c .1)))
 
 few-judged : (b : Bank) (check : Check) (head : ℕ) (after : Reading) (n : ℕ) → 2 * length (after .tasks) ≤ n → 2 * length (judged check b head after .tasks) + 0 ≤ n + 2
 few-judged b check head after n on =
-    judged-all (λ r. 2 * length (r .tasks) + 0 ≤ n + 2) b (λ f o. omega arith) check head after (λ e. omega arith)
+    judged-all (λ r. 2 * length (r .tasks) + 0 ≤ n + 2) b head (λ f. omega arith) check after (λ e. omega arith)
 
 few-from : (bounds : Bounds) (b : Bank) (k : ℕ) (place : Place) (ws : List ℕ) → Few place ws (readFrom bounds b k place ws)
 unfolding readFrom
@@ -128,12 +99,12 @@ few-from bounds b k start [] = omega arith
 few-from bounds b k start (h ∷ ws) = few-open b k h ws (onFrom bounds b k ws) (few-from bounds b (k + 1) (groupOf k h) ws)
 few-from bounds b k (inside (suc n) offset ends head) [] = λ z. absurd (omega arith)
 few-from bounds b k (inside (suc n) offset ends head) (w ∷ ws) =
-    λ z. wrote-all (λ r. 2 * length (r .tasks) + suc n ≤ length (w ∷ ws) + 2) b (λ f o. omega arith) k (written b offset w) (onWith bounds k (inside n (offset + 4) ends head) ws)
+    λ z. wrote-all (λ r. 2 * length (r .tasks) + suc n ≤ length (w ∷ ws) + 2) b k (λ f. omega arith) (written b offset w) (onWith bounds k (inside n (offset + 4) ends head) ws)
     (λ next. let on = few-from bounds next (k + 1) (inside n (offset + 4) ends head) ws (omega arith) in omega (arith, on))
 few-from bounds b k (inside zero offset false head) [] = λ z. omega arith
 few-from bounds b k (inside zero offset false head) (h ∷ ws) =
     λ z. omega (arith, few-open b k h ws (onFrom bounds b k ws) (few-from bounds b (k + 1) (groupOf k h) ws))
-few-from bounds b k (inside zero offset true head) [] = λ z. few-judged b (taskFault bounds (taskOf b)) head (done finished) 0 (omega arith)
+few-from bounds b k (inside zero offset true head) [] = λ z. few-judged b (taskFault bounds (taskOf b)) head (done b finished) 0 (omega arith)
 few-from bounds b k (inside zero offset true head) (h ∷ ws) =
     λ z. few-judged b (taskFault bounds (taskOf b)) head (opened b k h (length ws) (onFrom bounds b k ws)) (length (h ∷ ws)) (few-open b k h ws (onFrom bounds b k ws) (few-from bounds b (k + 1) (groupOf k h) ws))
 
@@ -166,7 +137,7 @@ status-fits bounds bank ring offset size small =
   where
     by : (n : ℕ) (e : Ending) → n ≤ 65535 → statusOf (verdictAfter n e) ≤ 4294967295
     by n finished h = omega arith
-    by n (faulty f o b) h = fault-small f
+    by n (faulty f o) h = fault-small f
 
     go : (r : Reading) → length (r .tasks) ≤ 65535 → statusOf (verdictOf r) ≤ 4294967295
     go r h = by (length (r .tasks)) (r .ending) h
@@ -177,16 +148,16 @@ abbrev Met : Place → List ℕ → Reading → Type 0
 Met start ws r = r .ending ≡ finished → length (r .tasks) ≡ marksFrom 0 ws
 Met (inside left offset ends head) ws r = r .ending ≡ finished → length (r .tasks) ≡ cond ends 1 0 + marksFrom left ws
 
-stopped : {A : Type 0} {f : Fault} {o : ℕ} {b : Bank} → faulty f o b ≡ finished → A
+stopped : {A : Type 0} {f : Fault} {o : ℕ} → faulty f o ≡ finished → A
 stopped e = absurd (let z : _≡_ {A = ℕ} 0 1 = cc in omega arith)
 
 met-open : (b : Bank) (k h : ℕ) (ws : List ℕ) (go : Place → Reading) → Met (groupOf k h) ws (go (groupOf k h)) → Met start (h ∷ ws) (opened b k h (length ws) go)
 unfolding marksFrom
-met-open b k h ws go on = opened-all (Met start (h ∷ ws)) b (λ f o e. stopped e) k h (length ws) go (λ l. on)
+met-open b k h ws go on = opened-all (Met start (h ∷ ws)) b k (λ f e. stopped e) h (length ws) go (λ l. on)
 
 met-judged : (b : Bank) (check : Check) (head : ℕ) (after : Reading) (ws : List ℕ) → Met start ws after → (offset : ℕ) → Met (inside 0 offset true head) ws (judged check b head after)
 met-judged b check head after ws on offset =
-    judged-all (Met (inside 0 offset true head) ws) b (λ f o e. stopped e) check head after (λ fine e. omega (arith, on e))
+    judged-all (Met (inside 0 offset true head) ws) b head (λ f e. stopped e) check after (λ fine e. omega (arith, on e))
 
 met-from : (bounds : Bounds) (b : Bank) (k : ℕ) (place : Place) (ws : List ℕ) → Met place ws (readFrom bounds b k place ws)
 unfolding readFrom marksFrom
@@ -194,12 +165,12 @@ met-from bounds b k start [] = λ e. refl
 met-from bounds b k start (h ∷ ws) = met-open b k h ws (onFrom bounds b k ws) (met-from bounds b (k + 1) (groupOf k h) ws)
 met-from bounds b k (inside (suc n) offset ends head) [] = λ e. stopped e
 met-from bounds b k (inside (suc n) offset ends head) (w ∷ ws) =
-    wrote-all (Met (inside (suc n) offset ends head) (w ∷ ws)) b (λ f o e. stopped e) k (written b offset w) (onWith bounds k (inside n (offset + 4) ends head) ws)
+    wrote-all (Met (inside (suc n) offset ends head) (w ∷ ws)) b k (λ f e. stopped e) (written b offset w) (onWith bounds k (inside n (offset + 4) ends head) ws)
     (λ next. met-from bounds next (k + 1) (inside n (offset + 4) ends head) ws)
 met-from bounds b k (inside zero offset false head) [] = λ e. stopped e
 met-from bounds b k (inside zero offset false head) (h ∷ ws) =
     λ e. omega (arith, met-open b k h ws (onFrom bounds b k ws) (met-from bounds b (k + 1) (groupOf k h) ws) e)
-met-from bounds b k (inside zero offset true head) [] = met-judged b (taskFault bounds (taskOf b)) head (done finished) [] (λ e. refl) offset
+met-from bounds b k (inside zero offset true head) [] = met-judged b (taskFault bounds (taskOf b)) head (done b finished) [] (λ e. refl) offset
 met-from bounds b k (inside zero offset true head) (h ∷ ws) =
     met-judged b (taskFault bounds (taskOf b)) head (opened b k h (length ws) (onFrom bounds b k ws)) (h ∷ ws) (met-open b k h ws (onFrom bounds b k ws) (met-from bounds b (k + 1) (groupOf k h) ws)) offset
 

@@ -48,7 +48,7 @@ drop-at : (ws : List ℕ) (k : ℕ) → k < length ws → drop k ws ≡ getD ws 
 drop-at ws k h = rw (add-one, drop-cons ws k 0)
 
 module _ (bounds : Bounds) (ws : List ℕ) (b : Bank) (k : ℕ) where
-  pub past : length ws ≤ k → rest bounds ws b k ≡ done finished
+  pub past : length ws ≤ k → rest bounds ws b k ≡ done b finished
   unfolding readFrom
   past h = rw (drop-of-length-le ws h)
 
@@ -61,7 +61,7 @@ module _ (bounds : Bounds) (ws : List ℕ) (b : Bank) (k : ℕ) where
   unfolding readFrom
   next-group offset head h = rw (drop-at ws k h)
 
-  pub open-task : (offset head : ℕ) → length ws ≤ k → readFrom bounds b k (inside zero offset false head) (drop k ws) ≡ done (faulty OpenTask (4 * head) b)
+  pub open-task : (offset head : ℕ) → length ws ≤ k → readFrom bounds b k (inside zero offset false head) (drop k ws) ≡ done b (faulty OpenTask (4 * head))
   unfolding readFrom
   open-task offset head h = rw (drop-of-length-le ws h)
 
@@ -84,10 +84,10 @@ ended bounds ws b k offset head = ended-at bounds (drop k ws) b k offset head
 
 -- where the word at k is w
 module _ (bounds : Bounds) (ws : List ℕ) (b : Bank) (k w : ℕ) (within : k < length ws) (is : w ≡ getD ws k 0) where
-  pub reserved : reservedBits w ≡ true → rest bounds ws b k ≡ done (faulty ReservedBits (4 * k) b)
+  pub reserved : reservedBits w ≡ true → rest bounds ws b k ≡ done b (faulty ReservedBits (4 * k))
   reserved e = header bounds ws b k within ∙ rw (← is) (simp e)
 
-  pub bad-length : reservedBits w ≡ false → badLength (field 15 2 w) (length ws - (k + 1)) ≡ true → rest bounds ws b k ≡ done (faulty GroupLength (4 * k) b)
+  pub bad-length : reservedBits w ≡ false → badLength (field 15 2 w) (length ws - (k + 1)) ≡ true → rest bounds ws b k ≡ done b (faulty GroupLength (4 * k))
   bad-length e l = header bounds ws b k within ∙ rw (← is) (simp (e, l))
 
   pub open-group : reservedBits w ≡ false → badLength (field 15 2 w) (length ws - (k + 1)) ≡ false
@@ -95,7 +95,7 @@ module _ (bounds : Bounds) (ws : List ℕ) (b : Bank) (k w : ℕ) (within : k < 
   open-group e l = header bounds ws b k within ∙ rw (← is) (simp (e, l))
 
   pub refused : (left offset : ℕ) (ends : Bool) (head : ℕ) (f : WriteFault) → 0 < left → written b offset w ≡ Refused f
-      → readFrom bounds b k (inside left offset ends head) (drop k ws) ≡ done (faulty (writeFault f) (4 * k) b)
+      → readFrom bounds b k (inside left offset ends head) (drop k ws) ≡ done b (faulty (writeFault f) (4 * k))
   refused zero offset ends head f z e = absurd (omega arith)
   refused (suc n) offset ends head f z e = word bounds ws b k n offset ends head within ∙ rw (← is, e)
 

@@ -1,5 +1,5 @@
--- What a batch says (01, "Groups and registers" and "Faults of a taken batch"): its tasks in order, and how it ended. The tasks
--- before a fault are among them.
+-- What a batch says (01, "Groups and registers" and "Faults of a taken batch"): its tasks in order, how it ended, and what the
+-- registers hold there. The tasks before a fault are among them.
 use Prim.Native.Nat.{ℕ, zero, suc, _+_, _*_}
 use mathlib.Core.Bool.{Bool, true, false, cond, _||_}
 use mathlib.Core.List.{List, [], _∷_}
@@ -17,27 +17,30 @@ use Rattle.rules.specs.declared.fault.Fault.the-variants.{ReservedBits, GroupLe
 use Rattle.rules.specs.declared.task.Bounds.{Bounds}
 use Rattle.rules.specs.declared.task.Check.{Check}
 use Rattle.rules.specs.declared.task.Check.the-variants.{Fine, Wrong}
+use Rattle.batch.specs.declared.verdict.Judgement.{Judgement}
 use Rattle.batch.specs.declared.verdict.Verdict.{Verdict}
 use Rattle.batch.specs.declared.verdict.Verdict.the-variants.{Faultless, Faulty}
 use Rattle.rules.specs.Faults.{writeFault, faultNumber, faultStatus}
 use Rattle.rules.specs.Rules.{taskFault}
 
--- a fault has its offset in bytes (the paper's place) and the bank as it stood there, before the faulty word
+-- a fault has its offset in bytes (the paper's place)
 pub data Ending : Type 0 where
   finished : Ending
-  faulty : (fault : Fault) (offset : ℕ) (bank : Bank) → Ending
+  faulty : (fault : Fault) (offset : ℕ) → Ending
 
+-- the bank is that at the end; of a fault, that before the faulty word
 pub record Reading : Type 0 where
   pub tasks : List Task
   pub ending : Ending
+  pub bank : Bank
 
 -- no task more
-abbrev pub done : Ending → Reading
-done ending = record { tasks = []; ending = ending }
+abbrev pub done : Bank → Ending → Reading
+done bank ending = record { tasks = []; ending = ending; bank = bank }
 
 -- this task, and then the rest
 abbrev pub andThen : Task → Reading → Reading
-andThen task rest = record { tasks = task ∷ rest .tasks; ending = rest .ending }
+andThen task rest = record { tasks = task ∷ rest .tasks; ending = rest .ending; bank = rest .bank }
 
 -- where the walk stands: before a task's first group; or in the group whose header is word `head`, with this many of its words
 -- to come, the next of them for the register at `offset`, and whether the group ends the task
@@ -61,36 +64,36 @@ groupOf k header = inside (field 15 2 header) (field 31 16 header) (eqb (field 0
 -- word k is a header, and `follow` words follow it: 20, 21
 abbrev pub opened : Bank → ℕ → ℕ → ℕ → (Place → Reading) → Reading
 opened bank k header follow go =
-    cond (reservedBits header) (done (faulty ReservedBits (4 * k) bank))
-    (cond (badLength (field 15 2 header) follow) (done (faulty GroupLength (4 * k) bank))
+    cond (reservedBits header) (done bank (faulty ReservedBits (4 * k)))
+    (cond (badLength (field 15 2 header) follow) (done bank (faulty GroupLength (4 * k)))
     (go (groupOf k header)))
 
 -- word k is written: 23, 24
 abbrev pub wrote : Bank → ℕ → Write → (Bank → Reading) → Reading
 wrote bank k (Taken next) go = go next
-wrote bank k (Refused f) go = done (faulty (writeFault f) (4 * k) bank)
+wrote bank k (Refused f) go = done bank (faulty (writeFault f) (4 * k))
 
 -- the group at word `head` ended the task: 25 to 28
 abbrev pub judged : Check → Bank → ℕ → Reading → Reading
 judged Fine bank head rest = andThen (taskOf bank) rest
-judged (Wrong f) bank head rest = done (faulty f (4 * head) bank)
+judged (Wrong f) bank head rest = done bank (faulty f (4 * head))
 
 -- the words from word k on. The bank is kept from group to group and from task to task
 unfoldable pub readFrom : Bounds → Bank → ℕ → Place → List ℕ → Reading
 -- before a task: the batch is at its end, or a header follows
-readFrom bounds bank k start [] = done finished
+readFrom bounds bank k start [] = done bank finished
 readFrom bounds bank k start (h ∷ ws) = opened bank k h (length ws) (λ place. readFrom bounds bank (k + 1) place ws)
 -- in a group: its next word. That none follows is ruled out by 21
-readFrom bounds bank k (inside (suc n) offset ends head) [] = done (faulty GroupLength (4 * head) bank)
+readFrom bounds bank k (inside (suc n) offset ends head) [] = done bank (faulty GroupLength (4 * head))
 readFrom bounds bank k (inside (suc n) offset ends head) (w ∷ ws) =
     wrote bank k (written bank offset w) (λ next. readFrom bounds next (k + 1) (inside n (offset + 4) ends head) ws)
 -- after a group that does not end the task: 22 if it was the last, else the next header
-readFrom bounds bank k (inside zero offset false head) [] = done (faulty OpenTask (4 * head) bank)
+readFrom bounds bank k (inside zero offset false head) [] = done bank (faulty OpenTask (4 * head))
 readFrom bounds bank k (inside zero offset false head) (h ∷ ws) =
     opened bank k h (length ws) (λ place. readFrom bounds bank (k + 1) place ws)
 -- after a group that ends the task: it is judged, and then the batch is at its end, or a header follows
 readFrom bounds bank k (inside zero offset true head) [] =
-    judged (taskFault bounds (taskOf bank)) bank head (done finished)
+    judged (taskFault bounds (taskOf bank)) bank head (done bank finished)
 readFrom bounds bank k (inside zero offset true head) (h ∷ ws) =
     judged (taskFault bounds (taskOf bank)) bank head
     (opened bank k h (length ws) (λ place. readFrom bounds bank (k + 1) place ws))
@@ -104,10 +107,14 @@ readBatch bounds bank words = readFrom bounds bank 0 start words
 -- after n tasks and this ending
 abbrev pub verdictAfter : ℕ → Ending → Verdict
 verdictAfter n finished = Faultless n
-verdictAfter n (faulty fault offset bank) = Faulty fault offset
+verdictAfter n (faulty fault offset) = Faulty fault offset
 
 abbrev pub verdictOf : Reading → Verdict
 verdictOf reading = verdictAfter (length (reading .tasks)) (reading .ending)
+
+-- with the bank at its end
+abbrev pub judgementOf : Reading → Judgement
+judgementOf reading = record { verdict = verdictOf reading; bank = reading .bank }
 
 -- the status word: tasks x 65,536 + 1, or that of the fault
 abbrev pub statusOf : Verdict → ℕ
@@ -126,7 +133,7 @@ offsetOf (Faulty fault offset) = offset
 -- the tasks that are drawn, in order: a faulty batch draws nothing at all
 abbrev pub drawnOf : Ending → List Task → List Task
 drawnOf finished tasks = tasks
-drawnOf (faulty fault offset bank) tasks = []
+drawnOf (faulty fault offset) tasks = []
 
 abbrev pub tasksDrawn : Reading → List Task
 tasksDrawn reading = drawnOf (reading .ending) (reading .tasks)

@@ -22,11 +22,11 @@ abbrev pub stepOf : Check → Bank → ℕ → ℕ → Step
 stepOf Fine bank next offset = Task (taskOf bank) bank next
 stepOf (Wrong f) bank next offset = Faulty f offset bank
 
--- what a step says of the reading
-abbrev pub follows : Bounds → List ℕ → Step → Reading
-follows bounds words (Task task bank next) = andThen task (rest bounds words bank next)
-follows bounds words (Faulty fault offset bank) = done (faulty fault offset bank)
-follows bounds words End = done finished
+-- what a step from this bank on says of the reading
+abbrev pub follows : Bounds → List ℕ → Bank → Step → Reading
+follows bounds words bank (Task task after next) = andThen task (rest bounds words after next)
+follows bounds words bank (Faulty fault offset held) = done held (faulty fault offset)
+follows bounds words bank End = done bank finished
 
 -- a task ends past where it began, and inside the batch
 abbrev pub Onward : ℕ → List ℕ → Step → Type 0
@@ -35,5 +35,5 @@ Onward k words (Faulty fault offset bank) = Unit
 Onward k words End = Unit
 
 pub record Continues (bounds : Bounds) (words : List ℕ) (bank : Bank) (k : ℕ) (step : Step) : Type 0 where
-  pub means : rest bounds words bank k ≡ follows bounds words step
+  pub means : rest bounds words bank k ≡ follows bounds words bank step
   pub onward : Onward k words step

@@ -2,6 +2,7 @@
 pub mod verdict;
 pub mod walk;
 
+pub use verdict::Judgement;
 pub use verdict::Verdict;
 pub use verdict::judge;
 pub use walk::Step;

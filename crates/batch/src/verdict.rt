@@ -2,7 +2,7 @@
 ghost use mathlib.Core.Path.{_≡_};
 ghost use Prim.Native.Nat.{_%_};
 ghost use Rattle.ring.specs.Segment.{batchWords};
-ghost use Rattle.batch.specs.Batch.{readBatch, verdictOf, statusOf, numberOf, offsetOf};
+ghost use Rattle.batch.specs.Batch.{readBatch, judgementOf, statusOf, numberOf, offsetOf};
 use crate::walk;
 use crate::walk::Step;
 use register::Bank;
@@ -47,9 +47,15 @@ impl Verdict {
     }
 }
 
+// A verdict, and the bank where judging ended: after the last task or, of a faulty batch, before the faulty word.
+pub struct Judgement {
+    pub verdict: Verdict,
+    pub bank: Bank,
+}
+
 // Judges the batch of `size` bytes at an offset of the ring, read from a bank on. What does not lie in the ring has no words.
-pub fn judge(ring: &[u8], offset: usize, size: usize, bounds: Bounds, bank: Bank) -> Verdict
-    ensures { λ r. ⌜ r ≡ verdictOf (readBatch bounds bank (batchWords (now (ring .entry)) offset size)) ⌝ }
+pub fn judge(ring: &[u8], offset: usize, size: usize, bounds: Bounds, bank: Bank) -> Judgement
+    ensures { λ r. ⌜ r ≡ judgementOf (readBatch bounds bank (batchWords (now (ring .entry)) offset size)) ⌝ }
 {
     let mut current = bank;
     let mut at = 0;
@@ -61,11 +67,17 @@ pub fn judge(ring: &[u8], offset: usize, size: usize, bounds: Bounds, bank: Bank
                 at = next;
                 count = count + 1;
             }
-            Step::Faulty(fault, place, _) => {
-                return Verdict::Faulty(fault, place);
+            Step::Faulty(fault, place, held) => {
+                return Judgement {
+                    verdict: Verdict::Faulty(fault, place),
+                    bank: held,
+                };
             }
             Step::End => {
-                return Verdict::Faultless(count);
+                return Judgement {
+                    verdict: Verdict::Faultless(count),
+                    bank: current,
+                };
             }
         }
     }

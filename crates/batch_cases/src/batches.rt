@@ -1,7 +1,7 @@
 // Cases of whole batches. A payload begins with the starting bank, the window's start and length, and the common length.
 use crate::registers;
+use batch::Judgement;
 use batch::Step;
-use batch::Verdict;
 use cases::payload;
 use range::Range;
 use register::Bank;
@@ -18,21 +18,23 @@ fn bounds(given: &[u8]) -> Bounds {
     }
 }
 
-// Status, fault and place of the batch at an offset of a ring.
+// Status, fault and place of the batch at an offset of a ring, and the bank there as one number.
 pub fn judged(given: &[u8], line: &mut [u8]) -> usize {
     let offset = payload::long_or_zero(given, 72) as usize;
     let size = payload::long_or_zero(given, 80) as usize;
     let ring = payload::rest(given, 88);
-    hex_verdict(
+    hex_judgement(
         line,
         batch::judge(ring, offset, size, bounds(given), registers::bank(given)),
     )
 }
 
-fn hex_verdict(line: &mut [u8], verdict: Verdict) -> usize {
+fn hex_judgement(line: &mut [u8], judged: Judgement) -> usize {
+    let verdict = judged.verdict;
     let a = line::hex_word(line, 0, verdict.status());
     let b = line::hex_word(line, a, verdict.number());
-    line::hex_word(line, b, ((verdict.offset() as u64) % 4294967296) as u32)
+    let c = line::hex_word(line, b, ((verdict.offset() as u64) % 4294967296) as u32);
+    line::hex_word(line, c, registers::mix_bank(0, judged.bank))
 }
 
 // The same of a batch that repeats some bytes, in a ring of 32,768.
@@ -43,7 +45,7 @@ pub fn judged_many(given: &[u8], line: &mut [u8]) -> usize {
         payload::rest(given, 76),
         payload::word_or_zero(given, 72),
     );
-    hex_verdict(
+    hex_judgement(
         line,
         batch::judge(&ring, 0, size, bounds(given), registers::bank(given)),
     )

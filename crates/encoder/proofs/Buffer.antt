@@ -61,7 +61,7 @@ module _ (f : Fields) (buffer : List ℕ) (e : answerOf f (length buffer) ≡ Wr
 
   -- what the encoder writes, read from any bank within any bounds: the one task with these fields, and 25 to 28 judged of them
   pub round-trip : Plain f → (bounds : Bounds) (bank : Bank)
-      → readBatch bounds bank (words (take 80 (bufferAfter f buffer))) ≡ judged (taskFault bounds (taskWith f)) (bankOf f) 18 (done finished)
+      → readBatch bounds bank (words (take 80 (bufferAfter f buffer))) ≡ judged (taskFault bounds (taskWith f)) (bankOf f) 18 (done (bankOf f) finished)
   round-trip plain bounds bank = ap (readBatch bounds bank) (front-words plain) ∙ reads-back-one bounds bank f (accepted f (length buffer) e .0)
 
 -- in every case as long as before

@@ -18,7 +18,7 @@ use Rattle.encoder.specs.Fields.{allowed}
 use Rattle.encoder.specs.Registers.{surfaceRegisters, sourceControl, destinationControl, blendingWord, bankOf}
 use Rattle.encoder.specs.Words.{wordsOf}
 use Rattle.encoder.specs.Encoder.{taskBytes}
-use Rattle.encoder.specs.RoundTrip.{taskWith, allWords, allBytes, AllAllowed, Plain, AllPlain, AllFine, readAs}
+use Rattle.encoder.specs.RoundTrip.{taskWith, allWords, allBytes, AllAllowed, Plain, AllPlain, AllFine, readAs, bankAfter}
 use Rattle.encoder.proofs.Allowed.{parts, surface-fits, source-fits, destination-fits, blending-fits}
 use Rattle.encoder.proofs.Written.{Below, words-bytesOf}
 use Rattle.encoder.proofs.Groups.{task-read}
@@ -37,31 +37,32 @@ pub same-task : (f : Fields) → allowed f ≡ true → taskOf (bankOf f) ≡ ta
 same-task f ok = task-back f ok
 
 -- any tasks, one after the other
-tasks-from : (bounds : Bounds) (bank : Bank) (k : ℕ) (fs : List Fields) → AllAllowed fs → readFrom bounds bank k start (allWords fs) ≡ readAs bounds k fs
+tasks-from : (bounds : Bounds) (bank : Bank) (k : ℕ) (fs : List Fields) → AllAllowed fs → readFrom bounds bank k start (allWords fs) ≡ readAs bounds bank k fs
 unfolding allWords readAs readFrom
 tasks-from bounds bank k [] ok = refl
 tasks-from bounds bank k (f ∷ fs) ok =
     goes-on bounds bank k f (allWords fs) (ok .0)
     ∙ ap (λ (r : Reading). judged (taskFault bounds (taskWith f)) (bankOf f) (k + 18) r) (tasks-from bounds (bankOf f) (k + 20) fs (ok .1))
 
-pub reads-back : (bounds : Bounds) (bank : Bank) (fs : List Fields) → AllAllowed fs → readBatch bounds bank (allWords fs) ≡ readAs bounds 0 fs
+pub reads-back : (bounds : Bounds) (bank : Bank) (fs : List Fields) → AllAllowed fs → readBatch bounds bank (allWords fs) ≡ readAs bounds bank 0 fs
 reads-back bounds bank fs ok = tasks-from bounds bank 0 fs ok
 
 -- a task alone
 pub reads-back-one : (bounds : Bounds) (bank : Bank) (f : Fields) → allowed f ≡ true
-    → readBatch bounds bank (wordsOf (bankOf f)) ≡ judged (taskFault bounds (taskWith f)) (bankOf f) 18 (done finished)
+    → readBatch bounds bank (wordsOf (bankOf f)) ≡ judged (taskFault bounds (taskWith f)) (bankOf f) 18 (done (bankOf f) finished)
 unfolding readFrom
 reads-back-one bounds bank f ok = ap (λ (l : List ℕ). readBatch bounds bank l) (sym (append-nil (wordsOf (bankOf f)))) ∙ goes-on bounds bank 0 f [] ok
 
 -- where 25 to 28 do not come: those tasks, in order, and the batch is finished
-fine-from : (bounds : Bounds) (k : ℕ) (fs : List Fields) → AllAllowed fs → AllFine bounds fs → readAs bounds k fs ≡ record { tasks = map taskWith fs; ending = finished }
-unfolding readAs
-fine-from bounds k [] ok fine = refl
-fine-from bounds k (f ∷ fs) ok fine = rw (fine .0, task-back f (ok .0), fine-from bounds (k + 20) fs (ok .1) (fine .1))
+fine-from : (bounds : Bounds) (bank : Bank) (k : ℕ) (fs : List Fields) → AllAllowed fs → AllFine bounds fs
+    → readAs bounds bank k fs ≡ record { tasks = map taskWith fs; ending = finished; bank = bankAfter bank fs }
+unfolding readAs bankAfter
+fine-from bounds bank k [] ok fine = refl
+fine-from bounds bank k (f ∷ fs) ok fine = rw (fine .0, task-back f (ok .0), fine-from bounds (bankOf f) (k + 20) fs (ok .1) (fine .1))
 
 pub in-order : (bounds : Bounds) (bank : Bank) (fs : List Fields) → AllAllowed fs → AllFine bounds fs
-    → readBatch bounds bank (allWords fs) ≡ record { tasks = map taskWith fs; ending = finished }
-in-order bounds bank fs ok fine = reads-back bounds bank fs ok ∙ fine-from bounds 0 fs ok fine
+    → readBatch bounds bank (allWords fs) ≡ record { tasks = map taskWith fs; ending = finished; bank = bankAfter bank fs }
+in-order bounds bank fs ok fine = reads-back bounds bank fs ok ∙ fine-from bounds bank 0 fs ok fine
 
 -- exactly one task-end mark
 pub one-mark : (f : Fields) → marks (wordsOf (bankOf f)) ≡ 1
@@ -156,5 +157,5 @@ all-bytes-back [] ok plain = refl
 all-bytes-back (f ∷ fs) ok plain =
     bytes-back f (allBytes fs) (ok .0) (plain .0) ∙ ap (λ (l : List ℕ). wordsOf (bankOf f) ++ l) (all-bytes-back fs (ok .1) (plain .1))
 
-pub bytes-read-back : (bounds : Bounds) (bank : Bank) (fs : List Fields) → AllAllowed fs → AllPlain fs → readBatch bounds bank (words (allBytes fs)) ≡ readAs bounds 0 fs
+pub bytes-read-back : (bounds : Bounds) (bank : Bank) (fs : List Fields) → AllAllowed fs → AllPlain fs → readBatch bounds bank (words (allBytes fs)) ≡ readAs bounds bank 0 fs
 bytes-read-back bounds bank fs ok plain = ap (readBatch bounds bank) (all-bytes-back fs ok plain) ∙ reads-back bounds bank fs ok

@@ -12,6 +12,7 @@ use Rattle.pixel.specs.declared.format.Format.the-variants.{Argb8888}
 use Rattle.surface.specs.declared.Surface.{Surface}
 use Rattle.transform.specs.declared.Transform.{Transform}
 use Rattle.register.specs.Task.{rotationOf, sourceModeOf}
+use Rattle.register.specs.declared.bank.Bank.{Bank}
 use Rattle.register.specs.declared.task.Alpha.{Alpha}
 use Rattle.register.specs.declared.task.Source.{Source}
 use Rattle.register.specs.declared.task.Destination.{Destination}
@@ -111,8 +112,13 @@ abbrev pub AllFine : Bounds → List Fields → Type 0
 AllFine bounds [] = Unit
 AllFine bounds (f ∷ fs) = (taskFault bounds (taskWith f) ≡ Fine) × AllFine bounds fs
 
--- what the tasks of these fields are read as, the first of them at word k: each in order, 25 to 28 judged of its fields, a fault at
--- the task-end header, which is 18 words after the task's first
-unfoldable pub readAs : Bounds → ℕ → List Fields → Reading
-readAs bounds k [] = done finished
-readAs bounds k (f ∷ fs) = judged (taskFault bounds (taskWith f)) (bankOf f) (k + 18) (readAs bounds (k + 20) fs)
+-- what the tasks of these fields are read as from a bank on, the first of them at word k: each in order, 25 to 28 judged of its
+-- fields, a fault at the task-end header, which is 18 words after the task's first. Each leaves its own registers in the bank
+unfoldable pub readAs : Bounds → Bank → ℕ → List Fields → Reading
+readAs bounds bank k [] = done bank finished
+readAs bounds bank k (f ∷ fs) = judged (taskFault bounds (taskWith f)) (bankOf f) (k + 18) (readAs bounds (bankOf f) (k + 20) fs)
+
+-- the bank after tasks of these fields: that of the last of them
+unfoldable pub bankAfter : Bank → List Fields → Bank
+bankAfter bank [] = bank
+bankAfter bank (f ∷ fs) = bankAfter (bankOf f) fs

@@ -17,8 +17,8 @@ use Rattle.raster.specs.Batch.{drawBatch}
 
 -- what is left to draw, before a step and after it
 module _ (bounds : Bounds) (ws : List ℕ) (b : Bank) (k : ℕ) (s : Step) (go : Continues bounds ws b k s) (memory : List ℕ) where
-  reads : (s′ : Step) → s ≡ s′ → drawTasks (rest bounds ws b k .tasks) memory ≡ drawTasks (follows bounds ws s′ .tasks) memory
-  reads s′ e = ap (λ (r : Reading). drawTasks (r .tasks) memory) (go .means ∙ ap (follows bounds ws) e)
+  reads : (s′ : Step) → s ≡ s′ → drawTasks (rest bounds ws b k .tasks) memory ≡ drawTasks (follows bounds ws b s′ .tasks) memory
+  reads s′ e = ap (λ (r : Reading). drawTasks (r .tasks) memory) (go .means ∙ ap (follows bounds ws b) e)
 
   pub step-draws : (t : Task) (b′ : Bank) (k′ : ℕ) → s ≡ Next t b′ k′ →
       drawTasks (rest bounds ws b k .tasks) memory ≡ drawTasks (rest bounds ws b′ k′ .tasks) (drawTask t memory)

@@ -59,7 +59,8 @@ pub fn run_batch(
     requires { ⌜ Room bounds (length (now memory)) ⌝ }
     ensures { λ r. ⌜ (r ≡ verdictOf (readBatch bounds bank (batchWords (now (ring .entry)) offset size))) × (now (memory .exit) ≡ drawBatch bounds bank (batchWords (now (ring .entry)) offset size) (now (memory .entry))) ⌝ }
 {
-    let verdict = judge(ring, offset, size, bounds, bank);
+    let judged = judge(ring, offset, size, bounds, bank);
+    let verdict = judged.verdict;
     match verdict {
         Verdict::Faultless(_) => {
             draw_batch(memory, ring, offset, size, bounds, bank);

@@ -2,7 +2,6 @@
 pub mod Parsing
 pub mod Decode
 pub mod Writing
-pub mod Offsets
 pub mod Numbers
 pub mod Turns
 pub mod Going

@@ -11,6 +11,7 @@ use Rattle.register.specs.Bank.{resetBank}
 use Rattle.batch.specs.Batch.{statusOf, numberOf as faultOf, offsetOf}
 use Rattle.batch.proofs.Ways.{words-fit}
 use Rattle.batch.proofs.Tasks.{status-fits}
+use Rattle.batch.proofs.Offsets.{offset-within}
 use Rattle.record.specs.declared.Batch.{Batch}
 use Rattle.record.specs.declared.Record.{Record}
 use Rattle.record.specs.Setup.{badLength}
@@ -31,7 +32,6 @@ use Rattle.model.specs.Calls.{Answer, completed}
 use Rattle.claims.specs.Engine.{told, completion}
 use Rattle.session.specs.Answers.{twoWords, wordsOf}
 use Rattle.session.specs.Called.{Small}
-use Rattle.session.proofs.Offsets.{offset-within}
 
 -- ---- words of an answer
 

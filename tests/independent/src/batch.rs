@@ -28,11 +28,12 @@ impl Fault {
     }
 }
 
-/// The tasks in order, and the fault that ended the reading, if one did. Tasks before a fault are listed too.
+/// The tasks in order, the fault that ended the reading, if one did, and the registers there. Tasks before a fault are listed too.
 pub struct Reading {
     pub tasks: Vec<Task>,
     pub banks: Vec<Bank>,
     pub fault: Option<Fault>,
+    pub last: Bank,
 }
 
 impl Reading {
@@ -81,26 +82,25 @@ fn write(group: &Group, bank: &mut Bank) -> Result<(), Fault> {
 
 /// Reads a batch from a starting bank.
 pub fn read(words: &[u32], bounds: &Bounds, start: &Bank) -> Reading {
-    let mut reading = Reading { tasks: Vec::new(), banks: Vec::new(), fault: None };
-    reading.fault = read_into(words, bounds, start, &mut reading).err();
+    let mut reading = Reading { tasks: Vec::new(), banks: Vec::new(), fault: None, last: start.clone() };
+    reading.fault = read_into(words, bounds, &mut reading).err();
     reading
 }
 
-fn read_into(words: &[u32], bounds: &Bounds, start: &Bank, reading: &mut Reading) -> Result<(), Fault> {
-    let mut bank = start.clone();
+fn read_into(words: &[u32], bounds: &Bounds, reading: &mut Reading) -> Result<(), Fault> {
     let mut at = 0;
     let mut open = None;
     while at < words.len() {
         let group = group(words, at).map_err(|number| Fault { number, place: 4 * at as u32 })?;
-        write(&group, &mut bank)?;
+        write(&group, &mut reading.last)?;
         open = Some(group.place);
         if group.ends_task {
-            let task = bank.task();
+            let task = reading.last.task();
             if let Some(number) = judge(&task, bounds) {
                 return Err(Fault { number, place: group.place });
             }
             reading.tasks.push(task);
-            reading.banks.push(bank.clone());
+            reading.banks.push(reading.last.clone());
             open = None;
         }
         at += 1 + group.words.len();

@@ -1,5 +1,5 @@
 //! The questions about batches, and their answers.
-use crate::batch::{self, Bounds};
+use crate::batch::{self, Bounds, Reading};
 use crate::registers::{Bank, Refusal};
 use crate::ring;
 use crate::stream::{digest, Answer, Payload, Stream};
@@ -87,10 +87,16 @@ pub fn task(stream: &mut Stream, bank: &[u32]) {
     stream.case(TASK, listed(Payload::new(), bank), answered(&words));
 }
 
-/// Status, fault and place of a batch in a ring.
+/// Status, fault and place of a batch, and the registers there as one number.
+fn judgement(reading: &Reading) -> Answer {
+    let [status, number, place] = reading.answer();
+    answered(&[status, number, place, digest(reading.last.words())])
+}
+
+/// A batch in a ring, judged.
 pub fn judge(stream: &mut Stream, desk: &Desk, ring: &[u8], offset: u64, size: u64) {
     let reading = batch::read(&ring::words(ring, offset, size), &desk.bounds(), &desk.bank());
-    stream.case(JUDGE, desk.payload().long(offset).long(size).bytes(ring), answered(&reading.answer()));
+    stream.case(JUDGE, desk.payload().long(offset).long(size).bytes(ring), judgement(&reading));
 }
 
 /// The same of a batch given as its bytes, laid into a ring of its own length at an offset.
@@ -99,13 +105,13 @@ pub fn judge_at(stream: &mut Stream, desk: &Desk, batch: &[u8], offset: usize, s
     judge(stream, desk, &ring, offset as u64, batch.len() as u64);
 }
 
-/// Status, fault and place of a batch that repeats some bytes, in a ring of 32,768 bytes.
+/// The same of a batch that repeats some bytes, in a ring of 32,768 bytes.
 pub fn judge_many(stream: &mut Stream, desk: &Desk, bytes: &[u8], count: u32) {
     let batch = bytes.repeat(count as usize);
     assert!(batch.len() <= RING, "the batch is too long");
     let words = ring::words(&batch, 0, batch.len() as u64);
     let reading = batch::read(&words, &desk.bounds(), &desk.bank());
-    stream.case(JUDGE_MANY, desk.payload().word(count).bytes(bytes), answered(&reading.answer()));
+    stream.case(JUDGE_MANY, desk.payload().word(count).bytes(bytes), judgement(&reading));
 }
 
 /// How many tasks come before the end or the fault, and all their registers as one number.

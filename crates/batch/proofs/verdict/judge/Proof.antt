@@ -5,7 +5,7 @@ use mathlib.Core.List.{List}
 use native.Mathlib.Omega.{arith}
 use lib.ListN.{length}
 use Rattle.ring.specs.Segment.{batchWords}
-use Rattle.batch.specs.Batch.{readBatch, verdictOf}
+use Rattle.batch.specs.Batch.{readBatch, judgementOf}
 use Rattle.batch.specs.Walk.{rest}
 use Rattle.batch.proofs.Ways.{words-fit}
 use Rattle.batch.proofs.Steps.{counted, counted-none, step-onward, step-task, step-faulty, step-end}
@@ -15,7 +15,7 @@ use Rattle.batch.proofs.verdict.judge.Tie as tie
 abbrev Inv-loop : tie.InvT-loop
 Inv-loop ring offset size bounds current₀ at₀ count₀ current at count =
     let ws = batchWords ring offset size in
-    (at ≤ length ws) × (count ≤ at) × (verdictOf (readBatch bounds current₀ ws) ≡ counted count (rest bounds ws current at))
+    (at ≤ length ws) × (count ≤ at) × (judgementOf (readBatch bounds current₀ ws) ≡ counted count (rest bounds ws current at))
 
 abbrev μ-loop : tie.MeasureT-loop
 μ-loop ring offset size bounds current₀ at₀ count₀ current at count = length (batchWords ring offset size) - at

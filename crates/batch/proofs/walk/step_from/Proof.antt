@@ -205,7 +205,7 @@ returns-3 c =
       means =
           here (c .before .before .before .before .before .before .before)
           ∙ refused (s .args .bounds) (Ws s) (l .held) (l .at) (w .result) (omega (arith, n, l .inv .1)) (w .ensures) (l .left) (l .register) _ _ _ (c .before .before .before .before .before .before .loop-test .taken) e
-          ∙ ap (λ (f : Fault). done (faulty f (4 * l .at) (l .held))) (sym (c .of-write .ensures));
+          ∙ ap (λ (f : Fault). done (l .held) (faulty f (4 * l .at))) (sym (c .of-write .ensures));
       onward = tt;
     }
 
@@ -223,8 +223,8 @@ returns-4 c =
       means =
           (rw (z, e) at (here (c .before .before .before)))
           ∙ ended (s .args .bounds) (Ws s) (l .held) (l .at) _ _
-          ∙ judged-step (s .args .bounds) (Ws s) check (l .held) (l .at) (g .at)
-          ∙ ap (follows (s .args .bounds) (Ws s)) (sym (c .finish .ensures));
+          ∙ judged-step (s .args .bounds) (Ws s) check (l .held) (l .at) (g .at) (s .args .bank)
+          ∙ ap (follows (s .args .bounds) (Ws s) (s .args .bank)) (sym (c .finish .ensures));
       onward =
           rw (c .finish .ensures)
           (judged-onward (Ws s) check (l .held) (s .args .k) (l .at) (4 * g .at) (omega (arith, g .inv .0, l .inv .0)) (omega (arith, n, l .inv .1)));

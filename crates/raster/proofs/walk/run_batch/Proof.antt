@@ -1,6 +1,7 @@
-use mathlib.Core.Path.{sym, _∙_}
+use mathlib.Core.Path.{sym, ap, _∙_}
 use denote.Ref.{now}
 use Rattle.ring.specs.Segment.{batchWords}
+use Rattle.batch.specs.declared.verdict.Judgement.{Judgement}
 use Rattle.raster.proofs.Fold.{faultless-batch, faulty-batch}
 use borrow.Author.Needs.{needs}
 use Rattle.raster.proofs.walk.run_batch.Statement.{statement}
@@ -22,10 +23,11 @@ returns : tie.Need-returns
 returns c =
     let t = c .before .before .before .before in
     let j = t .before .before in
-    let a = j .before .before .before .args in (
-      j .judge .ensures,
+    let a = j .before .before .before .args in
+    let v = ap (λ (g : Judgement). g .verdict) (j .judge .ensures) in (
+      v,
       c .before .before .draw-batch .ensures
-          ∙ faultless-batch (a .bounds) (a .bank) (batchWords (now (a .ring)) (a .offset) (a .size)) (now (a .memory)) _ (sym (j .judge .ensures) ∙ t .enum-told .given .1),
+          ∙ faultless-batch (a .bounds) (a .bank) (batchWords (now (a .ring)) (a .offset) (a .size)) (now (a .memory)) _ (sym v ∙ t .enum-told .given .1),
     )
 
 enum-told-2 : tie.Need-enum-told-2
@@ -34,9 +36,10 @@ enum-told-2 c = search needs
 returns-2 : tie.Need-returns-2
 returns-2 c =
     let j = c .before .before in
-    let a = j .before .before .before .args in (
-      j .judge .ensures,
-      sym (faulty-batch (a .bounds) (a .bank) (batchWords (now (a .ring)) (a .offset) (a .size)) (now (a .memory)) _ _ (sym (j .judge .ensures) ∙ c .enum-told2 .given .1)),
+    let a = j .before .before .before .args in
+    let v = ap (λ (g : Judgement). g .verdict) (j .judge .ensures) in (
+      v,
+      sym (faulty-batch (a .bounds) (a .bank) (batchWords (now (a .ring)) (a .offset) (a .size)) (now (a .memory)) _ _ (sym v ∙ c .enum-told2 .given .1)),
     )
 
 pub run-batch-spec : {M : Type 1} → statement M

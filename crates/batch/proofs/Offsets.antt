@@ -1,0 +1,58 @@
+-- A fault lies in its batch: its offset is at most four bytes a word.
+use mathlib.Core.Bool.{true, false}
+use mathlib.Core.List.{List, [], _∷_}
+use Prim.Native.Nat.{ℕ, zero, suc, _+_, _*_, _≤_}
+use native.Mathlib.Omega.{arith}
+use lib.ListN.{length}
+use Rattle.register.specs.Bank.{written}
+use Rattle.register.specs.Task.{taskOf}
+use Rattle.register.specs.declared.bank.Bank.{Bank}
+use Rattle.rules.specs.declared.task.Bounds.{Bounds}
+use Rattle.rules.specs.Rules.{taskFault}
+use Rattle.batch.specs.Batch.{Reading, Ending, finished, faulty, done, Place, start, inside, groupOf, opened, judged, readFrom, readBatch, verdictAfter, verdictOf, offsetOf}
+use Rattle.batch.proofs.Readings.{onFrom, onWith, opened-all, wrote-all, judged-all}
+
+-- a fault's offset is at most that of word m
+abbrev Low : (m : ℕ) → Ending → Type 0
+Low m finished = Unit {0}
+Low m (faulty f offset) = offset ≤ 4 * m
+
+-- the group that is read began at word k or before
+abbrev Begun : Place → (k : ℕ) → Type 0
+Begun start k = Unit {0}
+Begun (inside left offset ends head) k = head ≤ k
+
+module _ (bounds : Bounds) (m : ℕ) where
+  abbrev Under : Reading → Type 0
+  Under r = Low m (r .ending)
+
+  under-open : (b : Bank) (k h : ℕ) (ws : List ℕ) → k ≤ m → Under (readFrom bounds b (k + 1) (groupOf k h) ws) → Under (opened b k h (length ws) (onFrom bounds b k ws))
+  under-open b k h ws low on = opened-all Under b k (λ f. omega arith) h (length ws) (onFrom bounds b k ws) (λ l. on)
+
+  under-judged : (b : Bank) (head : ℕ) (after : Reading) → head ≤ m → Under after → Under (judged (taskFault bounds (taskOf b)) b head after)
+  under-judged b head after low on = judged-all Under b head (λ f. omega arith) (taskFault bounds (taskOf b)) after (λ e. on)
+
+  under-from : (b : Bank) (k : ℕ) (place : Place) (ws : List ℕ) → k + length ws ≤ m → Begun place k → Under (readFrom bounds b k place ws)
+  unfolding readFrom
+  under-from b k start [] fits low = tt
+  under-from b k start (h ∷ ws) fits low = under-open b k h ws (omega arith) (under-from b (k + 1) (groupOf k h) ws (omega arith) (omega arith))
+  under-from b k (inside (suc n) offset ends head) [] fits low = omega arith
+  under-from b k (inside (suc n) offset ends head) (w ∷ ws) fits low =
+      wrote-all Under b k (λ f. omega arith) (written b offset w) (onWith bounds k (inside n (offset + 4) ends head) ws)
+      (λ next. under-from next (k + 1) (inside n (offset + 4) ends head) ws (omega arith) (omega arith))
+  under-from b k (inside zero offset false head) [] fits low = omega arith
+  under-from b k (inside zero offset false head) (h ∷ ws) fits low = under-open b k h ws (omega arith) (under-from b (k + 1) (groupOf k h) ws (omega arith) (omega arith))
+  under-from b k (inside zero offset true head) [] fits low = under-judged b head (done b finished) (omega arith) tt
+  under-from b k (inside zero offset true head) (h ∷ ws) fits low =
+      under-judged b head (opened b k h (length ws) (onFrom bounds b k ws)) (omega arith)
+      (under-open b k h ws (omega arith) (under-from b (k + 1) (groupOf k h) ws (omega arith) (omega arith)))
+
+pub offset-within : (bounds : Bounds) (bank : Bank) (ws : List ℕ) → offsetOf (verdictOf (readBatch bounds bank ws)) ≤ 4 * length ws
+offset-within bounds bank ws = go (readBatch bounds bank ws) (under-from bounds (length ws) bank 0 start ws (omega arith) tt)
+  where
+    by : (n : ℕ) (e : Ending) → Low (length ws) e → offsetOf (verdictAfter n e) ≤ 4 * length ws
+    by n finished h = omega arith
+    by n (faulty f o) h = h
+
+    go : (r : Reading) → Low (length ws) (r .ending) → offsetOf (verdictOf r) ≤ 4 * length ws
+    go r h = by (length (r .tasks)) (r .ending) h

@@ -1,0 +1,42 @@
+-- What holds of every reading holds after each way on: where it stops at word k, and where it goes on.
+use Prim.Native.Nat.{ℕ, _+_, _*_}
+use mathlib.Core.Path.{_≡_, refl}
+use mathlib.Core.Bool.{Bool, true, false, cond}
+use mathlib.Core.List.{List}
+use Rattle.word.specs.Field.{field}
+use Rattle.register.specs.Task.{taskOf}
+use Rattle.register.specs.declared.bank.Bank.{Bank}
+use Rattle.register.specs.declared.bank.Write.{Write}
+use Rattle.register.specs.declared.bank.Write.the-variants.{Bank as Taken, Refused}
+use Rattle.rules.specs.declared.fault.Fault.{Fault}
+use Rattle.rules.specs.declared.fault.Fault.the-variants.{ReservedBits, GroupLength}
+use Rattle.rules.specs.declared.task.Bounds.{Bounds}
+use Rattle.rules.specs.declared.task.Check.{Check}
+use Rattle.rules.specs.declared.task.Check.the-variants.{Fine, Wrong}
+use Rattle.rules.specs.Faults.{writeFault}
+use Rattle.batch.specs.Batch.{Reading, faulty, done, andThen, Place, reservedBits, badLength, opened, wrote, judged, groupOf, readFrom}
+
+-- the reading after a header, by the place that it leads to, and after a written word, by the bank
+abbrev pub onFrom : Bounds → Bank → ℕ → List ℕ → Place → Reading
+onFrom bounds b k ws place = readFrom bounds b (k + 1) place ws
+
+abbrev pub onWith : Bounds → ℕ → Place → List ℕ → Bank → Reading
+onWith bounds k place ws next = readFrom bounds next (k + 1) place ws
+
+module _ (P : Reading → Type 0) (b : Bank) (k : ℕ) (stops : (f : Fault) → P (done b (faulty f (4 * k)))) where
+  pub opened-all : (h follow : ℕ) (go : Place → Reading) → (badLength (field 15 2 h) follow ≡ false → P (go (groupOf k h))) → P (opened b k h follow go)
+  opened-all h follow go on = by (reservedBits h) (badLength (field 15 2 h) follow) refl
+    where
+      by : (r l : Bool) → badLength (field 15 2 h) follow ≡ l
+          → P (cond r (done b (faulty ReservedBits (4 * k))) (cond l (done b (faulty GroupLength (4 * k))) (go (groupOf k h))))
+      by true l e = stops ReservedBits
+      by false true e = stops GroupLength
+      by false false e = on e
+
+  pub wrote-all : (w : Write) (go : Bank → Reading) → ((next : Bank) → P (go next)) → P (wrote b k w go)
+  wrote-all (Taken next) go on = on next
+  wrote-all (Refused f) go on = stops (writeFault f)
+
+  pub judged-all : (check : Check) (after : Reading) → (check ≡ Fine → P (andThen (taskOf b) after)) → P (judged check b k after)
+  judged-all Fine after on = on refl
+  judged-all (Wrong f) after on = stops f
