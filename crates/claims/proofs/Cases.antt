@@ -11,17 +11,18 @@ use Rattle.record.specs.Queue.{writeOffset}
 use Rattle.record.specs.declared.Record.{Record}
 use Rattle.queue.specs.declared.Answer.the-variants.{Opened, Accepted, Ready}
 use Rattle.queue.specs.Answers.{numberOf, valueOf, answered as replied}
-use Rattle.queue.specs.Refusals.{firstOf, openTable, pendingTable}
-use Rattle.queue.specs.Calls.{unless, withClient, openOf, newBatch, withBatch, submitNumber, submitOf, submitRing, pendingOf}
+use Rattle.queue.specs.Refusals.{firstOf}
+use Rattle.queue.specs.Calls.{unless, withClient, openOf, newBatch, withBatch, submitOf, submitRing, pendingOf}
 use Rattle.engine.specs.declared.Completion.{Completion}
 use Rattle.engine.specs.declared.Outcome.the-variants.{Completed}
 use Rattle.engine.specs.Outcome.{numberOf as refusalOf, valuesOf}
-use Rattle.engine.specs.Run.{runNumber, oldest, oldestVerdict, withoutOldest, answered, runOf, runMemory}
+use Rattle.engine.specs.Run.{oldest, oldestVerdict, withoutOldest, answered, runOf, runMemory}
 use Rattle.engine.proofs.Calls.{completion as completionOf, drawn}
 use Rattle.model.specs.Windows.{Window}
 use Rattle.model.specs.Calls.{Call, opens, submit, run, pending, opened, accepted, completed, ready, refused}
 use Rattle.claims.specs.Way.{numbersOf}
 use Rattle.claims.specs.Engine.{State, state, Called, told, completion, called}
+use Rattle.claims.specs.Demand1.{tableOf}
 use Rattle.claims.specs.Demand3.{Harmless}
 
 -- the window as the record holds it
@@ -30,10 +31,7 @@ given w = record { start = w .start; length = w .length }
 
 -- what a call is refused with, 0 if it is done
 abbrev pub number : Call → State → ℕ
-number (opens w) s = firstOf (openTable (s .engine) (given w))
-number (submit client bytes) s = submitNumber (s .engine) (s .ring) client bytes
-number run s = runNumber (s .engine) (s .ring) (s .memory)
-number (pending client) s = firstOf (pendingTable (s .engine) client)
+number c s = firstOf (tableOf c s)
 
 -- what comes of a call that is done
 abbrev pub done : Call → State → Called
@@ -104,7 +102,7 @@ unfolding either
 quiet zero s d h k e = absurd (h k e)
 quiet (suc n) s d h k e = refl
 
-answers : (c : Call) (s : State) (k : ℕ) → done c s .answer ≡ refused k → ⊥
+pub answers : (c : Call) (s : State) (k : ℕ) → done c s .answer ≡ refused k → ⊥
 answers (opens w) s k e = let z : _≡_ {A = ℕ} 0 1 = cc in omega arith
 answers (submit client bytes) s k e = let z : _≡_ {A = ℕ} 0 1 = cc in omega arith
 answers run s k e = let z : _≡_ {A = ℕ} 0 1 = cc in omega arith

@@ -2,6 +2,7 @@
 pub mod Confined
 pub mod OfModel
 pub mod Cases
+pub mod Demand1
 pub mod Seen
 pub mod Related
 pub mod Tables

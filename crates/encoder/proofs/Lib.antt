@@ -15,3 +15,5 @@ pub mod RoundTrip
 pub mod Buffer
 -- the worked words
 pub mod Worked
+-- the promise of demand 2
+pub mod ReadsBack

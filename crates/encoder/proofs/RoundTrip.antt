@@ -7,7 +7,6 @@ use Prim.Native.Nat.{ℕ, _+_}
 use native.Mathlib.Omega.{arith}
 use lib.ListN.{length}
 use Rattle.word.specs.Word.{words}
-use Rattle.register.specs.Task.{taskOf}
 use Rattle.register.specs.declared.bank.Bank.{Bank}
 use Rattle.rules.specs.declared.task.Bounds.{Bounds}
 use Rattle.rules.specs.Rules.{taskFault}
@@ -32,10 +31,6 @@ pub goes-on : (bounds : Bounds) (bank : Bank) (k : ℕ) (f : Fields) (rest : Lis
     ≡ judged (taskFault bounds (taskWith f)) (bankOf f) (k + 18) (readFrom bounds (bankOf f) (k + 20) start rest)
 goes-on bounds bank k f rest ok = rw (task-back f ok) at (task-read bounds bank (bankOf f) k rest (all-taken f ok))
 
--- the task that is read has exactly these fields
-pub same-task : (f : Fields) → allowed f ≡ true → taskOf (bankOf f) ≡ taskWith f
-same-task f ok = task-back f ok
-
 -- any tasks, one after the other
 tasks-from : (bounds : Bounds) (bank : Bank) (k : ℕ) (fs : List Fields) → AllAllowed fs → readFrom bounds bank k start (allWords fs) ≡ readAs bounds bank k fs
 unfolding allWords readAs readFrom
@@ -44,8 +39,8 @@ tasks-from bounds bank k (f ∷ fs) ok =
     goes-on bounds bank k f (allWords fs) (ok .0)
     ∙ ap (λ (r : Reading). judged (taskFault bounds (taskWith f)) (bankOf f) (k + 18) r) (tasks-from bounds (bankOf f) (k + 20) fs (ok .1))
 
-pub reads-back : (bounds : Bounds) (bank : Bank) (fs : List Fields) → AllAllowed fs → readBatch bounds bank (allWords fs) ≡ readAs bounds bank 0 fs
-reads-back bounds bank fs ok = tasks-from bounds bank 0 fs ok
+words-read-back : (bounds : Bounds) (bank : Bank) (fs : List Fields) → AllAllowed fs → readBatch bounds bank (allWords fs) ≡ readAs bounds bank 0 fs
+words-read-back bounds bank fs ok = tasks-from bounds bank 0 fs ok
 
 -- a task alone
 pub reads-back-one : (bounds : Bounds) (bank : Bank) (f : Fields) → allowed f ≡ true
@@ -54,20 +49,13 @@ unfolding readFrom
 reads-back-one bounds bank f ok = ap (λ (l : List ℕ). readBatch bounds bank l) (sym (append-nil (wordsOf (bankOf f)))) ∙ goes-on bounds bank 0 f [] ok
 
 -- where 25 to 28 do not come: those tasks, in order, and the batch is finished
-fine-from : (bounds : Bounds) (bank : Bank) (k : ℕ) (fs : List Fields) → AllAllowed fs → AllFine bounds fs
+pub fine-from : (bounds : Bounds) (bank : Bank) (k : ℕ) (fs : List Fields) → AllAllowed fs → AllFine bounds fs
     → readAs bounds bank k fs ≡ record { tasks = map taskWith fs; ending = finished; bank = bankAfter bank fs }
 unfolding readAs bankAfter
 fine-from bounds bank k [] ok fine = refl
 fine-from bounds bank k (f ∷ fs) ok fine = rw (fine .0, task-back f (ok .0), fine-from bounds (bankOf f) (k + 20) fs (ok .1) (fine .1))
 
-pub in-order : (bounds : Bounds) (bank : Bank) (fs : List Fields) → AllAllowed fs → AllFine bounds fs
-    → readBatch bounds bank (allWords fs) ≡ record { tasks = map taskWith fs; ending = finished; bank = bankAfter bank fs }
-in-order bounds bank fs ok fine = reads-back bounds bank fs ok ∙ fine-from bounds bank 0 fs ok fine
-
--- exactly one task-end mark
-pub one-mark : (f : Fields) → marks (wordsOf (bankOf f)) ≡ 1
-unfolding marksFrom wordsOf
-one-mark f = refl
+-- ---- exactly one task-end mark each
 
 last-of-six : (n : ℕ) → 0 + (0 + (0 + (0 + (0 + (1 + n))))) ≡ 1 + n
 last-of-six n = omega arith
@@ -158,4 +146,4 @@ all-bytes-back (f ∷ fs) ok plain =
     bytes-back f (allBytes fs) (ok .0) (plain .0) ∙ ap (λ (l : List ℕ). wordsOf (bankOf f) ++ l) (all-bytes-back fs (ok .1) (plain .1))
 
 pub bytes-read-back : (bounds : Bounds) (bank : Bank) (fs : List Fields) → AllAllowed fs → AllPlain fs → readBatch bounds bank (words (allBytes fs)) ≡ readAs bounds bank 0 fs
-bytes-read-back bounds bank fs ok plain = ap (readBatch bounds bank) (all-bytes-back fs ok plain) ∙ reads-back bounds bank fs ok
+bytes-read-back bounds bank fs ok plain = ap (readBatch bounds bank) (all-bytes-back fs ok plain) ∙ words-read-back bounds bank fs ok

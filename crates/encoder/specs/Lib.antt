@@ -5,3 +5,4 @@ pub mod Words
 pub mod Encoder
 pub mod Solid
 pub mod RoundTrip
+pub mod ReadsBack

@@ -1,28 +1,22 @@
 -- What a task does to each byte (demand 2): in an output row the byte of its pixel, everywhere else what was there.
 use mathlib.Core.Path.{_≡_, refl, _∙_}
-use mathlib.Core.List.{List, [], _∷_}
-use Prim.Native.Nat.{ℕ, _/_, _%_, _<_}
+use mathlib.Core.List.{List, [], _∷_, _++_}
+use Prim.Native.Nat.{ℕ, _<_}
 use lib.ListN.{length, getD}
-use Rattle.word.specs.Word.{byteOf}
-use Rattle.pixel.specs.Formats.{bytesOf, layoutOf}
-use Rattle.pixel.specs.Colours.{packed}
 use Rattle.surface.specs.Surface.{InRow}
 use Rattle.surface.proofs.Outside.{length-drawnOn, outside-rows, inside-row}
 use Rattle.register.specs.declared.bank.Bank.{Bank}
 use Rattle.register.specs.declared.task.Task.{Task}
 use Rattle.rules.specs.declared.task.Bounds.{Bounds}
-use Rattle.rules.specs.Sound.{AllSound}
+use Rattle.rules.specs.Sound.{Sound, AllSound}
 use Rattle.batch.specs.Batch.{readBatch, tasksDrawn}
 use Rattle.batch.proofs.Tasks.{drawn-sound}
-use Rattle.raster.specs.Task.{pixelColour, drawTask, drawTasks}
+use Rattle.raster.specs.Task.{drawTask, drawTasks}
 use Rattle.raster.specs.Batch.{drawBatch}
 use Rattle.raster.specs.Clear.{Rectangle}
+use Rattle.raster.specs.Written.{Outside, OutsideAll, outputByte, Writes}
 use Rattle.raster.proofs.Turn.{stride-some}
 use Rattle.raster.proofs.Judged.{rectangle}
-
--- byte i lies in no output row
-abbrev pub Outside : Task → ℕ → Type 0
-Outside t i = (y j : ℕ) → InRow (t .output) i y j → ⊥
 
 module _ (t : Task) (memory : List ℕ) where
   pub length-task : length (drawTask t memory) ≡ length memory
@@ -37,8 +31,7 @@ module _ (t : Task) (memory : List ℕ) where
 
     -- byte j of row y is a byte of its pixel in the output's format
     pub inside-task : (i y j : ℕ) → i < length memory → InRow (t .output) i y j →
-        getD (drawTask t memory) i 0
-        ≡ byteOf (packed (layoutOf (t .output .format)) (pixelColour t memory (j / bytesOf (t .output .format)) y)) (j % bytesOf (t .output .format))
+        getD (drawTask t memory) i 0 ≡ outputByte t memory y j
     unfolding drawTask
     inside-task i y j l h = inside-row (t .output) _ memory (r .spaced) i y j l h
 
@@ -49,11 +42,6 @@ unfolding drawTasks
 length-tasks [] memory = refl
 length-tasks (t ∷ ts) memory = length-tasks ts (drawTask t memory) ∙ length-task t memory
 
--- byte i lies in no output row of any of them
-abbrev pub OutsideAll : List Task → ℕ → Type 0
-OutsideAll [] i = Unit {0}
-OutsideAll (t ∷ ts) i = Outside t i × OutsideAll ts i
-
 pub outside-tasks : (bounds : Bounds) (ts : List Task) → AllSound bounds ts → (memory : List ℕ) (i : ℕ) → OutsideAll ts i →
     getD (drawTasks ts memory) i 0 ≡ getD memory i 0
 unfolding drawTasks
@@ -61,13 +49,30 @@ outside-tasks bounds [] s memory i out = refl
 outside-tasks bounds (t ∷ ts) s memory i out =
     outside-tasks bounds ts (s .1) (drawTask t memory) i (out .1) ∙ outside-task t memory (rectangle (t .output) (s .0 .rows)) i (out .0)
 
+-- one of them is sound
+sound-within : (bounds : Bounds) (before after : List Task) (t : Task) → AllSound bounds (before ++ t ∷ after) → Sound bounds t
+sound-within bounds [] after t s = s .0
+sound-within bounds (b ∷ bs) after t s = sound-within bounds bs after t (s .1)
+
 -- ---- a batch, from any bank on
 
 module _ (bounds : Bounds) (bank : Bank) (words memory : List ℕ) where
+  abbrev drawn : List Task
+  drawn = tasksDrawn (readBatch bounds bank words)
+
   pub length-batch : length (drawBatch bounds bank words memory) ≡ length memory
   unfolding drawBatch
-  length-batch = length-tasks (tasksDrawn (readBatch bounds bank words)) memory
+  length-batch = length-tasks drawn memory
 
-  pub outside-batch : (i : ℕ) → OutsideAll (tasksDrawn (readBatch bounds bank words)) i → getD (drawBatch bounds bank words memory) i 0 ≡ getD memory i 0
+  pub outside-batch : (i : ℕ) → OutsideAll drawn i → getD (drawBatch bounds bank words memory) i 0 ≡ getD memory i 0
   unfolding drawBatch
-  outside-batch i out = outside-tasks bounds (tasksDrawn (readBatch bounds bank words)) (drawn-sound bounds bank words) memory i out
+  outside-batch i out = outside-tasks bounds drawn (drawn-sound bounds bank words) memory i out
+
+  inside-batch : (before after : List Task) (t : Task) → drawn ≡ before ++ t ∷ after → (i y j : ℕ) → i < length memory → InRow (t .output) i y j →
+      getD (drawTask t (drawTasks before memory)) i 0 ≡ outputByte t (drawTasks before memory) y j
+  inside-batch before after t e i y j l h =
+      let sound = sound-within bounds before after t (rw e at (drawn-sound bounds bank words)) in
+      inside-task t (drawTasks before memory) (rectangle (t .output) (sound .rows)) i y j (rw (length-tasks before memory) l) h
+
+  pub writes : Writes bounds bank words memory
+  writes = record { size = length-batch; outside = outside-batch; inside = inside-batch }

@@ -1,5 +1,6 @@
 -- Tasks and batches drawn.
 pub mod Task
 pub mod Batch
+pub mod Written
 pub mod Clear
 pub mod Row

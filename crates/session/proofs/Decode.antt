@@ -5,10 +5,10 @@ use Prim.Native.Nat.{ℕ, zero, suc, _+_, _≤_}
 use native.Mathlib.Omega.{arith}
 use lib.ListN.{length, length-append}
 use lib.Seq.{drop-drop, take-append-seam, drop-append-seam}
-use Rattle.word.specs.Word.{le32At, leBytes}
+use Rattle.word.specs.Word.{byteOf, le32At, leBytes}
 use Rattle.word.proofs.Words.{le32-bytes}
 use Rattle.model.specs.Calls.{Call, opens, submit, run, pending}
-use Rattle.session.specs.Script.{parsed, next, decode, encodeOne, encode, FitsOne, Fits}
+use Rattle.session.specs.Script.{parsed, next, decode, encodeOne, encode, AllBytes, FitsOne, Fits, Decodes}
 use Rattle.session.proofs.Parsing.{open-long, submit-long, pending-long, next-open, next-submit, next-pending}
 
 -- bytes that begin with a call's
@@ -27,9 +27,34 @@ next-encoded (pending client) rest fits =
     let bytes : List ℕ = encodeOne (pending client) ++ rest in
     next-pending bytes (omega arith) refl ∙ pending-long bytes (omega arith)
 
-pub decode-encode : (calls : List Call) → Fits calls → (n : ℕ) → length calls ≤ n → decode n (encode calls) ≡ calls
+decode-encode : (calls : List Call) → Fits calls → (n : ℕ) → length calls ≤ n → decode n (encode calls) ≡ calls
 unfolding decode encode next
 decode-encode [] fits zero h = refl
 decode-encode [] fits (suc n) h = refl
 decode-encode (call ∷ calls) fits zero h = absurd (omega arith)
 decode-encode (call ∷ calls) fits (suc n) h = rw (next-encoded call (encode calls) (fits .0)) (ap (λ (cs : List Call). call ∷ cs) (decode-encode calls (fits .1) n (omega arith)))
+
+-- ---- what is encoded is bytes
+
+all-append : (xs ys : List ℕ) → AllBytes xs → AllBytes ys → AllBytes (xs ++ ys)
+all-append [] ys a b = b
+all-append (x ∷ xs) ys a b = (a .0, all-append xs ys (a .1) b)
+
+word-bytes : (n : ℕ) → AllBytes (leBytes n)
+unfolding leBytes byteOf
+word-bytes n = (omega arith, (omega arith, (omega arith, (omega arith, tt))))
+
+call-bytes : (call : Call) → FitsOne call → AllBytes (encodeOne call)
+unfolding encodeOne
+call-bytes (opens w) fits = (omega arith, all-append (leBytes (w .start)) (leBytes (w .length)) (word-bytes (w .start)) (word-bytes (w .length)))
+call-bytes (submit client batch) fits = (omega arith, (fits .0, all-append (leBytes (length batch)) batch (word-bytes (length batch)) (fits .2)))
+call-bytes run fits = (omega arith, tt)
+call-bytes (pending client) fits = (omega arith, (fits, tt))
+
+calls-bytes : (calls : List Call) → Fits calls → AllBytes (encode calls)
+unfolding encode
+calls-bytes [] fits = tt
+calls-bytes (call ∷ calls) fits = all-append (encodeOne call) (encode calls) (call-bytes call (fits .0)) (calls-bytes calls (fits .1))
+
+pub decodes : (calls : List Call) → Fits calls → Decodes calls
+decodes calls fits = record { bytes = calls-bytes calls fits; back = decode-encode calls fits }

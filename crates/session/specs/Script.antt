@@ -4,9 +4,10 @@
 --   2 run
 --   3 pending: client, one byte
 -- An unknown opcode, or a call that is cut short, ends the list.
+use mathlib.Core.Path.{_≡_}
 use mathlib.Core.List.{List, [], _∷_, _++_}
 use mathlib.Core.Bool.{cond}
-use Prim.Native.Nat.{ℕ, zero, suc, _+_, _<_, _^_}
+use Prim.Native.Nat.{ℕ, zero, suc, _+_, _≤_, _<_, _^_}
 use lib.ListN.{length, take, drop, getD}
 use lib.Dec.{ltb, eqb}
 use Rattle.word.specs.Word.{le32At, leBytes}
@@ -72,13 +73,22 @@ unfoldable pub encode : List Call → List ℕ
 encode [] = []
 encode (call ∷ calls) = encodeOne call ++ encode calls
 
--- there is room for the call's numbers: a byte for a client, four for every other
+abbrev pub AllBytes : List ℕ → Type 0
+AllBytes [] = Unit {0}
+AllBytes (b ∷ bs) = (b < 2 ^ 8) × AllBytes bs
+
+-- there is room for the call's numbers: a byte for a client and for each of a batch, four for every other
 abbrev pub FitsOne : Call → Type 0
 FitsOne (opens w) = (w .start < 2 ^ 32) × (w .length < 2 ^ 32)
-FitsOne (submit client bytes) = (client < 2 ^ 8) × (length bytes < 2 ^ 32)
+FitsOne (submit client bytes) = (client < 2 ^ 8) × (length bytes < 2 ^ 32) × AllBytes bytes
 FitsOne run = Unit {0}
 FitsOne (pending client) = client < 2 ^ 8
 
 abbrev pub Fits : List Call → Type 0
 Fits [] = Unit {0}
 Fits (call ∷ calls) = FitsOne call × Fits calls
+
+-- The promise: every list of calls whose numbers fit has a script that is decoded to it. proofs/Decode.antt proves it.
+pub record Decodes (calls : List Call) : Type 0 where
+  pub bytes : AllBytes (encode calls)
+  pub back : (n : ℕ) → length calls ≤ n → decode n (encode calls) ≡ calls
