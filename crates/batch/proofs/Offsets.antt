@@ -9,7 +9,7 @@ use Rattle.register.specs.Task.{taskOf}
 use Rattle.register.specs.declared.bank.Bank.{Bank}
 use Rattle.rules.specs.declared.task.Bounds.{Bounds}
 use Rattle.rules.specs.Rules.{taskFault}
-use Rattle.batch.specs.Batch.{Reading, Ending, finished, faulty, done, Place, start, inside, groupOf, opened, judged, readFrom, readBatch, verdictAfter, verdictOf, offsetOf}
+use Rattle.batch.specs.Batch.{Reading, Ending, finished, faulty, done, Position, start, inside, groupOf, opened, judged, readFrom, readBatch, verdictAfter, verdictOf, offsetOf}
 use Rattle.batch.proofs.Readings.{onFrom, onWith, opened-all, wrote-all, judged-all}
 
 -- a fault's offset is at most that of word m
@@ -18,7 +18,7 @@ Low m finished = Unit {0}
 Low m (faulty f offset) = offset ≤ 4 * m
 
 -- the group that is read began at word k or before
-abbrev Begun : Place → (k : ℕ) → Type 0
+abbrev Begun : Position → (k : ℕ) → Type 0
 Begun start k = Unit {0}
 Begun (inside left offset ends head) k = head ≤ k
 
@@ -32,7 +32,7 @@ module _ (bounds : Bounds) (m : ℕ) where
   under-judged : (b : Bank) (head : ℕ) (after : Reading) → head ≤ m → Under after → Under (judged (taskFault bounds (taskOf b)) b head after)
   under-judged b head after low on = judged-all Under b head (λ f. omega arith) (taskFault bounds (taskOf b)) after (λ e. on)
 
-  under-from : (b : Bank) (k : ℕ) (place : Place) (ws : List ℕ) → k + length ws ≤ m → Begun place k → Under (readFrom bounds b k place ws)
+  under-from : (b : Bank) (k : ℕ) (position : Position) (ws : List ℕ) → k + length ws ≤ m → Begun position k → Under (readFrom bounds b k position ws)
   unfolding readFrom
   under-from b k start [] fits low = tt
   under-from b k start (h ∷ ws) fits low = under-open b k h ws (omega arith) (under-from b (k + 1) (groupOf k h) ws (omega arith) (omega arith))

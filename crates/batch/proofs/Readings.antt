@@ -14,17 +14,17 @@ use Rattle.rules.specs.declared.task.Bounds.{Bounds}
 use Rattle.rules.specs.declared.task.Check.{Check}
 use Rattle.rules.specs.declared.task.Check.the-variants.{Fine, Wrong}
 use Rattle.rules.specs.Faults.{writeFault}
-use Rattle.batch.specs.Batch.{Reading, faulty, done, andThen, Place, reservedBits, badLength, opened, wrote, judged, groupOf, readFrom}
+use Rattle.batch.specs.Batch.{Reading, faulty, done, andThen, Position, reservedBits, badLength, opened, wrote, judged, groupOf, readFrom}
 
--- the reading after a header, by the place that it leads to, and after a written word, by the bank
-abbrev pub onFrom : Bounds → Bank → ℕ → List ℕ → Place → Reading
-onFrom bounds b k ws place = readFrom bounds b (k + 1) place ws
+-- the reading after a header, by the position that it leads to, and after a written word, by the bank
+abbrev pub onFrom : Bounds → Bank → ℕ → List ℕ → Position → Reading
+onFrom bounds b k ws position = readFrom bounds b (k + 1) position ws
 
-abbrev pub onWith : Bounds → ℕ → Place → List ℕ → Bank → Reading
-onWith bounds k place ws next = readFrom bounds next (k + 1) place ws
+abbrev pub onWith : Bounds → ℕ → Position → List ℕ → Bank → Reading
+onWith bounds k position ws next = readFrom bounds next (k + 1) position ws
 
 module _ (P : Reading → Type 0) (b : Bank) (k : ℕ) (stops : (f : Fault) → P (done b (faulty f (4 * k)))) where
-  pub opened-all : (h follow : ℕ) (go : Place → Reading) → (badLength (field 15 2 h) follow ≡ false → P (go (groupOf k h))) → P (opened b k h follow go)
+  pub opened-all : (h follow : ℕ) (go : Position → Reading) → (badLength (field 15 2 h) follow ≡ false → P (go (groupOf k h))) → P (opened b k h follow go)
   opened-all h follow go on = by (reservedBits h) (badLength (field 15 2 h) follow) refl
     where
       by : (r l : Bool) → badLength (field 15 2 h) follow ≡ l

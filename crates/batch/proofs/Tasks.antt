@@ -21,12 +21,12 @@ use Rattle.rules.specs.declared.task.Bounds.{Bounds}
 use Rattle.rules.specs.declared.task.Check.{Check}
 use Rattle.rules.specs.Faults.{faultStatus}
 use Rattle.rules.specs.Rules.{taskFault}
-use Rattle.rules.specs.Sound.{Sound, AllSound}
+use Rattle.rules.proofs.Sound.{Sound, AllSound}
 use Rattle.rules.proofs.Passes.{passes}
 use Rattle.batch.specs.declared.walk.Step.{Step}
 use Rattle.batch.specs.declared.walk.Step.the-variants.{Task as Next}
 use Rattle.batch.specs.declared.verdict.Verdict.the-variants.{Faultless}
-use Rattle.batch.specs.Batch.{Reading, Ending, finished, faulty, done, Place, start, inside, badLength, opened, judged, groupOf, readFrom, readBatch, verdictAfter, verdictOf, statusOf, tasksDrawn, drawnOf}
+use Rattle.batch.specs.Batch.{Reading, Ending, finished, faulty, done, Position, start, inside, badLength, opened, judged, groupOf, readFrom, readBatch, verdictAfter, verdictOf, statusOf, tasksDrawn, drawnOf}
 use Rattle.batch.specs.Marks.{marksFrom, marks}
 use Rattle.batch.specs.Walk.{follows, Continues}
 use Rattle.batch.proofs.Ways.{words-fit}
@@ -39,13 +39,13 @@ module _ (bounds : Bounds) where
   abbrev Good : Reading → Type 0
   Good r = AllSound bounds (r .tasks)
 
-  good-open : (b : Bank) (k h follow : ℕ) (go : Place → Reading) → Good (go (groupOf k h)) → Good (opened b k h follow go)
+  good-open : (b : Bank) (k h follow : ℕ) (go : Position → Reading) → Good (go (groupOf k h)) → Good (opened b k h follow go)
   good-open b k h follow go on = opened-all Good b k (λ f. tt) h follow go (λ l. on)
 
   good-judged : (b : Bank) (head : ℕ) (after : Reading) → Good after → Good (judged (taskFault bounds (taskOf b)) b head after)
   good-judged b head after on = judged-all Good b head (λ f. tt) (taskFault bounds (taskOf b)) after (λ e. (passes bounds (taskOf b) e, on))
 
-  good-from : (b : Bank) (k : ℕ) (place : Place) (ws : List ℕ) → Good (readFrom bounds b k place ws)
+  good-from : (b : Bank) (k : ℕ) (position : Position) (ws : List ℕ) → Good (readFrom bounds b k position ws)
   unfolding readFrom
   good-from b k start [] = tt
   good-from b k start (h ∷ ws) = good-open b k h (length ws) (onFrom bounds b k ws) (good-from b (k + 1) (groupOf k h) ws)
@@ -80,11 +80,11 @@ some : (count follow : ℕ) → badLength count follow ≡ false → (0 < count)
 some zero follow e = absurd (eqb-false 0 0 (or-false (eqb 0 0) (ltb follow 0) e .0) refl)
 some (suc n) follow e = (omega arith, ltb-false follow (suc n) (or-false (eqb (suc n) 0) (ltb follow (suc n)) e .1))
 
-abbrev Few : Place → List ℕ → Reading → Type 0
+abbrev Few : Position → List ℕ → Reading → Type 0
 Few start ws r = 2 * length (r .tasks) ≤ length ws
 Few (inside left offset ends head) ws r = left ≤ length ws → 2 * length (r .tasks) + left ≤ length ws + 2
 
-few-open : (b : Bank) (k h : ℕ) (ws : List ℕ) (go : Place → Reading) → Few (groupOf k h) ws (go (groupOf k h)) → 2 * length (opened b k h (length ws) go .tasks) ≤ length (h ∷ ws)
+few-open : (b : Bank) (k h : ℕ) (ws : List ℕ) (go : Position → Reading) → Few (groupOf k h) ws (go (groupOf k h)) → 2 * length (opened b k h (length ws) go .tasks) ≤ length (h ∷ ws)
 few-open b k h ws go on =
     opened-all (λ r. 2 * length (r .tasks) ≤ length (h ∷ ws)) b k (λ f. omega arith) h (length ws) go
     (λ l. let c = some (field 15 2 h) (length ws) l in omega (arith, on (c .1)))
@@ -93,7 +93,7 @@ few-judged : (b : Bank) (check : Check) (head : ℕ) (after : Reading) (n : ℕ)
 few-judged b check head after n on =
     judged-all (λ r. 2 * length (r .tasks) + 0 ≤ n + 2) b head (λ f. omega arith) check after (λ e. omega arith)
 
-few-from : (bounds : Bounds) (b : Bank) (k : ℕ) (place : Place) (ws : List ℕ) → Few place ws (readFrom bounds b k place ws)
+few-from : (bounds : Bounds) (b : Bank) (k : ℕ) (position : Position) (ws : List ℕ) → Few position ws (readFrom bounds b k position ws)
 unfolding readFrom
 few-from bounds b k start [] = omega arith
 few-from bounds b k start (h ∷ ws) = few-open b k h ws (onFrom bounds b k ws) (few-from bounds b (k + 1) (groupOf k h) ws)
@@ -144,14 +144,14 @@ status-fits bounds bank ring offset size small =
 
 -- ---- as many tasks as marks
 
-abbrev Met : Place → List ℕ → Reading → Type 0
+abbrev Met : Position → List ℕ → Reading → Type 0
 Met start ws r = r .ending ≡ finished → length (r .tasks) ≡ marksFrom 0 ws
 Met (inside left offset ends head) ws r = r .ending ≡ finished → length (r .tasks) ≡ cond ends 1 0 + marksFrom left ws
 
 stopped : {A : Type 0} {f : Fault} {o : ℕ} → faulty f o ≡ finished → A
 stopped e = absurd (let z : _≡_ {A = ℕ} 0 1 = cc in omega arith)
 
-met-open : (b : Bank) (k h : ℕ) (ws : List ℕ) (go : Place → Reading) → Met (groupOf k h) ws (go (groupOf k h)) → Met start (h ∷ ws) (opened b k h (length ws) go)
+met-open : (b : Bank) (k h : ℕ) (ws : List ℕ) (go : Position → Reading) → Met (groupOf k h) ws (go (groupOf k h)) → Met start (h ∷ ws) (opened b k h (length ws) go)
 unfolding marksFrom
 met-open b k h ws go on = opened-all (Met start (h ∷ ws)) b k (λ f e. stopped e) h (length ws) go (λ l. on)
 
@@ -159,7 +159,7 @@ met-judged : (b : Bank) (check : Check) (head : ℕ) (after : Reading) (ws : Lis
 met-judged b check head after ws on offset =
     judged-all (Met (inside 0 offset true head) ws) b head (λ f e. stopped e) check after (λ fine e. omega (arith, on e))
 
-met-from : (bounds : Bounds) (b : Bank) (k : ℕ) (place : Place) (ws : List ℕ) → Met place ws (readFrom bounds b k place ws)
+met-from : (bounds : Bounds) (b : Bank) (k : ℕ) (position : Position) (ws : List ℕ) → Met position ws (readFrom bounds b k position ws)
 unfolding readFrom marksFrom
 met-from bounds b k start [] = λ e. refl
 met-from bounds b k start (h ∷ ws) = met-open b k h ws (onFrom bounds b k ws) (met-from bounds b (k + 1) (groupOf k h) ws)

@@ -44,9 +44,9 @@ andThen task rest = record { tasks = task ∷ rest .tasks; ending = rest .ending
 
 -- where the walk stands: before a task's first group; or in the group whose header is word `head`, with this many of its words
 -- to come, the next of them for the register at `offset`, and whether the group ends the task
-pub data Place : Type 0 where
-  start : Place
-  inside : (left offset : ℕ) (ends : Bool) (head : ℕ) → Place
+pub data Position : Type 0 where
+  start : Position
+  inside : (left offset : ℕ) (ends : Bool) (head : ℕ) → Position
 
 -- header bit 1, 16 or 17 set
 abbrev pub reservedBits : ℕ → Bool
@@ -58,11 +58,11 @@ badLength count follow = eqb count 0 || ltb follow count
 
 -- the group of the header at word k: bits 31:16 are the first register's offset, bits 15:2 with two zero bits the length in bytes
 -- of the group's words, so 15:2 their number, and bit 0 says that the group ends the task
-abbrev pub groupOf : ℕ → ℕ → Place
+abbrev pub groupOf : ℕ → ℕ → Position
 groupOf k header = inside (field 15 2 header) (field 31 16 header) (eqb (field 0 0 header) 1) k
 
 -- word k is a header, and `follow` words follow it: 20, 21
-abbrev pub opened : Bank → ℕ → ℕ → ℕ → (Place → Reading) → Reading
+abbrev pub opened : Bank → ℕ → ℕ → ℕ → (Position → Reading) → Reading
 opened bank k header follow go =
     cond (reservedBits header) (done bank (faulty ReservedBits (4 * k)))
     (cond (badLength (field 15 2 header) follow) (done bank (faulty GroupLength (4 * k)))
@@ -79,10 +79,10 @@ judged Fine bank head rest = andThen (taskOf bank) rest
 judged (Wrong f) bank head rest = done bank (faulty f (4 * head))
 
 -- the words from word k on. The bank is kept from group to group and from task to task
-unfoldable pub readFrom : Bounds → Bank → ℕ → Place → List ℕ → Reading
+unfoldable pub readFrom : Bounds → Bank → ℕ → Position → List ℕ → Reading
 -- before a task: the batch is at its end, or a header follows
 readFrom bounds bank k start [] = done bank finished
-readFrom bounds bank k start (h ∷ ws) = opened bank k h (length ws) (λ place. readFrom bounds bank (k + 1) place ws)
+readFrom bounds bank k start (h ∷ ws) = opened bank k h (length ws) (λ position. readFrom bounds bank (k + 1) position ws)
 -- in a group: its next word. That none follows is ruled out by 21
 readFrom bounds bank k (inside (suc n) offset ends head) [] = done bank (faulty GroupLength (4 * head))
 readFrom bounds bank k (inside (suc n) offset ends head) (w ∷ ws) =
@@ -90,13 +90,13 @@ readFrom bounds bank k (inside (suc n) offset ends head) (w ∷ ws) =
 -- after a group that does not end the task: 22 if it was the last, else the next header
 readFrom bounds bank k (inside zero offset false head) [] = done bank (faulty OpenTask (4 * head))
 readFrom bounds bank k (inside zero offset false head) (h ∷ ws) =
-    opened bank k h (length ws) (λ place. readFrom bounds bank (k + 1) place ws)
+    opened bank k h (length ws) (λ position. readFrom bounds bank (k + 1) position ws)
 -- after a group that ends the task: it is judged, and then the batch is at its end, or a header follows
 readFrom bounds bank k (inside zero offset true head) [] =
     judged (taskFault bounds (taskOf bank)) bank head (done bank finished)
 readFrom bounds bank k (inside zero offset true head) (h ∷ ws) =
     judged (taskFault bounds (taskOf bank)) bank head
-    (opened bank k h (length ws) (λ place. readFrom bounds bank (k + 1) place ws))
+    (opened bank k h (length ws) (λ position. readFrom bounds bank (k + 1) position ws))
 
 -- a batch of these words, read from this bank on
 abbrev pub readBatch : Bounds → Bank → List ℕ → Reading

@@ -24,7 +24,7 @@ use Rattle.transform.specs.Transform.{rotatedSize, sourceOf}
 use Rattle.surface.specs.Surface.{span}
 use Rattle.register.specs.Bank.{resetBank}
 use Rattle.rules.specs.declared.task.Bounds.{Bounds}
-use Rattle.batch.specs.Batch.{Place, start, inside, groupOf, readBatch, verdictOf, statusOf}
+use Rattle.batch.specs.Batch.{Position, start, inside, groupOf, readBatch, verdictOf, statusOf}
 
 -- a row: what is computed, and what the paper says
 infix 70 _gives_
@@ -42,7 +42,7 @@ said ((c gives s) ∷ rows) = s ∷ said rows
 -- ---- numbers of what is computed
 
 -- a header's offset, its length in bytes, and 1 if it ends the task
-abbrev pub group : Place → List ℕ
+abbrev pub group : Position → List ℕ
 group start = []
 group (inside left offset ends head) = offset ∷ 4 * left ∷ cond ends 1 0 ∷ []
 

@@ -26,11 +26,11 @@ use Rattle.engine.specs.declared.Outcome.{Outcome}
 use Rattle.engine.specs.declared.Outcome.the-variants.{Refused, Completed}
 use Rattle.engine.specs.declared.Ran.{Ran}
 
--- when run is refused; given and lent: the lengths of the ring and of the memory that are lent
-abbrev pub runTable : Record → (given lent : ℕ) → List Row
-runTable engine given lent =
+-- when run is refused; ring and memory: the lengths of those that are lent
+abbrev pub runTable : Record → (ring memory : ℕ) → List Row
+runTable engine ring memory =
     11 when not (valid engine)
-    ∷ 10 when (not (eqb given (engine .setup .ring)) || not (eqb lent (engine .setup .memory)))
+    ∷ 10 when (not (eqb ring (engine .setup .ring)) || not (eqb memory (engine .setup .memory)))
     ∷ 9 when eqb (takenSlots engine) 0
     ∷ []
 

@@ -10,7 +10,7 @@ use Rattle.surface.specs.Surface.{span}
 use Rattle.ppm.specs.declared.rectangle.Rectangle.{Rectangle}
 use Rattle.ppm.specs.declared.rectangle.Rectangle.the-variants.{Inside, Outside}
 
--- "a side outside 1 to 4,096"
+-- 1 to 4,096, as fault 25 leaves them
 abbrev pub isSide : ℕ → Bool
 isSide side = leb 1 side && leb side 4096
 

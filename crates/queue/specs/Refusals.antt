@@ -36,11 +36,11 @@ openTable engine w =
     ∷ 4 when badWindow (engine .setup) (openWindows engine) w
     ∷ []
 
--- submit; given: the length of the lent ring; size: the batch's length
-abbrev pub submitTable : Record → (given client size : ℕ) → List Row
-submitTable engine given client size =
+-- submit; lent: the length of the ring that is lent; size: the batch's length
+abbrev pub submitTable : Record → (lent client size : ℕ) → List Row
+submitTable engine lent client size =
     11 when not (valid engine)
-    ∷ 10 when not (eqb given (engine .setup .ring))
+    ∷ 10 when not (eqb lent (engine .setup .ring))
     ∷ 5 when not (isOpen engine client)
     ∷ 6 when badLength (engine .setup .ring) size
     ∷ 7 when leb 8 (takenSlots engine)

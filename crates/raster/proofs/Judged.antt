@@ -8,7 +8,7 @@ use Rattle.surface.specs.declared.Surface.{Surface}
 use Rattle.register.specs.declared.task.Task.{Task}
 use Rattle.rules.specs.declared.task.Bounds.{Bounds}
 use Rattle.rules.specs.Rules.{commonOf}
-use Rattle.rules.specs.Sound.{Rows, Within, InReach, Sound}
+use Rattle.rules.proofs.Sound.{Rows, Within, InReach, Sound}
 use Rattle.rules.proofs.Bytes.{source-not-written, destination-not-written}
 use Rattle.raster.specs.Clear.{Rectangle, Clear, Drawable, Below}
 

@@ -17,7 +17,7 @@ use Rattle.register.specs.declared.task.Task.{Task}
 use Rattle.register.specs.Size.{sizeOf}
 use Rattle.rules.specs.declared.task.Bounds.{Bounds}
 use Rattle.rules.specs.Rules.{commonOf}
-use Rattle.rules.specs.Sound.{Within, Sound, AllSound}
+use Rattle.rules.proofs.Sound.{Within, Sound, AllSound}
 use Rattle.batch.specs.Batch.{readBatch, tasksDrawn}
 use Rattle.batch.proofs.Tasks.{drawn-sound}
 use Rattle.model.specs.Windows.{Window}

@@ -8,7 +8,7 @@ use Rattle.surface.proofs.Outside.{length-drawnOn, outside-rows, inside-row}
 use Rattle.register.specs.declared.bank.Bank.{Bank}
 use Rattle.register.specs.declared.task.Task.{Task}
 use Rattle.rules.specs.declared.task.Bounds.{Bounds}
-use Rattle.rules.specs.Sound.{Sound, AllSound}
+use Rattle.rules.proofs.Sound.{Sound, AllSound}
 use Rattle.batch.specs.Batch.{readBatch, tasksDrawn}
 use Rattle.batch.proofs.Tasks.{drawn-sound}
 use Rattle.raster.specs.Task.{drawTask, drawTasks}

@@ -13,7 +13,7 @@ use Rattle.surface.proofs.Outside.{byte-in-span}
 use Rattle.register.specs.declared.task.Task.{Task}
 use Rattle.rules.specs.declared.task.Bounds.{Bounds}
 use Rattle.rules.specs.Rules.{reads, commonOf}
-use Rattle.rules.specs.Sound.{Within, InReach, Apart, Sound}
+use Rattle.rules.proofs.Sound.{Within, InReach, Apart, Sound}
 
 -- each byte of a run that lies within another is one of the other's
 pub within-holds : (r q : Range) → Within r q → (i : ℕ) → Holds r i → Holds q i

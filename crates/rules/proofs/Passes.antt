@@ -27,7 +27,7 @@ use Rattle.rules.specs.declared.task.Bounds.{Bounds}
 use Rattle.rules.specs.declared.task.Check.{Check}
 use Rattle.rules.specs.declared.task.Check.the-variants.{Fine, Wrong}
 use Rattle.rules.specs.Rules.{reads, badSide, badSides, badStride, badSource, badOutput, badDestination, badSurface, isUpright, turnedColour, turnedSize, sameSize, sizeMismatch, commonOf, inWindow, inReach, outOfBounds, sameFormat, samePlace, overlap, taskFault}
-use Rattle.rules.specs.Sound.{Sides, Rows, InReach, Apart, SoundSource, SoundDestination, Sound}
+use Rattle.rules.proofs.Sound.{Sides, Rows, InReach, Apart, SoundSource, SoundDestination, Sound}
 
 -- a rule that is not broken, and those after it
 passed : (b : Bool) (f : Fault) (rest : Check) → cond b (Wrong f) rest ≡ Fine → (b ≡ false) × (rest ≡ Fine)

@@ -1,7 +1,7 @@
 -- The faults of a batch (01, "Faults of a taken batch"): the paper's number and status word of each case of the code's enum.
 use Prim.Native.Nat.{ℕ}
 use Rattle.register.specs.declared.bank.WriteFault.{WriteFault}
-use Rattle.register.specs.declared.bank.WriteFault.the-variants.{NotWritable as Unwritable, Forbidden as Refused}
+use Rattle.register.specs.declared.bank.WriteFault.the-variants.{NotWritable as Unwritable, Forbidden as NotAllowed}
 use Rattle.rules.specs.declared.fault.Fault.{Fault}
 use Rattle.rules.specs.declared.fault.Fault.the-variants.{ReservedBits, GroupLength, OpenTask, NotWritable, Forbidden, BadSurface, SizeMismatch, OutOfBounds, Overlap}
 
@@ -39,4 +39,4 @@ faultStatus Overlap = 0x00000002
 -- the fault of a word that is not written
 abbrev pub writeFault : WriteFault → Fault
 writeFault Unwritable = NotWritable
-writeFault Refused = Forbidden
+writeFault NotAllowed = Forbidden

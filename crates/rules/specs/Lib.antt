@@ -1,4 +1,3 @@
 -- The faults of a batch, and the rules of a task.
 pub mod Faults
 pub mod Rules
-pub mod Sound
