@@ -1,0 +1,99 @@
+-- What is answered of each record of a replay file (01, "Writer and replay": the program "submits each record and, if accepted, runs it. Each
+-- prints one line"), whatever records went before it. Ring and memory at the start are any of the program's lengths; the program's are zero.
+-- No run is refused, and of submit's refusals only 5 and 6 come: nothing waits when a record is submitted. proofs/Answered.antt proves `Promise`.
+use mathlib.Core.Path.{_≡_}
+use mathlib.Core.List.{List, [], _∷_, _++_}
+use mathlib.Core.Bool.{cond}
+use Prim.Native.Nat.{ℕ, _+_, _*_, _%_}
+use lib.ListN.{length}
+use lib.Dec.{eqb, ltb}
+use Rattle.model.specs.Windows.{Window, window}
+use Rattle.model.specs.Calls.{submit, run, Verdict, Answer, accepted, completed}
+use Rattle.model.specs.Refusals.{badLength}
+use Rattle.claims.specs.OfModel.{real}
+use Rattle.claims.specs.Engine.{State, Called, told, called}
+use Rattle.replay.specs.Records.{Entry, Ending, File}
+use Rattle.replay.specs.Lines.{setup, started, served, answerLine, entryLine, endingLine, lines}
+
+-- ---- a record by itself
+
+-- 01, the table: 5 "no such desk", of which there are 0 to 3; 6 "length 0, no multiple of 4, or over the ring length"; 0 for neither
+abbrev pub refusal : Entry → ℕ
+refusal entry = cond (ltb 3 (entry .client)) 5 (cond (badLength setup (length (entry .batch))) 6 0)
+
+-- "four windows of 12,288", after the 16,384 bytes of common
+abbrev pub windowOf : (client : ℕ) → Window
+windowOf client = window (16384 + client * 12288) 12288
+
+-- status, fault and offset of the record's own batch, judged in its own client's window
+abbrev pub verdict : Entry → Verdict
+verdict entry = real .verdict (windowOf (entry .client)) 16384 (entry .batch)
+
+-- ---- after other records, of which so many were accepted
+
+-- 01, "Engine, desks, queue": "Accepted batches get tickets 0, 1, 2, ..; tickets go on from 4,294,967,295 to 0"
+abbrev pub ticketAfter : (count : ℕ) → ℕ
+ticketAfter count = count % 4294967296
+
+-- submit's refusal, or else the completion
+abbrev pub answerAfter : (count : ℕ) → Entry → Answer
+answerAfter count entry = told (refusal entry) (completed (entry .client) (ticketAfter count) (verdict entry))
+
+-- the count after it: a refused record takes no ticket
+abbrev pub countAfter : (count : ℕ) → Entry → ℕ
+countAfter count entry = count + cond (eqb (refusal entry) 0) 1 0
+
+-- what is printed of these records and the file's end: no engine is asked
+unfoldable pub toldAfter : (count : ℕ) → List Entry → Ending → List ℕ
+toldAfter count [] ending = endingLine ending
+toldAfter count (entry ∷ entries) ending = answerLine (entry .client) (answerAfter count entry) ++ toldAfter (countAfter count entry) entries ending
+
+-- ---- lines
+
+-- the line feeds in a text
+unfoldable pub lineFeeds : List ℕ → ℕ
+lineFeeds [] = 0
+lineFeeds (byte ∷ bytes) = cond (eqb byte 10) 1 0 + lineFeeds bytes
+
+-- a text with one line feed, at its end
+pub record OneLine (text : List ℕ) : Type 0 where
+  pub inner : List ℕ
+  pub ended : text ≡ inner ++ (10 ∷ [])
+  pub unbroken : lineFeeds inner ≡ 0
+
+-- ---- the promise
+
+-- how many of these records are accepted
+unfoldable pub acceptedFrom : (count : ℕ) → List Entry → ℕ
+acceptedFrom count [] = count
+acceptedFrom count (entry ∷ entries) = acceptedFrom (countAfter count entry) entries
+
+-- record, ring and memory after them
+unfoldable pub servedAll : List Entry → State → State
+servedAll [] s = s
+servedAll (entry ∷ entries) s = servedAll entries (served entry s .after)
+
+module _ (ring memory : List ℕ) (before : List Entry) (entry : Entry) where
+  abbrev pub count : ℕ
+  count = acceptedFrom 0 before
+
+  abbrev pub reached : State
+  reached = servedAll before (started ring memory)
+
+  abbrev pub submitted : Called
+  submitted = called (submit (entry .client) (entry .batch)) reached
+
+  pub record Answered : Type 0 where
+    -- submit refuses the record for itself alone, or gives it the next ticket
+    pub submits : submitted .answer ≡ told (refusal entry) (accepted (ticketAfter count))
+    -- "if accepted, runs it": run completes this record, for its own client, with the ticket that submit gave
+    pub runs : (ticket : ℕ) → submitted .answer ≡ accepted ticket → called run (submitted .after) .answer ≡ completed (entry .client) ticket (verdict entry)
+    -- so this is what its line tells
+    pub answers : served entry reached .answer ≡ answerAfter count entry
+    pub one-line : OneLine (entryLine entry reached)
+
+pub record Promise : Type 0 where
+  pub each : (ring memory : List ℕ) → length ring ≡ 32768 → length memory ≡ 65536 → (before : List Entry) (entry : Entry) → Answered ring memory before entry
+  -- the program's text, from the first record to the end of the file; and how many lines it has
+  pub text : (file : File) → lines file ≡ toldAfter 0 (file .entries) (file .ending)
+  pub line-count : (file : File) → lineFeeds (lines file) ≡ length (file .entries) + lineFeeds (endingLine (file .ending))
