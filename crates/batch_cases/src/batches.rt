@@ -3,17 +3,13 @@ use crate::registers;
 use batch::Judgement;
 use batch::Step;
 use cases::payload;
-use range::Range;
 use register::Bank;
 use rules::Bounds;
 use text::line;
 
 fn bounds(given: &[u8]) -> Bounds {
     Bounds {
-        window: Range::new(
-            payload::word_or_zero(given, 56),
-            payload::word_or_zero(given, 60),
-        ),
+        window: payload::run_or_zero(given, 56),
         common: payload::long_or_zero(given, 64) as usize,
     }
 }
@@ -56,20 +52,10 @@ fn repeat(ring: &mut [u8], bytes: &[u8], times: u32) -> usize {
     let mut at = 0;
     let mut left = times;
     while left > 0 {
-        at = append(ring, at, bytes);
+        at = line::append(ring, at, bytes);
         left -= 1;
     }
     at
-}
-
-fn append(ring: &mut [u8], at: usize, bytes: &[u8]) -> usize {
-    let mut i = 0;
-    let mut n = at;
-    while i < bytes.len() {
-        n = line::push(ring, n, bytes[i]);
-        i += 1;
-    }
-    n
 }
 
 // What the walk has found so far.

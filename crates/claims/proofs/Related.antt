@@ -17,7 +17,6 @@ use Rattle.record.specs.Rules.{valid}
 use Rattle.record.proofs.Windows.{length-windows, window-is}
 use Rattle.record.proofs.Rules.{Valid, valid-facts, sum-waiting, length-waiting}
 use Rattle.queue.proofs.Kept.{Sized, few-taken}
-use Rattle.model.specs.Windows.{window}
 use Rattle.model.specs.Calls.{Setup}
 use Rattle.model.specs.State.{Model, totalBytes, countOf, windowOf}
 use Rattle.claims.specs.Engine.{State}

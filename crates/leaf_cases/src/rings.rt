@@ -1,6 +1,4 @@
 // Cases of batches in the ring.
-ghost use Prim.Native.Nat.{_≤_};
-ghost use lib.ListN.{length};
 use cases::payload;
 use ring::Read;
 use text::line;
@@ -86,21 +84,11 @@ fn copy_from(given: &mut [u8], batch: &mut [u8], line: &mut [u8]) -> usize {
     if given.len() < end {
         return line::refused(line);
     }
-    let n = move_to(batch, &given[end..]);
-    copy_to(&mut given[10..end], offset, &batch[0..n], line)
-}
-
-// Copies what fits, and answers how much.
-fn move_to(to: &mut [u8], from: &[u8]) -> usize
-    ensures { λ r. ⌜ r ≤ length (now (to .exit)) ⌝ }
-{
-    let n = range::least(to.len(), from.len());
-    let mut i = 0;
-    while i < n {
-        to[i] = from[i];
-        i += 1;
+    let n = line::copy(batch, &given[end..]);
+    if batch.len() < n {
+        return line::refused(line);
     }
-    n
+    copy_to(&mut given[10..end], offset, &batch[0..n], line)
 }
 
 fn copy_to(ring: &mut [u8], offset: usize, batch: &[u8], line: &mut [u8]) -> usize {
@@ -111,5 +99,5 @@ fn copy_to(ring: &mut [u8], offset: usize, batch: &[u8], line: &mut [u8]) -> usi
         return line::refused(line);
     }
     ring::copy_in(ring, offset, batch);
-    line::hex_all(line, ring)
+    line::hex_all(line, 0, ring)
 }

@@ -57,7 +57,7 @@ fn put_le32(bytes: &mut [u8], at: usize, word: u32, line: &mut [u8]) -> usize {
         return line::refused(line);
     }
     word::write_le32(bytes, at, word);
-    line::hex_all(line, bytes)
+    line::hex_all(line, 0, bytes)
 }
 
 fn write_be32(given: &mut [u8], line: &mut [u8]) -> usize {
@@ -77,7 +77,7 @@ fn put_be32(bytes: &mut [u8], at: usize, word: u32, line: &mut [u8]) -> usize {
         return line::refused(line);
     }
     word::write_be32(bytes, at, word);
-    line::hex_all(line, bytes)
+    line::hex_all(line, 0, bytes)
 }
 
 fn bits(given: &[u8], line: &mut [u8]) -> usize {

@@ -5,7 +5,7 @@ use mathlib.Core.List.{List, [], _∷_, _++_}
 use mathlib.Core.Bool.{Bool, cond}
 use Prim.Native.Nat.{ℕ, zero, suc, _+_, _%_}
 use native.Mathlib.Omega.{arith}
-use lib.ListN.{length, take, getD, set, length-set, replicate}
+use lib.ListN.{take, getD, set, length-set, replicate}
 use lib.Dec.{ltb}
 use borrow.Rule.Slice.PartMut.{midOf, putMid}
 use Rattle.model.specs.Windows.{window, byte, overlapAny}

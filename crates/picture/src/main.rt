@@ -9,18 +9,6 @@ fn complain(text: &[u8]) {
     io::write_all(libc::STDERR_FILENO, text);
 }
 
-// The first n bytes of `out` on standard output. Answers whether that went well; what did fail is told on standard error.
-fn print(out: &[u8], n: usize) -> bool {
-    if out.len() < n {
-        return false;
-    }
-    let is_written = io::write_all(libc::STDOUT_FILENO, &out[..n]);
-    if !is_written {
-        os::fail(b"standard output");
-    }
-    is_written
-}
-
 // What is wrong with the arguments, and how to give them.
 fn refuse(what: &[u8], why: &[u8]) {
     complain(what);
@@ -86,7 +74,7 @@ fn write_rows(memory: &[u8], s: Surface) {
     let mut well = true;
     while y < height && well {
         let n = ppm::row(memory, s, y, &mut out);
-        well = print(&out, n);
+        well = replay_io::print(&out, n);
         y += 1;
     }
 }
@@ -94,7 +82,7 @@ fn write_rows(memory: &[u8], s: Surface) {
 fn write_picture(memory: &[u8], s: Surface) {
     let mut line = [0u8; 64];
     let n = ppm::header(&mut line, s.width as u32, s.height as u32);
-    if print(&line, n) {
+    if replay_io::print(&line, n) {
         write_rows(memory, s);
     }
 }

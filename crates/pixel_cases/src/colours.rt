@@ -25,5 +25,5 @@ pub fn colour_or_zero(given: &[u8], at: u8) -> Colour
 pub fn hex_colour(line: &mut [u8], c: Colour) -> usize
     ensures { λ r. ⌜ lineOf (now (line .exit)) r ≡ typed (lineOf (now (line .entry)) 0) (hexBytes (c .alpha ∷ c .red ∷ c .green ∷ c .blue ∷ [])) ⌝ }
 {
-    line::hex_all(line, &[c.alpha, c.red, c.green, c.blue])
+    line::hex_all(line, 0, &[c.alpha, c.red, c.green, c.blue])
 }

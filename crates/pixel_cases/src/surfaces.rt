@@ -128,5 +128,5 @@ fn store_at(memory: &mut [u8], at: usize, format: Format, c: Colour, line: &mut 
         return line::refused(line);
     }
     surface::store(memory, at, format, c);
-    line::hex_all(line, memory)
+    line::hex_all(line, 0, memory)
 }

@@ -4,18 +4,13 @@ use mathlib.Core.Bool.{Bool, true, false, _&&_}
 use mathlib.Core.List.{List, [], _∷_}
 use Prim.Native.Nat.{ℕ, suc, _+_, _-_, _*_, _≤_, _<_}
 use native.Mathlib.Omega.{arith}
-use native.Mathlib.Numerals.{add-one}
 use lib.ListN.{length, getD, drop, drop-of-length-le}
-use lib.Seq.{drop-cons}
 use lib.Dec.{eqb, ltb}
 use borrow.Author.Tests.{lt-ltb, le-ltb, ltb-false, eq-eqb, ne-eqb}
 use Rattle.word.proofs.Tests.{and-false}
+use Rattle.text.proofs.Typing.{rest-next}
 use Rattle.ppm.specs.declared.words.Number.the-variants.{Value, Wrong}
 use Rattle.ppm.specs.Words.{isDigit, allDigits, spelled, numberOf, small, isWord}
-
--- the rest of a list is its next element and what follows that
-next : (xs : List ℕ) (i : ℕ) → i < length xs → drop i xs ≡ getD xs i 0 ∷ drop (i + 1) xs
-next xs i h = rw (add-one, drop-cons xs i 0)
 
 -- ---- numbers
 
@@ -57,16 +52,16 @@ module _ (text : List ℕ) (value i : ℕ) (so : Read text value i) where
 
     number-on : spelled 0 text ≡ spelled more (drop (i + 1) text)
     unfolding spelled
-    number-on = so .number ∙ rw (next text i h)
+    number-on = so .number ∙ rw (rest-next text i h)
 
     pub read-more : isDigit byte ≡ true → Read text more (i + 1)
     unfolding allDigits
-    read-more d = record { digits = so .digits ∙ rw (next text i h, d); number = number-on }
+    read-more d = record { digits = so .digits ∙ rw (rest-next text i h, d); number = number-on }
 
     not-digit : isDigit byte ≡ false → numberOf text ≡ Wrong
     unfolding numberOf allDigits
     not-digit d =
-        let e : allDigits text ≡ false = so .digits ∙ rw (next text i h, d) in
+        let e : allDigits text ≡ false = so .digits ∙ rw (rest-next text i h, d) in
         rw (e, no-second (ltb 0 (length text)) (ltb (spelled 0 text) 4294967296))
 
     too-large : 4294967296 ≤ more → numberOf text ≡ Wrong
@@ -107,7 +102,7 @@ word-lengths (t ∷ text) (w ∷ word) ne = rw (word-lengths text word (λ e. ne
 module _ (text word : List ℕ) (i : ℕ) (h : i < length text) (same : length text ≡ length word) where
   word-next : isWord (drop i text) (drop i word) ≡ eqb (small (getD text i 0)) (getD word i 0) && isWord (drop (i + 1) text) (drop (i + 1) word)
   unfolding isWord
-  word-next = rw (next text i h, next word i (omega arith))
+  word-next = rw (rest-next text i h, rest-next word i (omega arith))
 
   pub word-differs : (small (getD text i 0) ≡ getD word i 0 → ⊥) → isWord (drop i text) (drop i word) ≡ false
   word-differs ne = word-next ∙ rw (ne-eqb (small (getD text i 0)) (getD word i 0) ne)

@@ -1,7 +1,7 @@
 // The calls that don't draw: set up, open, submit and pending.
 ghost use mathlib.Core.Path.{_≡_};
 ghost use mathlib.Core.Bool.{true, cond};
-ghost use Prim.Native.Nat.{_+_, _≤_, _<_};
+ghost use Prim.Native.Nat.{_≤_, _<_};
 ghost use lib.ListN.{length, getD, set};
 ghost use Rattle.record.specs.Slots.{ready, lowestFree, readyWith};
 ghost use Rattle.record.specs.Tickets.{ticketAfter};

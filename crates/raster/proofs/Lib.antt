@@ -13,5 +13,3 @@ pub mod Outside
 pub mod Judged
 -- a batch drawn a step of the walk at a time
 pub mod Fold
--- what is drawn goes by window and common alone (demand 3)
-pub mod Local

@@ -4,13 +4,13 @@ use mathlib.Core.Bool.{Bool, true, false, cond, _&&_}
 use mathlib.Core.Logic.{_⊎_, inl, inr}
 use mathlib.Core.List.{List, [], _∷_, _++_, append-assoc, append-nil}
 use Prim.Native.Nat.{ℕ, zero, suc, _+_, _-_, _≤_, _<_, min}
-use native.Mathlib.Nat.{add-zero}
 use native.Mathlib.Omega.{arith}
-use lib.ListN.{length, getD, take, drop, length-append, length-take, take-append-drop}
+use lib.ListN.{length, getD, take, drop, length-append, length-take}
 use lib.Seq.{length-take-le, take-all, take-append-seam}
 use lib.Dec.{eqb, leb, ltb}
 use borrow.Author.Tests.{le-leb, lt-leb, leb-true, ltb-true}
 use Rattle.word.specs.Splice.{spliced}
+use Rattle.word.proofs.Splice.{spliced-none}
 use Rattle.word.proofs.Tests.{split, and-true}
 use Rattle.ring.specs.Copied.{copied}
 use Rattle.ring.proofs.Copied.{copied-one}
@@ -33,10 +33,6 @@ sufficing r held line e =
     let last = and-true (leb 32773 (length held) && leb 128 (length line)) (ltb (r .held) 32773) e in
     let both = and-true (leb 32773 (length held)) (leb 128 (length line)) (last .0) in
     (leb-true 32773 (length held) (both .0), leb-true 128 (length line) (both .1), ltb-true (r .held) 32773 (last .1))
-
-spliced-none : (at : ℕ) (xs : List ℕ) → spliced at [] xs ≡ xs
-unfolding spliced
-spliced-none at xs = rw (add-zero at) (take-append-drop at xs)
 
 -- ---- the bytes held after a step: none, or those before it and those that it keeps
 

@@ -14,6 +14,7 @@ use Rattle.replay.specs.declared.Fed.{Fed}
 use Rattle.replay.specs.Step.{Position, step}
 use Rattle.replay.specs.Cutting.{Printed, after, fedFrom}
 use Rattle.replay.specs.Calls.{positionOf, Prints, suffice, fedStep, Feeds}
+use Rattle.replay.proofs.Printing.{prints-none}
 use Rattle.replay_io.specs.Gather.{Gathers}
 
 -- ---- the buffer
@@ -48,9 +49,6 @@ unfolding fedFrom
 fed-more fuel q [] h = absurd (omega arith)
 fed-more fuel q (byte ∷ more) h = refl
 
-after-none : (x : Printed) → after [] x ≡ x
-after-none x = refl
-
 after-after : (a b : List ℕ) (x : Printed) → after a (after b x) ≡ after (a ++ b) x
 after-after a b x = ap (λ (t : List ℕ). record { text = t; last = x .last }) (sym (append-assoc a b (x .text)))
 
@@ -71,14 +69,13 @@ one r held ring memory input line f held′ ring′ memory′ line′ e = go (su
 -- ---- one call more
 
 unfoldable pub gathers-none : (p : Position) (input out : List ℕ) → Gathers p input out 0 0 p out
-unfolding spliced
 gathers-none p input out = record {
   text = [];
   steps = 0;
   few = omega arith;
   within = omega arith;
   room = omega arith;
-  prints = record { size = refl; bytes = refl };
+  prints = prints-none out;
   onward = λ fuel. ap (λ (k : ℕ). fedFrom k p input) (zero-add fuel);
 }
 

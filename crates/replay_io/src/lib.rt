@@ -1,6 +1,10 @@
 // Replay files read from a descriptor, and their lines written to standard output: what the programs share. No contract can say
 // which bytes are read or written; that the memory is what some bytes make of it is proved.
+ghost use mathlib.Core.Path.{_≡_};
+ghost use mathlib.Core.Bool.{false};
 ghost use mathlib.Core.List.{[]};
+ghost use Prim.Native.Nat.{_<_};
+ghost use lib.ListN.{length};
 ghost use Rattle.replay.specs.declared.Stage.the-variants.{Version};
 ghost use Rattle.replay.specs.Lines.{started};
 ghost use Rattle.replay.specs.Step.{position};
@@ -55,11 +59,15 @@ fn feed_lines(
     }
 }
 
-// Writes the first n bytes of `out` to standard output, or all of them if it has fewer. Answers whether that went well; what
-// did fail is told on standard error.
-fn print(out: &[u8], n: usize) -> bool {
-    let end = if n < out.len() { n } else { out.len() };
-    let is_written = io::write_all(STDOUT_FILENO, &out[..end]);
+// Writes the first n bytes of `out` to standard output. Answers whether that went well; what did fail is told on standard error.
+// Where there are no n bytes nothing is written, and the answer is no; else it is the system's, and no contract can say which.
+pub fn print(out: &[u8], n: usize) -> bool
+    ensures { λ r. ⌜ (length (now (out .entry)) < n → r ≡ false) ⌝ }
+{
+    if out.len() < n {
+        return false;
+    }
+    let is_written = io::write_all(STDOUT_FILENO, &out[..n]);
     if !is_written {
         os::fail(b"standard output");
     }

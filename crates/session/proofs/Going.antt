@@ -6,6 +6,7 @@ use native.Mathlib.Omega.{arith}
 use lib.ListN.{length, take, drop, length-drop, take-append-drop}
 use lib.Seq.{drop-drop, take-all, length-take-le}
 use Rattle.word.specs.Splice.{spliced}
+use Rattle.word.proofs.Splice.{take-spliced, drop-spliced}
 use Rattle.model.specs.Calls.{Call, Answer, opened, accepted, completed, ready, refused}
 use Rattle.claims.specs.Engine.{State, called, answersOf, stateAfter}
 use Rattle.session.specs.declared.script.Found.{Found}
@@ -15,7 +16,7 @@ use Rattle.session.specs.Script.{parsed, next, decode}
 use Rattle.session.specs.Requests.{callOf, Reads}
 use Rattle.session.specs.Answers.{wordsOf, bytesOf, answerBytes}
 use Rattle.session.specs.Called.{Plays, PlaysAll}
-use Rattle.session.proofs.Writing.{length-bytes, take-spliced, drop-spliced}
+use Rattle.session.proofs.Writing.{length-bytes}
 
 -- ---- an answer has six words
 

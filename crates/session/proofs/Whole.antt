@@ -10,7 +10,7 @@ use lib.Dec.{eqb}
 use borrow.Author.Tests.{lt-ltb, le-ltb, eq-eqb, ne-eqb}
 use borrow.Rule.Slice.PartMut.{putMid}
 use Rattle.word.specs.Splice.{spliced}
-use Rattle.word.proofs.Splice.{length-spliced}
+use Rattle.word.proofs.Splice.{length-spliced, take-spliced, drop-spliced}
 use Rattle.queue.specs.declared.Answer.the-variants.{Set}
 use Rattle.queue.specs.declared.Reply.{Reply}
 use Rattle.queue.specs.Answers.{numberOf, valueOf, answered}
@@ -25,7 +25,7 @@ use Rattle.session.specs.Script.{decode}
 use Rattle.session.specs.Answers.{twoWords, bytesOf, answerBytes}
 use Rattle.session.specs.Called.{PlaysAll}
 use Rattle.session.specs.Played.{setUpNumber, calls, written, memoryAfter, ringAfter, Played}
-use Rattle.session.proofs.Writing.{length-bytes, take-spliced, drop-spliced}
+use Rattle.session.proofs.Writing.{length-bytes}
 use Rattle.session.proofs.Going.{rest-is, decode-none}
 
 -- ---- set up's own answer

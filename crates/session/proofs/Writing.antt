@@ -1,53 +1,15 @@
--- Words written one after the other, and what stands before and after them.
+-- Words written one after the other.
 use mathlib.Core.Path.{_≡_, refl, ap, sym, _∙_}
 use mathlib.Core.List.{List, [], _∷_, _++_, append-assoc, append-nil}
 use Prim.Native.Nat.{ℕ, _+_, _*_, _≤_, _<_}
-use native.Mathlib.Nat.{add-zero}
 use native.Mathlib.Numerals.{add-one}
 use native.Mathlib.Omega.{arith}
-use lib.ListN.{length, take, drop, getD, length-append, take-append-drop}
-use lib.Seq.{length-take-le, take-at, drop-at, drop-drop, take-suc}
+use lib.ListN.{length, take, getD}
+use lib.Seq.{length-take-le, take-suc}
 use Rattle.word.specs.Word.{leBytes}
 use Rattle.word.specs.Splice.{spliced}
+use Rattle.word.proofs.Splice.{spliced-on}
 use Rattle.session.specs.Answers.{bytesOf}
-
--- ---- bytes put in
-
-module _ (at : ℕ) (ys xs : List ℕ) (fits : at + length ys ≤ length xs) where
-  front : length (take at xs ++ ys) ≡ at + length ys
-  front = length-append (take at xs) ys ∙ ap (λ (n : ℕ). n + length ys) (length-take-le at xs (omega arith))
-
-  grouped : spliced at ys xs ≡ (take at xs ++ ys) ++ drop (at + length ys) xs
-  unfolding spliced
-  grouped = sym (append-assoc (take at xs) ys (drop (at + length ys) xs))
-
-  -- up to the end of them
-  pub take-spliced : take (at + length ys) (spliced at ys xs) ≡ take at xs ++ ys
-  take-spliced = rw grouped (take-at (take at xs ++ ys) (drop (at + length ys) xs) (at + length ys) front)
-
-  -- and past it
-  pub drop-spliced : drop (at + length ys) (spliced at ys xs) ≡ drop (at + length ys) xs
-  drop-spliced = rw grouped (drop-at (take at xs ++ ys) (drop (at + length ys) xs) (at + length ys) front)
-
--- nothing put in
-pub spliced-none : (at : ℕ) (xs : List ℕ) → spliced at (bytesOf []) xs ≡ xs
-unfolding spliced bytesOf
-spliced-none at xs = rw add-zero (take-append-drop at xs)
-
--- two runs of bytes, the second where the first ends
-pub spliced-on : (at : ℕ) (a b xs : List ℕ) → at + (length a + length b) ≤ length xs → spliced (at + length a) b (spliced at a xs) ≡ spliced at (a ++ b) xs
-unfolding spliced
-spliced-on at a b xs fits =
-    let end : at + length a + length b ≡ at + length (a ++ b) = simp length-append (omega arith) in
-    let past : drop (at + length a + length b) (spliced at a xs) ≡ drop (at + length (a ++ b)) xs =
-    sym (drop-drop (length b) (at + length a) (spliced at a xs))
-    ∙ ap (drop (length b)) (drop-spliced at a xs (omega arith))
-    ∙ drop-drop (length b) (at + length a) xs
-    ∙ ap (λ (n : ℕ). drop n xs) end
-    in
-    rw (take-spliced at a xs (omega arith), past) (simp append-assoc)
-
--- ---- words
 
 pub length-bytes : (words : List ℕ) → length (bytesOf words) ≡ 4 * length words
 unfolding bytesOf leBytes

@@ -1,7 +1,5 @@
 // Cases of drawing: a payload is the window's start and length, the common length, what the memory is made of, and the batch.
-use batch::Verdict;
 use cases::payload;
-use range::Range;
 use raster::run_batch;
 use register::Bank;
 use rules::Bounds;
@@ -24,10 +22,7 @@ fn run_in(room: &mut [u8], given: &[u8], line: &mut [u8]) -> usize {
         payload::half_or_zero(given, 16),
     );
     let bounds = Bounds {
-        window: Range::new(
-            payload::word_or_zero(given, 0),
-            payload::word_or_zero(given, 4),
-        ),
+        window: payload::run_or_zero(given, 0),
         common: payload::word_or_zero(given, 8) as usize,
     };
     drawn(memory, payload::rest(given, 18), bounds, line)

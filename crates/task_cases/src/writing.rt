@@ -96,7 +96,7 @@ fn write_from(fields: Fields, given: &mut [u8], at: usize, line: &mut [u8]) -> u
 
 fn write_to(fields: Fields, buffer: &mut [u8], line: &mut [u8]) -> usize {
     let n = line::hex_word(line, 0, number(encode(fields, buffer)));
-    hex_rest(line, n, buffer)
+    line::hex_all(line, n, buffer)
 }
 
 fn number(answer: Answer) -> u32 {
@@ -105,14 +105,4 @@ fn number(answer: Answer) -> u32 {
         Answer::Forbidden => 24,
         Answer::ShortBuffer => 12,
     }
-}
-
-fn hex_rest(line: &mut [u8], start: usize, bytes: &[u8]) -> usize {
-    let mut n = start;
-    let mut i = 0;
-    while i < bytes.len() {
-        n = line::hex(line, n, bytes[i]);
-        i += 1;
-    }
-    n
 }

@@ -60,16 +60,16 @@ pub fn hex_pair(line: &mut [u8], a: usize, b: usize) -> usize
     hex_long(line, first, b as u64)
 }
 
-pub fn hex_all(line: &mut [u8], bytes: &[u8]) -> usize
-    ensures { λ r. ⌜ lineOf (now (line .exit)) r ≡ typed (lineOf (now (line .entry)) 0) (hexBytes (now (bytes .entry))) ⌝ }
+pub fn hex_all(line: &mut [u8], n: usize, bytes: &[u8]) -> usize
+    ensures { λ r. ⌜ lineOf (now (line .exit)) r ≡ typed (lineOf (now (line .entry)) n) (hexBytes (now (bytes .entry))) ⌝ }
 {
-    let mut n = 0;
+    let mut end = n;
     let mut i = 0;
     while i < bytes.len() {
-        n = hex(line, n, bytes[i]);
+        end = hex(line, end, bytes[i]);
         i += 1;
     }
-    n
+    end
 }
 
 // Text as it is.

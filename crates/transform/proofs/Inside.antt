@@ -1,5 +1,5 @@
 -- Every output pixel comes from a pixel of the source.
-use Prim.Native.Nat.{ℕ, _-_, _<_}
+use Prim.Native.Nat.{ℕ, _<_}
 use mathlib.Core.Bool.{Bool, true, false}
 use native.Mathlib.Omega.{arith}
 use Rattle.transform.specs.declared.Rotation.{Rotation}

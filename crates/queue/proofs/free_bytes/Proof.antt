@@ -1,4 +1,3 @@
-use Prim.Native.Nat.{_-_}
 use native.Mathlib.Omega.{arith}
 use Rattle.queue.proofs.Room.{bytes-within, bytes-small}
 use borrow.Author.Needs.{needs}

@@ -1,5 +1,4 @@
 use mathlib.Core.Path.{refl}
-use Prim.Native.Nat.{_-_}
 use Rattle.queue.specs.Calls.{fresh}
 use Rattle.queue.proofs.fresh_record.Statement.{statement}
 use Rattle.queue.proofs.fresh_record.Tie as tie

@@ -1,6 +1,4 @@
 use mathlib.Core.Path.{sym, _∙_}
-use Prim.Native.Nat.{_-_}
-use lib.ListN.{length}
 use native.Mathlib.Omega.{arith}
 use Rattle.queue.proofs.Calls.{open-refused, open-done}
 use Rattle.queue.proofs.Refusals.{OpenAllowed, open-allowed}

@@ -1,5 +1,4 @@
 use mathlib.Core.Path.{sym, _∙_}
-use Prim.Native.Nat.{_-_}
 use Rattle.queue.proofs.Calls.{pending-refused, pending-done}
 use Rattle.queue.proofs.Refusals.{PendingAllowed, pending-allowed}
 use Rattle.queue.proofs.Room.{client-small, pending-right}

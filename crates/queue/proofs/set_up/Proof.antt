@@ -1,4 +1,3 @@
-use Prim.Native.Nat.{_-_}
 use Rattle.queue.proofs.Calls.{set-up-done, set-up-refused}
 use borrow.Author.Needs.{needs}
 use Rattle.queue.proofs.set_up.Statement.{statement}

@@ -1,4 +1,3 @@
-use Prim.Native.Nat.{_-_}
 use Rattle.queue.specs.Refusals.{firstOf}
 use borrow.Author.Needs.{needs}
 use Rattle.queue.proofs.set_up_refusal.Statement.{statement}

@@ -1,4 +1,3 @@
-use Prim.Native.Nat.{_-_}
 use Rattle.queue.specs.Calls.{withBatch}
 use borrow.Author.Needs.{needs}
 use Rattle.queue.proofs.with_batch.Statement.{statement}

@@ -1,5 +1,4 @@
 use mathlib.Core.Path.{refl}
-use Prim.Native.Nat.{_-_}
 use Rattle.queue.specs.Calls.{withClient}
 use borrow.Author.Needs.{needs}
 use Rattle.queue.proofs.with_client.Statement.{statement}

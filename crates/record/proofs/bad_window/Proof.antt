@@ -1,5 +1,4 @@
 use Rattle.record.proofs.Clients.{bad-made}
-use Prim.Native.Nat.{_-_}
 use borrow.Author.Needs.{needs}
 use Rattle.record.proofs.bad_window.Statement.{statement}
 use Rattle.record.proofs.bad_window.Tie as tie

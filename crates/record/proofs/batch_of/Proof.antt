@@ -1,5 +1,4 @@
 use mathlib.Core.Path.{ap, sym}
-use Prim.Native.Nat.{_-_}
 use Rattle.record.specs.Tickets.{stateBatch}
 use borrow.Author.Needs.{needs}
 use Rattle.record.proofs.batch_of.Statement.{statement}

@@ -1,4 +1,3 @@
-use Prim.Native.Nat.{_-_}
 use native.Mathlib.Omega.{arith}
 use Rattle.record.proofs.Slots.{age-ticket}
 use borrow.Author.Needs.{needs}

@@ -1,4 +1,3 @@
-use Prim.Native.Nat.{_-_}
 use borrow.Author.Needs.{needs}
 use Rattle.record.proofs.numbers_right.Statement.{statement}
 use Rattle.record.proofs.numbers_right.Tie as tie

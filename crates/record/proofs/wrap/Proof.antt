@@ -1,5 +1,4 @@
 use mathlib.Core.Path.{sym}
-use Prim.Native.Nat.{_-_}
 use Rattle.ring.proofs.Wrapped.{wrapped-in, wrapped-over}
 use Rattle.record.proofs.wrap.Statement.{statement}
 use Rattle.record.proofs.wrap.Tie as tie

@@ -1,5 +1,4 @@
 use borrow.Author.Needs.{needs}
-use Prim.Native.Nat.{_-_}
 use Rattle.batch_cases.proofs.batches.walk.Statement.{statement}
 use Rattle.batch_cases.proofs.batches.walk.Tie as tie
 

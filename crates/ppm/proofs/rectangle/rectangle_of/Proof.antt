@@ -1,4 +1,4 @@
-use mathlib.Core.Path.{_≡_, sym, _∙_}
+use mathlib.Core.Path.{_≡_, ap, sym, _∙_}
 use mathlib.Core.Bool.{true, _&&_}
 use Prim.Native.Nat.{ℕ, _≤_, _<_}
 use native.Mathlib.Omega.{arith}
@@ -6,7 +6,10 @@ use lib.Dec.{leb, ltb}
 use borrow.Author.Needs.{needs}
 use borrow.Author.Tests.{leb-true, ltb-true, not-true, not-false}
 use Rattle.word.proofs.Tests.{and-true}
-use Rattle.ppm.specs.Rectangle.{isSide, rectangleOf}
+use Rattle.range.specs.declared.Range.{Range}
+use Rattle.range.specs.Range.{runOf, inside}
+use Rattle.surface.specs.Surface.{span}
+use Rattle.ppm.specs.Rectangle.{isSide, surfaceOf, rectangleOf}
 use Rattle.ppm.proofs.rectangle.rectangle_of.Statement.{statement}
 use Rattle.ppm.proofs.rectangle.rectangle_of.Tie as tie
 
@@ -29,6 +32,16 @@ good c =
 
 fits : (c : tie.Else1) → (c .before .before .before .args .width ≤ 4096) × (c .before .before .before .args .height ≤ 4096) × (c .before .before .before .args .stride < 65536)
 fits c = sized _ _ _ (good c)
+
+-- the run of bytes that the surface is held to is all of the memory
+lies : (c : tie.After-is-inside) →
+    let a = c .before .before .before .before .before .args in
+    inside (span (surfaceOf (a .address) (a .stride) (a .width) (a .height) (a .format))) (runOf 0 65536) ≡ c .is-inside .result
+lies c =
+    let memory = c .before .new in
+    let first : memory .result .start ≡ 0 = omega (arith, ap (λ (r : Range). r .start) (memory .ensures)) in
+    let last : memory .result .end ≡ 65536 = omega (arith, ap (λ (r : Range). r .end) (memory .ensures)) in
+    sym (c .is-inside .ensures ∙ rw (first, last))
 
 is-side-requires : tie.Need-is-side-requires
 is-side-requires c κs = search needs
@@ -62,15 +75,11 @@ is-inside-requires c κs = search needs
 
 returns-2 : tie.Need-returns-2
 unfolding rectangleOf
-returns-2 c =
-    let e = rw (c .before .before .new .ensures) at (sym (c .before .is-inside .ensures) ∙ c .if2 .taken) in
-    rw (good (c .before .before .before), e)
+returns-2 c = rw (good (c .before .before .before), lies (c .before), c .if2 .taken)
 
 returns-3 : tie.Need-returns-3
 unfolding rectangleOf
-returns-3 c =
-    let e = rw (c .before .before .new .ensures) at (sym (c .before .is-inside .ensures) ∙ c .if2 .left) in
-    rw (good (c .before .before .before), e)
+returns-3 c = rw (good (c .before .before .before), lies (c .before), c .if2 .left)
 
 pub rectangle-of-spec : {M : Type 1} → statement M
 rectangle-of-spec =

@@ -4,8 +4,9 @@ use native.Mathlib.Omega.{arith}
 use lib.ListN.{length, take}
 use lib.Seq.{take-all}
 use Rattle.word.specs.Splice.{spliced}
+use Rattle.word.proofs.Splice.{spliced-none}
 use Rattle.session.specs.Answers.{bytesOf}
-use Rattle.session.proofs.Writing.{spliced-none, write-next}
+use Rattle.session.proofs.Writing.{write-next}
 use Rattle.session.proofs.answer.write_answer.Statement.{statement}
 use Rattle.session.proofs.answer.write_answer.Tie as tie
 
@@ -16,6 +17,7 @@ abbrev μ-loop : tie.MeasureT-loop
 μ-loop bytes₀ at words k₀ bytes k = 6 - k
 
 loop-holds : tie.Need-loop-holds Inv-loop μ-loop
+unfolding bytesOf
 loop-holds c = (omega arith, c .before .good .1 .1 .0 .1 .0 .1, omega arith, refl, sym (spliced-none _ _))
 
 mul-write-le32 : tie.Need-mul-write-le32 Inv-loop μ-loop

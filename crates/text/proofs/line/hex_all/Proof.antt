@@ -9,11 +9,11 @@ use Rattle.text.proofs.line.hex_all.Statement.{statement}
 use Rattle.text.proofs.line.hex_all.Tie as tie
 
 abbrev Inv-loop : tie.InvT-loop
-Inv-loop line₀ bytes n₀ i₀ line n i =
-    (i ≤ length bytes) × (length line ≡ length line₀) × (typed (lineOf line n) (hexBytes (drop i bytes)) ≡ typed (lineOf line₀ 0) (hexBytes bytes))
+Inv-loop line₀ n bytes end₀ i₀ line end i =
+    (i ≤ length bytes) × (length line ≡ length line₀) × (typed (lineOf line end) (hexBytes (drop i bytes)) ≡ typed (lineOf line₀ n) (hexBytes bytes))
 
 abbrev μ-loop : tie.MeasureT-loop
-μ-loop line₀ bytes n₀ i₀ line n i = length bytes - i
+μ-loop line₀ n bytes end₀ i₀ line end i = length bytes - i
 
 loop-holds : tie.Need-loop-holds Inv-loop μ-loop
 loop-holds c = (search needs, refl, refl)
@@ -34,7 +34,7 @@ loop-again : tie.Need-loop-again Inv-loop μ-loop
 loop-again c =
     let l = c .before .before .before .before .before .before .loop in
     let a = c .before .before .before .before .before .before .before .before .before .args in
-    let turn = bytes-next (lineOf (l .line) (l .n)) (a .bytes .now) (l .i) (c .before .before .before .before .before .loop-test .taken) in
+    let turn = bytes-next (lineOf (l .line) (l .end)) (a .bytes .now) (l .i) (c .before .before .before .before .before .loop-test .taken) in
     (search needs, search needs, cc (turn, l .inv .2, c .before .before .hex .ensures))
 
 same-length : tie.Need-same-length Inv-loop μ-loop
@@ -43,7 +43,7 @@ same-length c = search needs
 returns : tie.Need-returns Inv-loop μ-loop
 returns c =
     let l = c .before .loop in
-    sym (bytes-none (lineOf (l .line) (l .n)) (c .before .before .before .before .args .bytes .now) (l .i) (c .loop-test .left)) ∙ l .inv .2
+    sym (bytes-none (lineOf (l .line) (l .end)) (c .before .before .before .before .args .bytes .now) (l .i) (c .loop-test .left)) ∙ l .inv .2
 
 pub hex-all-spec : {M : Type 1} → statement M
 hex-all-spec =
