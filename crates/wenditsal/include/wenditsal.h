@@ -24,6 +24,50 @@ extern "C" {
  * status, fault, place; by pending: count. Zeros fill up; a refusal's five are zero. The first answer is set up's own: if it is refused
  * nothing is played, and with no room for it nothing is set up and 0 is returned. A call whose answer would not fit is not played.
  *
+ * Refusals: the first that holds is told, 10 before the others, then as listed. A refused call changes nothing.
+ *    1  set up           ring length 0, over 32,768, or no multiple of 128
+ *    2  set up           memory over 16,777,216, or common longer than memory
+ *    3  open             four clients open
+ *    4  open             window empty, past memory's end, or sharing a byte with common or another window
+ *    5  submit, pending  no such client
+ *    6  submit           length 0, no multiple of 4, or over the ring length
+ *    7  submit           no free slot: eight batches wait
+ *    8  submit           free ring bytes fewer than the length
+ *    9  run              nothing ready
+ *   10  submit, run      lent ring (run: or memory) not of the set-up length
+ * 11 (the engine record breaks a rule), 12 (lent buffer under 80 bytes) and 24 (a field that its register's rule forbids) are refusals
+ * of the engine's own calls and of its encoder; as refusals they never come here.
+ *
+ * Status, fault and place, by run. A faultless batch has status tasks x 65,536 + 1, fault 0 and place 0. A faulty one draws nothing; its place
+ * is a byte offset in the batch, of a group's header or of a word:
+ *   20  header     0x00000002  header bit 1, 16 or 17 set
+ *   21  header     0x00000100  group length 0 or past the batch's end
+ *   22  header     0x00000100  last group not task end
+ *   23  word       0x00000002  offset not writable
+ *   24  word       0x00000002  bit or code not allowed
+ *   25  task end   0x00000002  source or output (and, blending, destination) has a side outside 1 to 4,096, a stride no multiple of 8 or
+ *                              under width x bytes a pixel; source disabled; destination disabled while blending
+ *   26  task end   0x00000002  turn in colour mode; output size not the turned source size; blending, destination size not output size
+ *   27  task end   0x00000002  span not wholly in the client's window, or, for what is read, wholly in common
+ *   28  task end   0x00000002  source and output spans share a byte; blending, destination and output spans share one, unless address,
+ *                              stride and format are equal
+ * "task end" is the header of the group that ends the task. A span runs from the address over stride x (height - 1) + width x bytes a pixel.
+ *
+ * A batch is groups of little-endian words: a header and the words for registers at its offset, offset + 4, ..  Header: bits 31:16 the
+ * offset, 15:2 the number of words that follow, 0 task end. Registers are at reset at the start of every batch, 0 but 0x090, which is
+ * 0x00001300, and stay from task to task inside it. Allowed bits, all others zero:
+ *   0x010 source control         31:24 global alpha, 23:22 alpha mode (0 pixel's, 1 global, 2 (pixel's x global + 127) / 255), 14:8 format,
+ *                                7 V flip, 6 H flip, 5:4 quarter turns clockwise, after the flips, 3:2 mode (0 buffer, 1 colour), 0 enable
+ *   0x050 destination control    31:24 global alpha, 23:22 alpha mode, 14:8 format, 0 enable
+ *   0x100 output control         14:8 format: 0x00 ARGB8888 (bytes B, G, R, A), 0x08 RGB888 (B, G, R), 0x0E RGB565 (low byte first)
+ *   0x014, 0x054, 0x104 size     28:16 height, 12:0 width, of source, destination, output
+ *   0x018, 0x058, 0x108 stride   15:0
+ *   0x020, 0x060, 0x110 address  all bits
+ *   0x01C colour                 A, R, G, B from bit 31 down
+ *   0x090 blending               13:11 source factor, 10:8 destination factor (0 is 0, 1 is 255, 2 sa, 3 255-sa, 4 da, 5 255-da), 0 blend on
+ * Blending on, each of A, R, G, B becomes the lesser of 255 and (s x fs + d x fd + 127) / 255, with sa and da the alphas after the alpha modes;
+ * off, it is the source's, and alpha modes are not used. Alpha reads as 255 where a format has none.
+ *
  * What the caller owes: each pointer is not null, also where its size is 0, and is good for that many bytes; ring, memory and answers lie
  * apart from each other and from the script. Sizes may be any; that they do not fit the three lengths is answered as a refusal.
  */
