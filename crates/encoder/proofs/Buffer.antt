@@ -11,6 +11,7 @@ use borrow.Author.Tests.{ltb-false}
 use Rattle.word.specs.Word.{words}
 use Rattle.word.specs.Splice.{spliced}
 use Rattle.word.proofs.Splice.{length-spliced}
+use Rattle.word.proofs.Written.{length-bytes}
 use Rattle.register.specs.declared.bank.Bank.{Bank}
 use Rattle.rules.specs.declared.task.Bounds.{Bounds}
 use Rattle.rules.specs.Rules.{taskFault}
@@ -23,12 +24,11 @@ use Rattle.encoder.specs.Registers.{bankOf}
 use Rattle.encoder.specs.Words.{wordsOf}
 use Rattle.encoder.specs.Encoder.{answerOf, taskBytes, leaves, bufferAfter}
 use Rattle.encoder.specs.RoundTrip.{taskWith, Plain}
-use Rattle.encoder.proofs.Written.{length-bytesOf}
 use Rattle.encoder.proofs.RoundTrip.{bytes-back, reads-back-one}
 
 pub length-taskBytes : (f : Fields) → length (taskBytes f) ≡ 80
 unfolding taskBytes wordsOf
-length-taskBytes f = length-bytesOf (wordsOf (bankOf f))
+length-taskBytes f = length-bytes (wordsOf (bankOf f))
 
 -- what is accepted
 pub accepted : (f : Fields) (size : ℕ) → answerOf f size ≡ Written → (allowed f ≡ true) × (80 ≤ size)

@@ -19,7 +19,7 @@ use Rattle.encoder.specs.Words.{wordsOf}
 use Rattle.encoder.specs.Encoder.{taskBytes}
 use Rattle.encoder.specs.RoundTrip.{taskWith, allWords, allBytes, AllAllowed, Plain, AllPlain, AllFine, readAs, bankAfter}
 use Rattle.encoder.proofs.Allowed.{parts, surface-fits, source-fits, destination-fits, blending-fits}
-use Rattle.encoder.proofs.Written.{Below, words-bytesOf}
+use Rattle.encoder.proofs.Written.{Below, words-back}
 use Rattle.encoder.proofs.Groups.{task-read}
 use Rattle.encoder.proofs.TaskFields.{all-taken, task-back}
 
@@ -137,7 +137,7 @@ below f ok plain =
 -- the 80 bytes are the twenty words, and so on for any tasks
 pub bytes-back : (f : Fields) (rest : List ℕ) → allowed f ≡ true → Plain f → words (taskBytes f ++ rest) ≡ wordsOf (bankOf f) ++ words rest
 unfolding taskBytes
-bytes-back f rest ok plain = words-bytesOf (wordsOf (bankOf f)) rest (below f ok plain)
+bytes-back f rest ok plain = words-back (wordsOf (bankOf f)) rest (below f ok plain)
 
 pub all-bytes-back : (fs : List Fields) → AllAllowed fs → AllPlain fs → words (allBytes fs) ≡ allWords fs
 unfolding allBytes allWords words

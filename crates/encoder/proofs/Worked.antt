@@ -2,12 +2,12 @@
 use mathlib.Core.Path.{_≡_, refl}
 use mathlib.Core.List.{[], _∷_}
 use Prim.Native.Nat.{ℕ}
-use Rattle.word.specs.Word.{byteOf, leBytes}
+use Rattle.word.specs.Word.{byteOf, leBytes, wordsBytes}
 use Rattle.register.specs.Bank.{resetBank}
 use Rattle.encoder.specs.declared.fields.Fields.{Fields}
 use Rattle.encoder.specs.Fields.{surfaceAllowed, alphaAllowed, transformAllowed, sourceAllowed, destinationAllowed, blendingAllowed, allowed}
 use Rattle.encoder.specs.Registers.{surfaceRegisters, sourceControl, destinationControl, blendingWord, bankOf}
-use Rattle.encoder.specs.Words.{wordsOf, bytesOf}
+use Rattle.encoder.specs.Words.{wordsOf}
 use Rattle.encoder.specs.Encoder.{numberOf, answerOf, taskBytes}
 use Rattle.encoder.specs.Solid.{resetFields, solidFields}
 
@@ -31,7 +31,7 @@ pub worked-bytes : taskBytes worked
     ∷ 0x00 ∷ 0x00 ∷ 0x00 ∷ 0x00 ∷ 0x00 ∷ 0x00 ∷ 0x00 ∷ 0x00 ∷ 0x04 ∷ 0x00 ∷ 0x60 ∷ 0x00 ∷ 0x00 ∷ 0x00 ∷ 0x00 ∷ 0x00
     ∷ 0x04 ∷ 0x00 ∷ 0x90 ∷ 0x00 ∷ 0x00 ∷ 0x13 ∷ 0x00 ∷ 0x00 ∷ 0x0C ∷ 0x00 ∷ 0x00 ∷ 0x01 ∷ 0x00 ∷ 0x00 ∷ 0x00 ∷ 0x00
     ∷ 0x02 ∷ 0x00 ∷ 0x01 ∷ 0x00 ∷ 0x08 ∷ 0x00 ∷ 0x00 ∷ 0x00 ∷ 0x05 ∷ 0x00 ∷ 0x10 ∷ 0x01 ∷ 0x00 ∷ 0x40 ∷ 0x00 ∷ 0x00 ∷ []
-unfolding taskBytes bytesOf leBytes byteOf wordsOf bankOf surfaceRegisters sourceControl destinationControl blendingWord
+unfolding taskBytes wordsBytes leBytes byteOf wordsOf bankOf surfaceRegisters sourceControl destinationControl blendingWord
 worked-bytes = refl
 
 -- the fields of a bank at reset are those of the bank at reset

@@ -4,13 +4,14 @@ use mathlib.Core.Bool.{cond}
 use mathlib.Core.List.{List}
 use lib.ListN.{length}
 use lib.Dec.{ltb}
+use Rattle.word.specs.Word.{wordsBytes}
 use Rattle.word.specs.Splice.{spliced}
 use Rattle.encoder.specs.declared.Answer.{Answer}
 use Rattle.encoder.specs.declared.Answer.the-variants.{Written, Forbidden, ShortBuffer}
 use Rattle.encoder.specs.declared.fields.Fields.{Fields}
 use Rattle.encoder.specs.Fields.{allowed}
 use Rattle.encoder.specs.Registers.{bankOf}
-use Rattle.encoder.specs.Words.{wordsOf, bytesOf}
+use Rattle.encoder.specs.Words.{wordsOf}
 
 -- the paper's number of each refusal
 abbrev pub numberOf : Answer → ℕ
@@ -26,7 +27,7 @@ answerOf fields size = cond (allowed fields) (cond (ltb size 80) ShortBuffer Wri
 
 -- the 80 bytes of the task with these fields
 unfoldable pub taskBytes : Fields → List ℕ
-taskBytes fields = bytesOf (wordsOf (bankOf fields))
+taskBytes fields = wordsBytes (wordsOf (bankOf fields))
 
 -- a refusal changes nothing; else the first 80 bytes, and no others, are written
 abbrev pub leaves : Answer → List ℕ → List ℕ → List ℕ

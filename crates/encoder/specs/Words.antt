@@ -1,7 +1,6 @@
--- The words and bytes of one task (01, "Writer and replay").
+-- The words of one task (01, "Writer and replay").
 use Prim.Native.Nat.{ℕ}
-use mathlib.Core.List.{List, [], _∷_, _++_}
-use Rattle.word.specs.Word.{leBytes}
+use mathlib.Core.List.{List, [], _∷_}
 use Rattle.register.specs.declared.bank.Bank.{Bank}
 
 -- the twenty words that write every register of a bank: six groups, each a header and its words, the last of them task end
@@ -14,8 +13,3 @@ wordsOf b =
     ∷ 0x0100000C ∷ b .output .control ∷ b .output .size ∷ b .output .stride
     ∷ 0x01100005 ∷ b .output .address
     ∷ []
-
--- words as bytes, one after the other, each little-endian
-unfoldable pub bytesOf : List ℕ → List ℕ
-bytesOf [] = []
-bytesOf (w ∷ ws) = leBytes w ++ bytesOf ws

@@ -1,9 +1,7 @@
 // The encoder (the papers' writer): a task's fields in, the 80 bytes of a batch of that one task out.
 ghost use mathlib.Core.Path.{_≡_};
-ghost use Prim.Native.Nat.{_*_, _≤_};
 ghost use lib.ListN.{length};
-ghost use Rattle.word.specs.Splice.{spliced};
-ghost use Rattle.encoder.specs.Words.{wordsOf, bytesOf};
+ghost use Rattle.encoder.specs.Words.{wordsOf};
 ghost use Rattle.encoder.specs.Encoder.{numberOf, answerOf, bufferAfter};
 
 pub mod fields;
@@ -70,18 +68,6 @@ fn words_of(bank: Bank) -> [u32; 20]
     ]
 }
 
-// Writes words one after the other from the first byte of a buffer on.
-fn write_words(buffer: &mut [u8], words: &[u32])
-    requires { ⌜ 4 * length (now words) ≤ length (now buffer) ⌝ }
-    ensures { λ _. ⌜ now (buffer .exit) ≡ spliced 0 (bytesOf (now (words .entry))) (now (buffer .entry)) ⌝ }
-{
-    let mut k = 0;
-    while k < words.len() {
-        word::write_le32(buffer, 4 * k, words[k]);
-        k += 1;
-    }
-}
-
 // Writes the batch of the one task with these fields to the first 80 bytes of a buffer, or refuses and writes nothing.
 pub fn encode(fields: Fields, buffer: &mut [u8]) -> Answer
     ensures { λ r. ⌜
@@ -98,6 +84,6 @@ pub fn encode(fields: Fields, buffer: &mut [u8]) -> Answer
         return Answer::ShortBuffer;
     }
     let words = words_of(fields.registers());
-    write_words(buffer, &words);
+    word::write_le_words(buffer, 0, &words);
     Answer::Written
 }

@@ -1,10 +1,10 @@
 -- Scripts and answers, computed.
 use mathlib.Core.Path.{_≡_, refl}
 use mathlib.Core.List.{[], _∷_}
-use Rattle.word.specs.Word.{byteOf, le32At, leBytes}
+use Rattle.word.specs.Word.{byteOf, le32At, leBytes, wordsBytes}
 use Rattle.model.specs.Calls.{opens, submit, run, pending, completed, refused}
 use Rattle.session.specs.Script.{next, decode}
-use Rattle.session.specs.Answers.{wordsOf, bytesOf, answerBytes}
+use Rattle.session.specs.Answers.{wordsOf, answerBytes}
 
 -- a call of each kind, and an opcode that there is not; a run after it is not played
 every-call :
@@ -28,5 +28,5 @@ answered :
     answerBytes (completed 3 258 (record { status = 65537; fault = 0; offset = 0 }) ∷ refused 9 ∷ [])
     ≡ 0 ∷ 0 ∷ 0 ∷ 0 ∷ 3 ∷ 0 ∷ 0 ∷ 0 ∷ 2 ∷ 1 ∷ 0 ∷ 0 ∷ 1 ∷ 0 ∷ 1 ∷ 0 ∷ 0 ∷ 0 ∷ 0 ∷ 0 ∷ 0 ∷ 0 ∷ 0 ∷ 0
     ∷ 9 ∷ 0 ∷ 0 ∷ 0 ∷ 0 ∷ 0 ∷ 0 ∷ 0 ∷ 0 ∷ 0 ∷ 0 ∷ 0 ∷ 0 ∷ 0 ∷ 0 ∷ 0 ∷ 0 ∷ 0 ∷ 0 ∷ 0 ∷ 0 ∷ 0 ∷ 0 ∷ 0 ∷ []
-unfolding answerBytes wordsOf bytesOf leBytes byteOf
+unfolding answerBytes wordsOf wordsBytes leBytes byteOf
 answered = refl

@@ -5,8 +5,10 @@ use Prim.Native.Nat.{ℕ, zero, suc, _+_, _*_, _-_, _≤_, _<_}
 use native.Mathlib.Omega.{arith}
 use lib.ListN.{length, take, drop, length-drop, take-append-drop}
 use lib.Seq.{drop-drop, take-all, length-take-le}
+use Rattle.word.specs.Word.{wordsBytes}
 use Rattle.word.specs.Splice.{spliced}
 use Rattle.word.proofs.Splice.{take-spliced, drop-spliced}
+use Rattle.word.proofs.Written.{length-bytes}
 use Rattle.model.specs.Calls.{Call, Answer, opened, accepted, completed, ready, refused}
 use Rattle.claims.specs.Engine.{State, called, answersOf, stateAfter}
 use Rattle.session.specs.declared.script.Found.{Found}
@@ -14,9 +16,8 @@ use Rattle.session.specs.declared.script.Next.{Next}
 use Rattle.session.specs.declared.script.Next.the-variants.{End, Call as Begins}
 use Rattle.session.specs.Script.{parsed, next, decode}
 use Rattle.session.specs.Requests.{callOf, Reads}
-use Rattle.session.specs.Answers.{wordsOf, bytesOf, answerBytes}
+use Rattle.session.specs.Answers.{wordsOf, answerBytes}
 use Rattle.session.specs.Called.{Plays, PlaysAll}
-use Rattle.session.proofs.Writing.{length-bytes}
 
 -- ---- an answer has six words
 
@@ -60,18 +61,18 @@ module _ (n : ℕ) (script : List ℕ) (s₀ : State) (answers₀ : List ℕ) wh
   -- a call is played and its answer is written
   pub going-next : (at count left : ℕ) (s after : State) (answers words : List ℕ) (call : Call) (size : ℕ) → Going at count left s answers → 0 < left →
       count + 24 ≤ length answers → next (drop at script) ≡ parsed call (drop size (drop at script)) → Plays call s after words →
-      Going (at + size) (count + 24) (left - 1) after (spliced count (bytesOf words) answers)
+      Going (at + size) (count + 24) (left - 1) after (spliced count (wordsBytes words) answers)
   unfolding answersOf stateAfter answerBytes
   going-next at count left s after answers words call size G some fits e P =
       let calls : decode left (drop at script) ≡ call ∷ decode (left - 1) (drop (at + size) script) =
       decode-more left (drop at script) (drop size (drop at script)) call some e ∙ rw (drop-drop size at script)
       in
-      let long : length (bytesOf words) ≡ 24 = length-bytes words ∙ ap (λ (ws : List ℕ). 4 * length ws) (P .says) ∙ ap (λ (k : ℕ). 4 * k) (six-words (called call s .answer)) in
-      let front : take (count + 24) (spliced count (bytesOf words) answers) ≡ take count answers ++ bytesOf words =
-      rw (← long) (take-spliced count (bytesOf words) answers (omega arith))
+      let long : length (wordsBytes words) ≡ 24 = length-bytes words ∙ ap (λ (ws : List ℕ). 4 * length ws) (P .says) ∙ ap (λ (k : ℕ). 4 * k) (six-words (called call s .answer)) in
+      let front : take (count + 24) (spliced count (wordsBytes words) answers) ≡ take count answers ++ wordsBytes words =
+      rw (← long) (take-spliced count (wordsBytes words) answers (omega arith))
       in
-      let back : drop (count + 24) (spliced count (bytesOf words) answers) ≡ drop (count + 24) answers =
-      rw (← long) (drop-spliced count (bytesOf words) answers (omega arith))
+      let back : drop (count + 24) (spliced count (wordsBytes words) answers) ≡ drop (count + 24) answers =
+      rw (← long) (drop-spliced count (wordsBytes words) answers (omega arith))
       in
       record {
         told = G .told ∙ rw (calls, front, append-assoc, P .says, P .leaves);

@@ -1,7 +1,6 @@
 -- Laws that this crate's proofs and those of the crates above cite.
 pub mod Parsing
 pub mod Decode
-pub mod Writing
 pub mod Numbers
 pub mod Turns
 pub mod Going

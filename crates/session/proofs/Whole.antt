@@ -9,8 +9,10 @@ use lib.Seq.{drop-drop, drop-length}
 use lib.Dec.{eqb}
 use borrow.Author.Tests.{lt-ltb, le-ltb, eq-eqb, ne-eqb}
 use borrow.Rule.Slice.PartMut.{putMid}
+use Rattle.word.specs.Word.{wordsBytes}
 use Rattle.word.specs.Splice.{spliced}
 use Rattle.word.proofs.Splice.{length-spliced, take-spliced, drop-spliced}
+use Rattle.word.proofs.Written.{length-bytes}
 use Rattle.queue.specs.declared.Answer.the-variants.{Set}
 use Rattle.queue.specs.declared.Reply.{Reply}
 use Rattle.queue.specs.Answers.{numberOf, valueOf, answered}
@@ -22,10 +24,9 @@ use Rattle.claims.specs.OfModel.{real}
 use Rattle.claims.specs.Engine.{State, state, answersOf, stateAfter, begin}
 use Rattle.claims.proofs.Theorem.{promise}
 use Rattle.session.specs.Script.{decode}
-use Rattle.session.specs.Answers.{twoWords, bytesOf, answerBytes}
+use Rattle.session.specs.Answers.{twoWords, answerBytes}
 use Rattle.session.specs.Called.{PlaysAll}
 use Rattle.session.specs.Played.{setUpNumber, calls, written, memoryAfter, ringAfter, Played}
-use Rattle.session.proofs.Writing.{length-bytes}
 use Rattle.session.proofs.Going.{rest-is, decode-none}
 
 -- ---- set up's own answer
@@ -76,7 +77,7 @@ module _ (setup : Setup) (ring memory script buffer : List ℕ) where
       record { returned = rw t; bytes = rw t; memory-end = n .0; ring-end = n .1 }
 
   -- set up is refused
-  pub played-refused : (words after : List ℕ) → 24 ≤ length buffer → words ≡ twoWords (setUpNumber setup) 0 → (getD words 0 0 ≡ 0 → ⊥) → after ≡ spliced 0 (bytesOf words) buffer →
+  pub played-refused : (words after : List ℕ) → 24 ≤ length buffer → words ≡ twoWords (setUpNumber setup) 0 → (getD words 0 0 ≡ 0 → ⊥) → after ≡ spliced 0 (wordsBytes words) buffer →
       Played setup ring memory script buffer 24 ring memory after
   unfolding written calls answers answerBytes spliced
   played-refused words after room w bad e =
@@ -84,8 +85,8 @@ module _ (setup : Setup) (ring memory script buffer : List ℕ) where
       let number : setUpNumber setup ≡ 0 → ⊥ = rw w at bad in
       let f = ne-eqb (setUpNumber setup) 0 number in
       let n = nothing (rw f) in
-      let from : 0 + length (bytesOf words) ≡ length (bytesOf words) = omega arith in
-      let long : length (bytesOf (twoWords (setUpNumber setup) 0)) ≡ 24 = length-bytes (twoWords (setUpNumber setup) 0) in
+      let from : 0 + length (wordsBytes words) ≡ length (wordsBytes words) = omega arith in
+      let long : length (wordsBytes (twoWords (setUpNumber setup) 0)) ≡ 24 = length-bytes (twoWords (setUpNumber setup) 0) in
       record {
         returned = rw (t, f, append-nil) (sym long);
         bytes = e ∙ rw (from, t, f, append-nil, w);
@@ -103,7 +104,7 @@ module _ (setup : Setup) (ring memory script buffer : List ℕ) (room : 24 ≤ l
       rw (eq-eqb (setUpNumber setup) 0 ok, left)
 
   -- what is written, in the engine's answers
-  told : written setup ring memory script buffer ≡ bytesOf (twoWords 0 0) ++ answerBytes (answersOf (decode (length (drop 24 buffer) / 24) script) (begin setup ring memory))
+  told : written setup ring memory script buffer ≡ wordsBytes (twoWords 0 0) ++ answerBytes (answersOf (decode (length (drop 24 buffer) / 24) script) (begin setup ring memory))
   unfolding written
   told =
       let like = promise setup ring ok .like-model (decode (length (drop 24 buffer) / 24) script) memory in
@@ -111,32 +112,32 @@ module _ (setup : Setup) (ring memory script buffer : List ℕ) (room : 24 ≤ l
 
   pub played-on : (count : ℕ) (ring′ memory′ rest′ : List ℕ) →
       PlaysAll (decode (length (drop 24 buffer) / 24) script) (begin setup ring memory) (drop 24 buffer) count ring′ memory′ rest′ →
-      Played setup ring memory script buffer (24 + count) ring′ memory′ (bytesOf (twoWords 0 0) ++ rest′)
+      Played setup ring memory script buffer (24 + count) ring′ memory′ (wordsBytes (twoWords 0 0) ++ rest′)
   played-on count ring′ memory′ rest′ P =
       let cs : List Call = decode (length (drop 24 buffer) / 24) script in
       let like = promise setup ring ok .like-model cs memory in
       let said : List ℕ = answerBytes (answersOf cs (begin setup ring memory)) in
-      let long : length (bytesOf (twoWords 0 0)) ≡ 24 = length-bytes (twoWords 0 0) in
-      let size : length (bytesOf (twoWords 0 0) ++ said) ≡ 24 + count = length-append (bytesOf (twoWords 0 0)) said ∙ rw (long, P .returned) in
+      let long : length (wordsBytes (twoWords 0 0)) ≡ 24 = length-bytes (twoWords 0 0) in
+      let size : length (wordsBytes (twoWords 0 0) ++ said) ≡ 24 + count = length-append (wordsBytes (twoWords 0 0)) said ∙ rw (long, P .returned) in
       record {
         returned = rw told (sym size);
-        bytes = rw (told, size, P .bytes, ← drop-drop count 24 buffer) (sym (append-assoc (bytesOf (twoWords 0 0)) said (drop count (drop 24 buffer))));
+        bytes = rw (told, size, P .bytes, ← drop-drop count 24 buffer) (sym (append-assoc (wordsBytes (twoWords 0 0)) said (drop count (drop 24 buffer))));
         memory-end = P .memory-end ∙ like .every-byte ∙ sym (memory-is setup ring memory script buffer cs played-are);
         ring-end = P .ring-end ∙ sym (ring-is setup ring memory script buffer cs played-are);
       }
 
   -- the same in the code's values: the buffer `answered` after set up's answer, and the part of it after that, which is lent
   pub played-done : (words answered : List ℕ) (r : Reply) (count : ℕ) (ring′ memory′ rest′ : List ℕ) → r ≡ setUp (setup .ring) (setup .memory) (setup .common) →
-      words ≡ twoWords (setUpNumber setup) 0 → answered ≡ spliced 0 (bytesOf words) buffer →
+      words ≡ twoWords (setUpNumber setup) 0 → answered ≡ spliced 0 (wordsBytes words) buffer →
       PlaysAll (decode (length (take (length answered - 24) (drop 24 answered)) / 24) script) (state (r .engine) ring memory) (take (length answered - 24) (drop 24 answered)) count ring′ memory′ rest′ →
       Played setup ring memory script buffer (24 + count) ring′ memory′ (putMid 24 (length answered - 24) answered rest′)
   played-done words answered r count ring′ memory′ rest′ e w a P =
-      let long : length (bytesOf words) ≡ 24 = length-bytes words ∙ rw w in
-      let fits : 0 + length (bytesOf words) ≤ length buffer = omega arith in
-      let end : 0 + length (bytesOf words) ≡ 24 = omega arith in
-      let whole : length answered ≡ length buffer = rw a (length-spliced 0 (bytesOf words) buffer fits) in
-      let front : take 24 answered ≡ bytesOf (twoWords 0 0) = rw (a, ← end) (take-spliced 0 (bytesOf words) buffer fits ∙ rw (w, ok)) in
-      let past : drop 24 answered ≡ drop 24 buffer = rw (a, ← end) (drop-spliced 0 (bytesOf words) buffer fits) in
+      let long : length (wordsBytes words) ≡ 24 = length-bytes words ∙ rw w in
+      let fits : 0 + length (wordsBytes words) ≤ length buffer = omega arith in
+      let end : 0 + length (wordsBytes words) ≡ 24 = omega arith in
+      let whole : length answered ≡ length buffer = rw a (length-spliced 0 (wordsBytes words) buffer fits) in
+      let front : take 24 answered ≡ wordsBytes (twoWords 0 0) = rw (a, ← end) (take-spliced 0 (wordsBytes words) buffer fits ∙ rw (w, ok)) in
+      let past : drop 24 answered ≡ drop 24 buffer = rw (a, ← end) (drop-spliced 0 (wordsBytes words) buffer fits) in
       let part : take (length answered - 24) (drop 24 answered) ≡ drop 24 buffer = rest-is answered 24 (omega arith) ∙ past in
       let left : length answered - 24 ≡ length (drop 24 buffer) = simp length-drop (omega arith) in
       let none : drop (length answered - 24) (drop 24 answered) ≡ [] = rw (left, past) (drop-length (drop 24 buffer)) in

@@ -2,7 +2,7 @@
 -- answered, by open the id, by submit the ticket, by run client, ticket, status, fault and place, by pending the count. Zeros fill up.
 use mathlib.Core.List.{List, [], _∷_, _++_}
 use Prim.Native.Nat.{ℕ}
-use Rattle.word.specs.Word.{leBytes}
+use Rattle.word.specs.Word.{wordsBytes}
 use Rattle.model.specs.Calls.{Answer, opened, accepted, completed, ready, refused}
 
 -- a refusal's number, 0 for none, and one number more
@@ -16,11 +16,6 @@ wordsOf (completed client ticket v) = 0 ∷ client ∷ ticket ∷ v .status ∷ 
 wordsOf (ready count) = twoWords 0 count
 wordsOf (refused number) = twoWords number 0
 
--- the bytes of words, one after the other
-unfoldable pub bytesOf : (words : List ℕ) → List ℕ
-bytesOf [] = []
-bytesOf (word ∷ words) = leBytes word ++ bytesOf words
-
 unfoldable pub answerBytes : List Answer → List ℕ
 answerBytes [] = []
-answerBytes (a ∷ answers) = bytesOf (wordsOf a) ++ answerBytes answers
+answerBytes (a ∷ answers) = wordsBytes (wordsOf a) ++ answerBytes answers

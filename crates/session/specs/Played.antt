@@ -6,6 +6,7 @@ use mathlib.Core.Bool.{cond}
 use Prim.Native.Nat.{ℕ, _-_, _/_}
 use lib.ListN.{length, drop}
 use lib.Dec.{ltb, eqb}
+use Rattle.word.specs.Word.{wordsBytes}
 use Rattle.queue.specs.Answers.{numberOf}
 use Rattle.queue.specs.Calls.{setUp}
 use Rattle.model.specs.Calls.{Setup, Call}
@@ -14,7 +15,7 @@ use Rattle.model.specs.Model.{answers, end}
 use Rattle.claims.specs.OfModel.{real}
 use Rattle.claims.specs.Engine.{stateAfter, begin}
 use Rattle.session.specs.Script.{decode}
-use Rattle.session.specs.Answers.{twoWords, bytesOf, answerBytes}
+use Rattle.session.specs.Answers.{twoWords, answerBytes}
 
 -- what set up is refused with, 0 if it is accepted
 abbrev pub setUpNumber : Setup → ℕ
@@ -33,7 +34,7 @@ module _ (setup : Setup) (ring memory script buffer : List ℕ) where
   unfoldable pub written : List ℕ
   written =
       cond (ltb (length buffer) 24) []
-      (bytesOf (twoWords (setUpNumber setup) 0) ++ answerBytes (answers real setup (length ring) played (fresh memory)))
+      (wordsBytes (twoWords (setUpNumber setup) 0) ++ answerBytes (answers real setup (length ring) played (fresh memory)))
 
   -- memory after it is the model's
   unfoldable pub memoryAfter : List ℕ

@@ -2,11 +2,12 @@
 ghost use mathlib.Core.Path.{_≡_};
 ghost use Prim.Native.Nat.{_+_, _≤_};
 ghost use lib.ListN.{length};
+ghost use Rattle.word.specs.Word.{wordsBytes};
 ghost use Rattle.word.specs.Splice.{spliced};
 ghost use Rattle.queue.specs.Answers.{numberOf, valueOf};
 ghost use Rattle.engine.specs.Outcome.{numberOf as refusalOf, valuesOf};
 ghost use Rattle.claims.specs.Engine.{told, completion};
-ghost use Rattle.session.specs.Answers.{twoWords, wordsOf, bytesOf};
+ghost use Rattle.session.specs.Answers.{twoWords, wordsOf};
 ghost use Rattle.session.specs.Called.{Small};
 use engine::Outcome;
 use queue::Answer;
@@ -49,11 +50,7 @@ pub fn outcome_words(outcome: Outcome) -> [u32; 6]
 // Writes an answer's words at an offset of `bytes`.
 pub fn write_answer(bytes: &mut [u8], at: usize, words: [u32; 6])
     requires { ⌜ at + 24 ≤ length (now bytes) ⌝ }
-    ensures { λ _. ⌜ now (bytes .exit) ≡ spliced at (bytesOf words) (now (bytes .entry)) ⌝ }
+    ensures { λ _. ⌜ now (bytes .exit) ≡ spliced at (wordsBytes words) (now (bytes .entry)) ⌝ }
 {
-    let mut k: usize = 0;
-    while k < 6 {
-        word::write_le32(bytes, at + 4 * k, words[k]);
-        k = k + 1;
-    }
+    word::write_le_words(bytes, at, &words);
 }

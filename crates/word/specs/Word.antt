@@ -1,7 +1,7 @@
 -- 32-bit words in bytes. A batch's words are little-endian (01, "Groups and registers"), the length of a replay record is
 -- big-endian (01, "Writer and replay").
 use Prim.Native.Nat.{ℕ, _+_, _*_, _/_, _%_, _^_}
-use mathlib.Core.List.{List, [], _∷_}
+use mathlib.Core.List.{List, [], _∷_, _++_}
 use lib.ListN.{getD}
 
 -- byte k of a number, byte 0 the lowest
@@ -29,6 +29,11 @@ leBytes word = byteOf word 0 ∷ byteOf word 1 ∷ byteOf word 2 ∷ byteOf word
 
 unfoldable pub beBytes : ℕ → List ℕ
 beBytes word = byteOf word 3 ∷ byteOf word 2 ∷ byteOf word 1 ∷ byteOf word 0 ∷ []
+
+-- words as bytes, one after the other, each little-endian
+unfoldable pub wordsBytes : List ℕ → List ℕ
+wordsBytes [] = []
+wordsBytes (word ∷ words) = leBytes word ++ wordsBytes words
 
 -- the little-endian words of a list of bytes; up to three bytes left over at its end are no word
 unfoldable pub words : List ℕ → List ℕ

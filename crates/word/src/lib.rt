@@ -1,9 +1,9 @@
 // Numbers in bytes: 32-bit words of either byte order, and fields of a word.
 ghost use mathlib.Core.Path.{_≡_};
-ghost use Prim.Native.Nat.{_+_, _≤_, _<_};
+ghost use Prim.Native.Nat.{_+_, _*_, _≤_, _<_};
 ghost use mathlib.Core.List.{[], _∷_};
 ghost use lib.ListN.{length};
-ghost use Rattle.word.specs.Word.{le32, le32At, be32At, leBytes, beBytes};
+ghost use Rattle.word.specs.Word.{le32, le32At, be32At, leBytes, beBytes, wordsBytes};
 ghost use Rattle.word.specs.Field.{field};
 ghost use Rattle.word.specs.Splice.{spliced};
 
@@ -61,6 +61,18 @@ pub fn write_le32(bytes: &mut [u8], at: usize, word: u32)
         (word / 65536 % 256) as u8,
         (word / 16777216 % 256) as u8,
     );
+}
+
+// Writes words from an offset of `bytes` on, one after the other, each low byte first.
+pub fn write_le_words(bytes: &mut [u8], at: usize, words: &[u32])
+    requires { ⌜ at + 4 * length (now words) ≤ length (now bytes) ⌝ }
+    ensures { λ _. ⌜ now (bytes .exit) ≡ spliced at (wordsBytes (now (words .entry))) (now (bytes .entry)) ⌝ }
+{
+    let mut k = 0;
+    while k < words.len() {
+        write_le32(bytes, at + 4 * k, words[k]);
+        k += 1;
+    }
 }
 
 // Writes a word at an offset of `bytes`, high byte first.

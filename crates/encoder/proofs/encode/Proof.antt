@@ -4,9 +4,10 @@ use mathlib.Core.List.{List}
 use Prim.Native.Nat.{ℕ}
 use borrow.Author.Tests.{not-true, not-false}
 use borrow.Author.Needs.{needs}
+use Rattle.word.specs.Word.{wordsBytes}
 use Rattle.word.specs.Splice.{spliced}
 use Rattle.encoder.specs.Fields.{allowed}
-use Rattle.encoder.specs.Words.{wordsOf, bytesOf}
+use Rattle.encoder.specs.Words.{wordsOf}
 use Rattle.encoder.proofs.Written.{forbidden, short, fitting}
 use Rattle.encoder.proofs.encode.Statement.{statement}
 use Rattle.encoder.proofs.encode.Tie as tie
@@ -35,11 +36,11 @@ registers-requires c κs = yes (c .before)
 words-of-requires : tie.Need-words-of-requires
 words-of-requires c κs = search needs
 
-slice-aggregate-write-words : tie.Need-slice-aggregate-write-words
-slice-aggregate-write-words c = search needs
+slice-aggregate-write-le-words : tie.Need-slice-aggregate-write-le-words
+slice-aggregate-write-le-words c = search needs
 
-write-words-requires : tie.Need-write-words-requires
-write-words-requires c κs = search needs
+write-le-words-requires : tie.Need-write-le-words-requires
+write-le-words-requires c κs = search needs
 
 same-length : tie.Need-same-length
 same-length c = search needs
@@ -50,8 +51,8 @@ returns-3 c =
     let s = e .before .before .before .before in
     let done = fitting (s .args .fields) (s .args .buffer .now) (yes (e .before)) (e .if2 .left) in (
       done .0,
-      c .before .before .write-words .ensures
-          ∙ ap (λ (l : List ℕ). spliced 0 (bytesOf l) (s .args .buffer .now)) (c .before .before .before .before .before .words-of .ensures ∙ ap wordsOf (c .before .before .before .before .before .before .registers .ensures))
+      c .before .before .write-le-words .ensures
+          ∙ ap (λ (l : List ℕ). spliced 0 (wordsBytes l) (s .args .buffer .now)) (c .before .before .before .before .before .words-of .ensures ∙ ap wordsOf (c .before .before .before .before .before .before .registers .ensures))
           ∙ done .1,
     )
 
@@ -64,7 +65,7 @@ encode-spec =
     returns-2
     registers-requires
     words-of-requires
-    slice-aggregate-write-words
-    write-words-requires
+    slice-aggregate-write-le-words
+    write-le-words-requires
     same-length
     returns-3)

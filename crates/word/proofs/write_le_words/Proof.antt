@@ -1,29 +1,31 @@
-use mathlib.Core.Path.{_≡_, refl, ap, _∙_}
-use mathlib.Core.List.{List}
-use Prim.Native.Nat.{ℕ, _*_, _-_, _≤_}
+use mathlib.Core.Path.{_≡_, refl, _∙_}
+use Prim.Native.Nat.{_+_, _*_, _-_, _≤_}
 use native.Mathlib.Omega.{arith}
-use lib.ListN.{length, take, getD}
+use lib.ListN.{length, take}
+use lib.Seq.{take-all}
 use borrow.Author.Needs.{needs}
-use Rattle.word.specs.Word.{leBytes}
+use Rattle.word.specs.Word.{wordsBytes}
 use Rattle.word.specs.Splice.{spliced}
-use Rattle.encoder.specs.Words.{bytesOf}
-use Rattle.encoder.proofs.Written.{write-none, write-more, write-all}
-use Rattle.encoder.proofs.write_words.Statement.{statement}
-use Rattle.encoder.proofs.write_words.Tie as tie
+use Rattle.word.proofs.Written.{write-none, write-next}
+use Rattle.word.proofs.write_le_words.Statement.{statement}
+use Rattle.word.proofs.write_le_words.Tie as tie
 
 -- the words passed are written, all other bytes as they were
 abbrev Inv-loop : tie.InvT-loop
-Inv-loop buffer₀ words k₀ buffer k =
-    (k ≤ length words) × (length buffer ≡ length buffer₀) × (buffer ≡ spliced 0 (bytesOf (take k words)) buffer₀)
+Inv-loop bytes₀ at words k₀ bytes k =
+    (k ≤ length words) × (length bytes ≡ length bytes₀) × (bytes ≡ spliced at (wordsBytes (take k words)) bytes₀)
 
 abbrev μ-loop : tie.MeasureT-loop
-μ-loop buffer₀ words k₀ buffer k = length words - k
+μ-loop bytes₀ at words k₀ bytes k = length words - k
 
 loop-holds : tie.Need-loop-holds Inv-loop μ-loop
-loop-holds c = (omega arith, refl, write-none (c .before .before .args .words .now) (c .before .before .args .buffer .now))
+loop-holds c = let a = c .before .before .args in (omega arith, refl, write-none (a .at) (a .words .now) (a .bytes .now))
 
 mul-write-le32 : tie.Need-mul-write-le32 Inv-loop μ-loop
 mul-write-le32 c = search needs
+
+add-write-le32 : tie.Need-add-write-le32 Inv-loop μ-loop
+add-write-le32 c = search needs
 
 mul-write-le32-2 : tie.Need-mul-write-le32-2 Inv-loop μ-loop
 mul-write-le32-2 c = search needs
@@ -43,14 +45,11 @@ loop-less c = search needs
 loop-again : tie.Need-loop-again Inv-loop μ-loop
 loop-again c =
     let s = c .before .before .before .before .before .before in
-    let words = s .before .before .before .args .words .now in
-    let buffer = s .before .before .before .args .buffer .now in
-    let k = s .loop .k in (
+    let a = s .before .before .before .args in (
       omega arith,
       search needs,
       c .before .before .write-le32 .ensures
-          ∙ ap (λ (l : List ℕ). spliced (4 * k) (leBytes (getD words k 0)) l) (s .loop .inv .2)
-          ∙ write-more words buffer k (omega arith),
+          ∙ write-next (a .at) (s .loop .k) (a .words .now) (a .bytes .now) (s .loop .bytes) (omega arith) (omega arith) (s .loop .inv .2),
     )
 
 same-length : tie.Need-same-length Inv-loop μ-loop
@@ -59,16 +58,17 @@ same-length c = search needs
 returns : tie.Need-returns Inv-loop μ-loop
 returns c =
     let s = c .before in
-    s .loop .inv .2 ∙ write-all (s .before .before .before .args .words .now) (s .before .before .before .args .buffer .now) (s .loop .k) (omega arith)
+    s .loop .inv .2 ∙ rw (take-all (s .loop .k) (s .before .before .before .args .words .now) (omega arith))
 
-pub write-words-spec : {M : Type 1} → statement M
-write-words-spec =
+pub write-le-words-spec : {M : Type 1} → statement M
+write-le-words-spec =
     tie.close
     (tie.spec
     Inv-loop
     μ-loop
     loop-holds
     mul-write-le32
+    add-write-le32
     mul-write-le32-2
     shared-slice-read-write-le32
     write-le32-requires
