@@ -3,3 +3,9 @@
 pub mod Words
 -- pixels stored one by one
 pub mod Begun
+-- words that are ARGB8888 pixels
+pub mod Moved
+-- the shorter ways
+pub mod Shorter
+-- rows of a picture that is turned or flipped
+pub mod Stepping

@@ -1,3 +1,4 @@
 -- Rows of pixels.
 pub mod Row
 pub mod Mixed
+pub mod Step

@@ -4,21 +4,21 @@ ghost use Prim.Native.Nat.{_≤_};
 ghost use lib.ListN.{length, getD};
 ghost use Rattle.rows.specs.Row.{wordColour, rowOf, Wide};
 ghost use Rattle.rows.specs.Mixed.{prepared, alphaed, mixed};
+use crate::argb::blit_words;
+use crate::argb::colour_of;
+use crate::argb::fill_words;
+use crate::argb::over_words;
+use crate::argb::word_of;
+use crate::shortcut::is_argb;
+use crate::shortcut::is_over;
 use pixel::Colour;
 use pixel::Format;
 use register::Alpha;
 use register::Blending;
 use surface::store;
 
-// The colour that a word stands for.
-fn colour_of(word: u32) -> Colour
-    ensures { λ r. ⌜ r ≡ wordColour word ⌝ }
-{
-    Format::Argb8888.unpack(word)
-}
-
 // Stores one colour in all of a row.
-pub fn fill_row(row: &mut [u8], width: usize, format: Format, c: Colour)
+fn fill_pixels(row: &mut [u8], width: usize, format: Format, c: Colour)
     requires { ⌜ Wide (now row) width format ⌝ }
     ensures { λ _. ⌜ now (row .exit) ≡ rowOf format (λ x. c) (now (row .entry)) ⌝ }
 {
@@ -32,8 +32,29 @@ pub fn fill_row(row: &mut [u8], width: usize, format: Format, c: Colour)
     }
 }
 
+// The same, with a loop for each format: in each of them the format is a constant.
+pub fn fill_row(row: &mut [u8], width: usize, format: Format, c: Colour)
+    requires { ⌜ Wide (now row) width format ⌝ }
+    ensures { λ _. ⌜ now (row .exit) ≡ rowOf format (λ x. c) (now (row .entry)) ⌝ }
+{
+    match format {
+        Format::Argb8888 => {
+            fill_words(row, width, word_of(c));
+            return;
+        }
+        Format::Rgb888 => {
+            fill_pixels(row, width, Format::Rgb888, c);
+            return;
+        }
+        Format::Rgb565 => {
+            fill_pixels(row, width, Format::Rgb565, c);
+            return;
+        }
+    }
+}
+
 // Stores the colours of a buffer in all of a row.
-pub fn blit_row(row: &mut [u8], width: usize, format: Format, source: &[u32])
+fn blit_pixels(row: &mut [u8], width: usize, format: Format, source: &[u32])
     requires { ⌜ (Wide (now row) width format) × (width ≤ length (now source)) ⌝ }
     ensures { λ _. ⌜ now (row .exit) ≡ rowOf format (λ x. wordColour (getD (now (source .entry)) x 0)) (now (row .entry)) ⌝ }
 {
@@ -44,6 +65,27 @@ pub fn blit_row(row: &mut [u8], width: usize, format: Format, source: &[u32])
         store(row, at, format, colour_of(source[x]));
         at = at + bytes;
         x += 1;
+    }
+}
+
+// The same, with a loop for each format.
+pub fn blit_row(row: &mut [u8], width: usize, format: Format, source: &[u32])
+    requires { ⌜ (Wide (now row) width format) × (width ≤ length (now source)) ⌝ }
+    ensures { λ _. ⌜ now (row .exit) ≡ rowOf format (λ x. wordColour (getD (now (source .entry)) x 0)) (now (row .entry)) ⌝ }
+{
+    match format {
+        Format::Argb8888 => {
+            blit_words(row, width, source);
+            return;
+        }
+        Format::Rgb888 => {
+            blit_pixels(row, width, Format::Rgb888, source);
+            return;
+        }
+        Format::Rgb565 => {
+            blit_pixels(row, width, Format::Rgb565, source);
+            return;
+        }
     }
 }
 
@@ -74,7 +116,7 @@ fn mix(blending: Blending, source: Alpha, destination: Alpha, s: Colour, d: Colo
 }
 
 // Blends the colours of one buffer with those of another, and stores them in all of a row.
-pub fn blend_row(
+fn blend_pixels(
     row: &mut [u8],
     width: usize,
     format: Format,
@@ -102,4 +144,34 @@ pub fn blend_row(
         at = at + bytes;
         x += 1;
     }
+}
+
+// The same, by a shorter way for the blending that is used most.
+pub fn blend_row(
+    row: &mut [u8],
+    width: usize,
+    format: Format,
+    blending: Blending,
+    source_alpha: Alpha,
+    destination_alpha: Alpha,
+    source: &[u32],
+    destination: &[u32],
+)
+    requires { ⌜ (Wide (now row) width format) × (width ≤ length (now source)) × (width ≤ length (now destination)) ⌝ }
+    ensures { λ _. ⌜ now (row .exit) ≡ rowOf format (λ x. mixed blending «source_alpha» «destination_alpha» (wordColour (getD (now (source .entry)) x 0)) (wordColour (getD (now (destination .entry)) x 0))) (now (row .entry)) ⌝ }
+{
+    if is_argb(format) & is_over(blending, source_alpha, destination_alpha) {
+        over_words(row, width, source, destination);
+        return;
+    }
+    blend_pixels(
+        row,
+        width,
+        format,
+        blending,
+        source_alpha,
+        destination_alpha,
+        source,
+        destination,
+    );
 }

@@ -1,118 +1,55 @@
-use mathlib.Core.Path.{_≡_, refl, _∙_}
-use Prim.Native.Nat.{_+_, _-_, _*_, _≤_}
-use native.Mathlib.Omega.{arith}
-use lib.ListN.{length, getD}
+use mathlib.Core.Path.{sym, _∙_}
+use lib.ListN.{getD}
 use denote.Ref.{now}
-use borrow.Author.Needs.{needs}
-use Rattle.pixel.specs.Formats.{bytesOf}
-use Rattle.surface.proofs.Rows.{next}
+use Rattle.word.proofs.Tests.{and-true}
+use Rattle.pixel.specs.declared.format.Format.the-variants.{Argb8888}
 use Rattle.rows.specs.Row.{wordColour}
-use Rattle.rows.specs.Mixed.{mixed}
-use Rattle.rows.proofs.Begun.{begun, none-begun, more-begun, all-begun}
+use Rattle.rows.proofs.Shorter.{row-same}
+use borrow.Author.Needs.{needs}
 use Rattle.rows.proofs.paint.blend_row.Statement.{statement}
 use Rattle.rows.proofs.paint.blend_row.Tie as tie
 
-abbrev Inv-loop : tie.InvT-loop
-Inv-loop row₀ width format blending source-alpha destination-alpha source destination bytes x₀ at₀ row x at =
-    (x ≤ width)
-    × (at ≡ x * bytesOf format)
-    × (row ≡ begun format (λ x. mixed blending source-alpha destination-alpha (wordColour (getD source x 0)) (wordColour (getD destination x 0))) x row₀)
-    × (length row ≡ length row₀)
+is-argb-requires : tie.Need-is-argb-requires
+is-argb-requires c κs = search needs
 
-abbrev μ-loop : tie.MeasureT-loop
-μ-loop row₀ width format blending source-alpha destination-alpha source destination bytes x₀ at₀ row x at = width - x
+is-over-requires : tie.Need-is-over-requires
+is-over-requires c κs = search needs
 
-bytes-requires : tie.Need-bytes-requires Inv-loop μ-loop
-bytes-requires c κs = search needs
+over-words-requires : tie.Need-over-words-requires
+over-words-requires c κs =
+    let t = c .before in
+    rw (t .before .before .is-argb .ensures (and-true _ _ (t .if1 .taken) .0)) at (t .before .before .before .before .before .before .pre)
 
-loop-holds : tie.Need-loop-holds Inv-loop μ-loop
-loop-holds c = (search needs, search needs, none-begun _ _ _, refl)
-
--- the pixel x lies in the row
-fits : (c : tie.In-loop Inv-loop μ-loop) →
-    c .before .loop .at + bytesOf (c .before .before .before .before .before .before .args .format) ≤ length (c .before .loop .row)
-fits c =
-    let a = c .before .before .before .before .before .before .args in
-    omega (arith, next (c .before .loop .x) (a .width) (bytesOf (a .format)) (c .loop-test .taken))
-
-mul-colour-of : tie.Need-mul-colour-of Inv-loop μ-loop
-mul-colour-of c = search needs
-
-shared-slice-read-colour-of : tie.Need-shared-slice-read-colour-of Inv-loop μ-loop
-shared-slice-read-colour-of c = search needs
-
-colour-of-requires : tie.Need-colour-of-requires Inv-loop μ-loop
-colour-of-requires c κs = search needs
-
-mul-colour-of-2 : tie.Need-mul-colour-of-2 Inv-loop μ-loop
-mul-colour-of-2 c = search needs
-
-shared-slice-read-colour-of-2 : tie.Need-shared-slice-read-colour-of-2 Inv-loop μ-loop
-shared-slice-read-colour-of-2 c = search needs
-
-colour-of-requires-2 : tie.Need-colour-of-requires-2 Inv-loop μ-loop
-colour-of-requires-2 c κs = search needs
-
-mix-requires : tie.Need-mix-requires Inv-loop μ-loop
-mix-requires c κs = search needs
-
-store-requires : tie.Need-store-requires Inv-loop μ-loop
-store-requires c κs = fits (c .before .before .before .before .before .before)
-
-add-at : tie.Need-add-at Inv-loop μ-loop
-add-at c =
-    let t = c .before .before .before .before .before .before .before .before .before in
-    omega (arith, fits t, t .before .before .bytes .ensures, t .before .loop .inv .3)
-
-add-x : tie.Need-add-x Inv-loop μ-loop
-add-x c = search needs
-
-loop-less : tie.Need-loop-less Inv-loop μ-loop
-loop-less c = search needs
-
-loop-again : tie.Need-loop-again Inv-loop μ-loop
-loop-again c =
-    let m = c .before .before .before in
-    let t = m .before .before .before .before .before .before in
-    let l = t .before .loop in
-    let a = t .before .before .before .before .before .before .args in
-    let s = c .before .before .store in (
-      search needs,
-      omega (arith, t .before .before .bytes .ensures, l .inv .1),
-      more-begun (a .format) _ (now (a .row)) (l .row) (s .last .0) (l .x) (l .at) _ (l .inv .1)
-          (rw (← m .before .before .colour-of2 .ensures, ← m .before .before .before .before .colour-of .ensures) (m .mix .ensures)) (l .inv .2) (s .ensures),
-      s .kept .0 ∙ l .inv .3,
-    )
-
-same-length : tie.Need-same-length Inv-loop μ-loop
+same-length : tie.Need-same-length
 same-length c = search needs
 
-returns : tie.Need-returns Inv-loop μ-loop
+returns : tie.Need-returns
 returns c =
-    let l = c .before .loop in
-    let s = c .before .before .before .before .before .before in
-    let e : l .x ≡ s .args .width = omega arith in
-    all-begun (s .args .format) _ (now (s .args .row)) (l .row) (s .args .width) (s .pre .0) (rw e at (l .inv .2))
+    let t = c .before .before .before .before in
+    let p = and-true _ _ (t .if1 .taken) in
+    let a = t .before .before .before .before .before .before .args in
+    rw (t .before .before .is-argb .ensures (p .0)) (c .before .before .over-words .ensures
+    ∙ row-same Argb8888 _ _ (now (a .row))
+    (λ x. sym (t .before .is-over .ensures (p .1) (wordColour (getD (now (a .source)) x 0)) (wordColour (getD (now (a .destination)) x 0)))))
+
+blend-pixels-requires : tie.Need-blend-pixels-requires
+blend-pixels-requires c κs = search needs
+
+same-length-2 : tie.Need-same-length-2
+same-length-2 c = search needs
+
+returns-2 : tie.Need-returns-2
+returns-2 c = search needs
 
 pub blend-row-spec : {M : Type 1} → statement M
 blend-row-spec =
     tie.close
     (tie.spec
-    Inv-loop
-    μ-loop
-    bytes-requires
-    loop-holds
-    mul-colour-of
-    shared-slice-read-colour-of
-    colour-of-requires
-    mul-colour-of-2
-    shared-slice-read-colour-of-2
-    colour-of-requires-2
-    mix-requires
-    store-requires
-    add-at
-    add-x
-    loop-less
-    loop-again
+    is-argb-requires
+    is-over-requires
+    over-words-requires
     same-length
-    returns)
+    returns
+    blend-pixels-requires
+    same-length-2
+    returns-2)

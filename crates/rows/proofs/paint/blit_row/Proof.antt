@@ -1,97 +1,56 @@
-use mathlib.Core.Path.{_≡_, refl, _∙_}
-use Prim.Native.Nat.{_+_, _-_, _*_, _≤_}
-use native.Mathlib.Omega.{arith}
-use lib.ListN.{length, getD}
-use denote.Ref.{now}
 use borrow.Author.Needs.{needs}
-use Rattle.pixel.specs.Formats.{bytesOf}
-use Rattle.surface.proofs.Rows.{next}
-use Rattle.rows.specs.Row.{wordColour}
-use Rattle.rows.proofs.Begun.{begun, none-begun, more-begun, all-begun}
 use Rattle.rows.proofs.paint.blit_row.Statement.{statement}
 use Rattle.rows.proofs.paint.blit_row.Tie as tie
 
-abbrev Inv-loop : tie.InvT-loop
-Inv-loop row₀ width format source bytes x₀ at₀ row x at =
-    (x ≤ width) × (at ≡ x * bytesOf format) × (row ≡ begun format (λ x. wordColour (getD source x 0)) x row₀) × (length row ≡ length row₀)
+enum-told : tie.Need-enum-told
+enum-told c = search needs
 
-abbrev μ-loop : tie.MeasureT-loop
-μ-loop row₀ width format source bytes x₀ at₀ row x at = width - x
+blit-words-requires : tie.Need-blit-words-requires
+blit-words-requires c κs = rw (c .before .enum-told .given .1) at (c .before .before .before .before .before .pre)
 
-bytes-requires : tie.Need-bytes-requires Inv-loop μ-loop
-bytes-requires c κs = search needs
-
-loop-holds : tie.Need-loop-holds Inv-loop μ-loop
-loop-holds c = (search needs, search needs, none-begun _ _ _, refl)
-
--- the pixel x lies in the row
-fits : (c : tie.In-loop Inv-loop μ-loop) →
-    c .before .loop .at + bytesOf (c .before .before .before .before .before .args .format) ≤ length (c .before .loop .row)
-fits c =
-    let a = c .before .before .before .before .before .args in
-    omega (arith, next (c .before .loop .x) (a .width) (bytesOf (a .format)) (c .loop-test .taken))
-
-mul-colour-of : tie.Need-mul-colour-of Inv-loop μ-loop
-mul-colour-of c = search needs
-
-shared-slice-read-colour-of : tie.Need-shared-slice-read-colour-of Inv-loop μ-loop
-shared-slice-read-colour-of c = search needs
-
-colour-of-requires : tie.Need-colour-of-requires Inv-loop μ-loop
-colour-of-requires c κs = search needs
-
-store-requires : tie.Need-store-requires Inv-loop μ-loop
-store-requires c κs = fits (c .before .before .before)
-
-add-at : tie.Need-add-at Inv-loop μ-loop
-add-at c =
-    let t = c .before .before .before .before .before .before in
-    omega (arith, fits t, t .before .before .bytes .ensures, t .before .loop .inv .3)
-
-add-x : tie.Need-add-x Inv-loop μ-loop
-add-x c = search needs
-
-loop-less : tie.Need-loop-less Inv-loop μ-loop
-loop-less c = search needs
-
-loop-again : tie.Need-loop-again Inv-loop μ-loop
-loop-again c =
-    let t = c .before .before .before .before .before .before in
-    let l = t .before .loop in
-    let a = t .before .before .before .before .before .args in
-    let s = c .before .before .store in (
-      search needs,
-      omega (arith, t .before .before .bytes .ensures, l .inv .1),
-      more-begun (a .format) _ (now (a .row)) (l .row) (s .last .0) (l .x) (l .at) _ (l .inv .1)
-          (c .before .before .before .colour-of .ensures) (l .inv .2) (s .ensures),
-      s .kept .0 ∙ l .inv .3,
-    )
-
-same-length : tie.Need-same-length Inv-loop μ-loop
+same-length : tie.Need-same-length
 same-length c = search needs
 
-returns : tie.Need-returns Inv-loop μ-loop
-returns c =
-    let l = c .before .loop in
-    let s = c .before .before .before .before .before in
-    let e : l .x ≡ s .args .width = omega arith in
-    all-begun (s .args .format) _ (now (s .args .row)) (l .row) (s .args .width) (s .pre .0) (rw e at (l .inv .2))
+returns : tie.Need-returns
+returns c = rw (c .before .before .before .before .enum-told .given .1) (c .before .before .blit-words .ensures)
+
+enum-told-2 : tie.Need-enum-told-2
+enum-told-2 c = search needs
+
+blit-pixels-requires : tie.Need-blit-pixels-requires
+blit-pixels-requires c κs = rw (c .before .enum-told2 .given .1) at (c .before .before .before .before .before .pre)
+
+same-length-2 : tie.Need-same-length-2
+same-length-2 c = search needs
+
+returns-2 : tie.Need-returns-2
+returns-2 c = rw (c .before .before .before .before .enum-told2 .given .1) (c .before .before .blit-pixels .ensures)
+
+enum-told-3 : tie.Need-enum-told-3
+enum-told-3 c = search needs
+
+blit-pixels-requires-2 : tie.Need-blit-pixels-requires-2
+blit-pixels-requires-2 c κs = rw (c .before .enum-told3 .given .1) at (c .before .before .before .before .before .pre)
+
+same-length-3 : tie.Need-same-length-3
+same-length-3 c = search needs
+
+returns-3 : tie.Need-returns-3
+returns-3 c = rw (c .before .before .before .before .enum-told3 .given .1) (c .before .before .blit-pixels2 .ensures)
 
 pub blit-row-spec : {M : Type 1} → statement M
 blit-row-spec =
     tie.close
     (tie.spec
-    Inv-loop
-    μ-loop
-    bytes-requires
-    loop-holds
-    mul-colour-of
-    shared-slice-read-colour-of
-    colour-of-requires
-    store-requires
-    add-at
-    add-x
-    loop-less
-    loop-again
+    enum-told
+    blit-words-requires
     same-length
-    returns)
+    returns
+    enum-told-2
+    blit-pixels-requires
+    same-length-2
+    returns-2
+    enum-told-3
+    blit-pixels-requires-2
+    same-length-3
+    returns-3)

@@ -1,83 +1,62 @@
-use mathlib.Core.Path.{_≡_, refl, _∙_}
-use Prim.Native.Nat.{_+_, _-_, _*_, _≤_}
-use native.Mathlib.Omega.{arith}
-use lib.ListN.{length}
-use denote.Ref.{now}
 use borrow.Author.Needs.{needs}
-use Rattle.pixel.specs.Formats.{bytesOf}
-use Rattle.surface.proofs.Rows.{next}
-use Rattle.rows.proofs.Begun.{begun, none-begun, more-begun, all-begun}
 use Rattle.rows.proofs.paint.fill_row.Statement.{statement}
 use Rattle.rows.proofs.paint.fill_row.Tie as tie
 
-abbrev Inv-loop : tie.InvT-loop
-Inv-loop row₀ width format c bytes x₀ at₀ row x at =
-    (x ≤ width) × (at ≡ x * bytesOf format) × (row ≡ begun format (λ x. c) x row₀) × (length row ≡ length row₀)
+enum-told : tie.Need-enum-told
+enum-told c = search needs
 
-abbrev μ-loop : tie.MeasureT-loop
-μ-loop row₀ width format c bytes x₀ at₀ row x at = width - x
+word-of-requires : tie.Need-word-of-requires
+word-of-requires c κs = search needs
 
-bytes-requires : tie.Need-bytes-requires Inv-loop μ-loop
-bytes-requires c κs = search needs
+fill-words-requires : tie.Need-fill-words-requires
+fill-words-requires c κs = rw (c .before .before .enum-told .given .1) at (c .before .before .before .before .before .pre)
 
-loop-holds : tie.Need-loop-holds Inv-loop μ-loop
-loop-holds c = (search needs, search needs, none-begun _ _ _, refl)
-
--- the pixel x lies in the row
-fits : (c : tie.In-loop Inv-loop μ-loop) →
-    c .before .loop .at + bytesOf (c .before .before .before .before .args .format) ≤ length (c .before .loop .row)
-fits c =
-    let a = c .before .before .before .before .args in
-    omega (arith, next (c .before .loop .x) (a .width) (bytesOf (a .format)) (c .loop-test .taken))
-
-store-requires : tie.Need-store-requires Inv-loop μ-loop
-store-requires c κs = fits (c .before)
-
-add-at : tie.Need-add-at Inv-loop μ-loop
-add-at c =
-    let t = c .before .before .before .before in
-    omega (arith, fits t, t .before .before .bytes .ensures, t .before .loop .inv .3)
-
-add-x : tie.Need-add-x Inv-loop μ-loop
-add-x c = search needs
-
-loop-less : tie.Need-loop-less Inv-loop μ-loop
-loop-less c = search needs
-
-loop-again : tie.Need-loop-again Inv-loop μ-loop
-loop-again c =
-    let t = c .before .before .before .before in
-    let l = t .before .loop in
-    let a = t .before .before .before .before .args in
-    let s = c .before .before .store in (
-      search needs,
-      omega (arith, t .before .before .bytes .ensures, l .inv .1),
-      more-begun (a .format) (λ x. a .c) (now (a .row)) (l .row) (s .last .0) (l .x) (l .at) (a .c) (l .inv .1) refl (l .inv .2) (s .ensures),
-      s .kept .0 ∙ l .inv .3,
-    )
-
-same-length : tie.Need-same-length Inv-loop μ-loop
+same-length : tie.Need-same-length
 same-length c = search needs
 
-returns : tie.Need-returns Inv-loop μ-loop
+returns : tie.Need-returns
 returns c =
-    let l = c .before .loop in
-    let s = c .before .before .before .before in
-    let e : l .x ≡ s .args .width = omega arith in
-    all-begun (s .args .format) _ (now (s .args .row)) (l .row) (s .args .width) (s .pre) (rw e at (l .inv .2))
+    let w = c .before .before .before in
+    rw (w .before .before .enum-told .given .1, ← w .word-of .ensures) (c .before .before .fill-words .ensures)
+
+enum-told-2 : tie.Need-enum-told-2
+enum-told-2 c = search needs
+
+fill-pixels-requires : tie.Need-fill-pixels-requires
+fill-pixels-requires c κs = rw (c .before .enum-told2 .given .1) at (c .before .before .before .before .pre)
+
+same-length-2 : tie.Need-same-length-2
+same-length-2 c = search needs
+
+returns-2 : tie.Need-returns-2
+returns-2 c = rw (c .before .before .before .before .enum-told2 .given .1) (c .before .before .fill-pixels .ensures)
+
+enum-told-3 : tie.Need-enum-told-3
+enum-told-3 c = search needs
+
+fill-pixels-requires-2 : tie.Need-fill-pixels-requires-2
+fill-pixels-requires-2 c κs = rw (c .before .enum-told3 .given .1) at (c .before .before .before .before .pre)
+
+same-length-3 : tie.Need-same-length-3
+same-length-3 c = search needs
+
+returns-3 : tie.Need-returns-3
+returns-3 c = rw (c .before .before .before .before .enum-told3 .given .1) (c .before .before .fill-pixels2 .ensures)
 
 pub fill-row-spec : {M : Type 1} → statement M
 fill-row-spec =
     tie.close
     (tie.spec
-    Inv-loop
-    μ-loop
-    bytes-requires
-    loop-holds
-    store-requires
-    add-at
-    add-x
-    loop-less
-    loop-again
+    enum-told
+    word-of-requires
+    fill-words-requires
     same-length
-    returns)
+    returns
+    enum-told-2
+    fill-pixels-requires
+    same-length-2
+    returns-2
+    enum-told-3
+    fill-pixels-requires-2
+    same-length-3
+    returns-3)

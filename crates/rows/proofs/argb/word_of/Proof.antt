@@ -1,10 +1,10 @@
 use mathlib.Core.Path.{ap, _∙_}
 use native.Mathlib.Omega.{arith}
 use Rattle.rows.specs.Row.{wordColour}
-use Rattle.rows.proofs.Words.{word-colour}
+use Rattle.over.proofs.Kept.{word-colour}
 use borrow.Author.Needs.{needs}
-use Rattle.rows.proofs.fetch.word_of.Statement.{statement}
-use Rattle.rows.proofs.fetch.word_of.Tie as tie
+use Rattle.rows.proofs.argb.word_of.Statement.{statement}
+use Rattle.rows.proofs.argb.word_of.Tie as tie
 
 pack-requires : tie.Need-pack-requires
 pack-requires c κs = search needs

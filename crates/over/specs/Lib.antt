@@ -1,0 +1,2 @@
+-- Two channels in one word.
+pub mod Pair

@@ -1,0 +1,93 @@
+use mathlib.Core.Path.{_≡_, refl, _∙_}
+use Prim.Native.Nat.{_-_, _*_, _≤_}
+use native.Mathlib.Omega.{arith}
+use lib.ListN.{length, getD}
+use denote.Ref.{now}
+use borrow.Author.Needs.{needs}
+use Rattle.pixel.specs.declared.format.Format.the-variants.{Argb8888}
+use Rattle.rows.specs.Row.{wordColour}
+use Rattle.rows.proofs.Begun.{begun, none-begun, more-begun, all-begun}
+use Rattle.pixel.specs.Blending.{blended}
+use Rattle.pixel.specs.Rules.{ruleOf}
+use Rattle.pixel.specs.declared.blend.RuleName.the-variants.{SrcOver}
+use Rattle.rows.proofs.argb.over_words.Statement.{statement}
+use Rattle.rows.proofs.argb.over_words.Tie as tie
+
+abbrev Inv-loop : tie.InvT-loop
+Inv-loop row₀ width source destination x₀ at₀ row x at =
+    (x ≤ width) × (at ≡ x * 4) × (row ≡ begun Argb8888 (λ x. blended (ruleOf SrcOver) (wordColour (getD source x 0)) (wordColour (getD destination x 0))) x row₀) × (length row ≡ length row₀)
+
+abbrev μ-loop : tie.MeasureT-loop
+μ-loop row₀ width source destination x₀ at₀ row x at = width - x
+
+loop-holds : tie.Need-loop-holds Inv-loop μ-loop
+loop-holds c = (search needs, search needs, none-begun _ _ _, refl)
+
+mul-over : tie.Need-mul-over Inv-loop μ-loop
+mul-over c = search needs
+
+shared-slice-read-over : tie.Need-shared-slice-read-over Inv-loop μ-loop
+shared-slice-read-over c = search needs
+
+mul-over-2 : tie.Need-mul-over-2 Inv-loop μ-loop
+mul-over-2 c = search needs
+
+shared-slice-read-over-2 : tie.Need-shared-slice-read-over-2 Inv-loop μ-loop
+shared-slice-read-over-2 c = search needs
+
+over-requires : tie.Need-over-requires Inv-loop μ-loop
+over-requires c κs = search needs
+
+store-word-requires : tie.Need-store-word-requires Inv-loop μ-loop
+store-word-requires c κs = search needs
+
+add-at : tie.Need-add-at Inv-loop μ-loop
+add-at c = search needs
+
+add-x : tie.Need-add-x Inv-loop μ-loop
+add-x c = search needs
+
+loop-less : tie.Need-loop-less Inv-loop μ-loop
+loop-less c = search needs
+
+loop-again : tie.Need-loop-again Inv-loop μ-loop
+loop-again c =
+    let t = c .before .before .before .before .before .before .before in
+    let l = t .before .loop in
+    let a = t .before .before .before .before .before .args in
+    let s = c .before .before .store-word in (
+      search needs,
+      search needs,
+      more-begun Argb8888 _ (now (a .row)) (l .row) (s .last .0) (l .x) (l .at) _ (l .inv .1) (c .before .before .before .over .ensures) (l .inv .2) (s .ensures),
+      s .kept .0 ∙ l .inv .3,
+    )
+
+same-length : tie.Need-same-length Inv-loop μ-loop
+same-length c = search needs
+
+returns : tie.Need-returns Inv-loop μ-loop
+returns c =
+    let l = c .before .loop in
+    let s = c .before .before .before .before .before in
+    let e : l .x ≡ s .args .width = omega arith in
+    all-begun Argb8888 _ (now (s .args .row)) (l .row) (s .args .width) (s .pre .0) (rw e at (l .inv .2))
+
+pub over-words-spec : {M : Type 1} → statement M
+over-words-spec =
+    tie.close
+    (tie.spec
+    Inv-loop
+    μ-loop
+    loop-holds
+    mul-over
+    shared-slice-read-over
+    mul-over-2
+    shared-slice-read-over-2
+    over-requires
+    store-word-requires
+    add-at
+    add-x
+    loop-less
+    loop-again
+    same-length
+    returns)
