@@ -2,3 +2,4 @@
 pub mod Row
 pub mod Mixed
 pub mod Step
+pub mod Shortcut

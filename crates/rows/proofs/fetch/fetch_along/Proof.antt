@@ -1,3 +1,5 @@
+use mathlib.Core.Path.{sym, _∙_}
+use Rattle.rows.proofs.Shorter.{straight}
 use borrow.Author.Needs.{needs}
 use Rattle.rows.proofs.fetch.fetch_along.Statement.{statement}
 use Rattle.rows.proofs.fetch.fetch_along.Tie as tie
@@ -8,7 +10,7 @@ is-straight-requires c κs = search needs
 fetch-straight-requires : tie.Need-fetch-straight-requires
 fetch-straight-requires c κs =
     let t = c .before in
-    let h = t .before .is-straight .ensures (t .if1 .taken) in
+    let h = straight (t .before .before .before .before .args .transform) (sym (t .before .is-straight .ensures) ∙ t .if1 .taken) in
     (t .before .before .before .before .pre, h .0, h .1)
 
 same-length : tie.Need-same-length

@@ -4,7 +4,7 @@ use denote.Ref.{now}
 use Rattle.word.proofs.Tests.{and-true}
 use Rattle.pixel.specs.declared.format.Format.the-variants.{Argb8888}
 use Rattle.rows.specs.Row.{wordColour}
-use Rattle.rows.proofs.Shorter.{row-same}
+use Rattle.rows.proofs.Shorter.{is-argb, over-mixed, row-same}
 use borrow.Author.Needs.{needs}
 use Rattle.rows.proofs.paint.blend_row.Statement.{statement}
 use Rattle.rows.proofs.paint.blend_row.Tie as tie
@@ -18,7 +18,9 @@ is-over-requires c κs = search needs
 over-words-requires : tie.Need-over-words-requires
 over-words-requires c κs =
     let t = c .before in
-    rw (t .before .before .is-argb .ensures (and-true _ _ (t .if1 .taken) .0)) at (t .before .before .before .before .before .before .pre)
+    let s = t .before .before .before .before .before .before in
+    let p = and-true _ _ (t .if1 .taken) in
+    rw (is-argb (s .args .format) (sym (t .before .before .is-argb .ensures) ∙ p .0)) at (s .pre)
 
 same-length : tie.Need-same-length
 same-length c = search needs
@@ -28,9 +30,10 @@ returns c =
     let t = c .before .before .before .before in
     let p = and-true _ _ (t .if1 .taken) in
     let a = t .before .before .before .before .before .before .args in
-    rw (t .before .before .is-argb .ensures (p .0)) (c .before .before .over-words .ensures
+    let over = over-mixed (a .blending) (a .source-alpha) (a .destination-alpha) (sym (t .before .is-over .ensures) ∙ p .1) in
+    rw (is-argb (a .format) (sym (t .before .before .is-argb .ensures) ∙ p .0)) (c .before .before .over-words .ensures
     ∙ row-same Argb8888 _ _ (now (a .row))
-    (λ x. sym (t .before .is-over .ensures (p .1) (wordColour (getD (now (a .source)) x 0)) (wordColour (getD (now (a .destination)) x 0)))))
+    (λ x. sym (over (wordColour (getD (now (a .source)) x 0)) (wordColour (getD (now (a .destination)) x 0)))))
 
 blend-pixels-requires : tie.Need-blend-pixels-requires
 blend-pixels-requires c κs = search needs
