@@ -28,7 +28,7 @@ pub data Ending : Type 0 where
   finished : Ending
   faulty : (fault : Fault) (offset : ℕ) → Ending
 
--- the bank is that at the end; of a fault, that before the faulty word
+-- the bank is as it stands where the reading ends: a word that is refused is not in it
 pub record Reading : Type 0 where
   pub tasks : List Task
   pub ending : Ending

@@ -47,7 +47,7 @@ impl Verdict {
     }
 }
 
-// A verdict, and the bank where judging ended: after the last task or, of a faulty batch, before the faulty word.
+// A verdict, and the bank as it stands where judging ended: a word that is refused is not in it.
 pub struct Judgement {
     pub verdict: Verdict,
     pub bank: Bank,

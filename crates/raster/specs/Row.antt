@@ -47,11 +47,15 @@ pub record Row (window : Range) (memory : List ℕ) (t : Task) (y : ℕ) : Type 
   pub drawable : Drawable window (length memory) t
   pub row : y < t .output .height
 
--- and its buffers lent
-pub record Ready (window : Range) (memory s d : List ℕ) (t : Task) (y : ℕ) : Type 0 where
-  pub ask : Row window memory t y
+-- two buffers, each for a row as wide as any
+pub record Buffers (s d : List ℕ) : Type 0 where
   pub source : 4096 ≤ length s
   pub destination : 4096 ≤ length d
+
+-- what is asked where row y of a task is drawn with buffers
+pub record Ready (window : Range) (memory s d : List ℕ) (t : Task) (y : ℕ) : Type 0 where
+  pub ask : Row window memory t y
+  pub buffers : Buffers s d
 
 -- or no buffer is needed, since it is all of one colour
 pub record Filled (window : Range) (memory : List ℕ) (t : Task) (y : ℕ) : Type 0 where

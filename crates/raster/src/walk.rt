@@ -27,13 +27,16 @@ pub fn draw_batch(
     requires { ⌜ Room bounds (length (now memory)) ⌝ }
     ensures { λ _. ⌜ now (memory .exit) ≡ drawTasks (readBatch bounds bank (batchWords (now (ring .entry)) offset size) .tasks) (now (memory .entry)) ⌝ }
 {
+    // once a batch: most tasks are small, and clearing these would be most of their time
+    let mut source = [0u32; 4096];
+    let mut destination = [0u32; 4096];
     let window = bounds.window;
     let mut current = bank;
     let mut at = 0;
     loop {
         match next_task(ring, offset, size, bounds, current, at) {
             Step::Task(task, b, next) => {
-                draw_task(memory, window, task);
+                draw_task(memory, window, task, &mut source, &mut destination);
                 current = b;
                 at = next;
             }

@@ -28,14 +28,14 @@ row-start-requires-2 c κs = search needs
 fetch-source-requires : tie.Need-fetch-source-requires
 fetch-source-requires c κs =
     let s = c .before .before .before .before .before .before .before .before .before .before .before in
-    fetches (s .pre .0 .ask) (now (s .args .source)) (s .pre .0 .source)
+    fetches (s .pre .0 .ask) (now (s .args .source)) (s .pre .0 .buffers .source)
 
 fetch-row-requires : tie.Need-fetch-row-requires
 fetch-row-requires c κs =
     let t = c .before .before .before .before .before .before .before in
     let s = t .before .before .before .before .before .before .before .before .before in
     let p = s .pre .0 in
-    (omega (arith, t .row-start2 .ensures, destination-row (p .ask) (s .pre .1)), omega (arith, p .destination, p .ask .drawable .clear .output .narrow))
+    (omega (arith, t .row-start2 .ensures, destination-row (p .ask) (s .pre .1)), omega (arith, p .buffers .destination, p .ask .drawable .clear .output .narrow))
 
 sub-blend-at : tie.Need-sub-blend-at
 sub-blend-at c = ordered (c .before .before .before .before .before .before .before .before .before .before .before .before .before .before .before .before .before .before .before .pre .0 .ask)
@@ -56,8 +56,8 @@ blend-at-requires c κs =
     let p = t .before .before .before .before .before .before .before .before .pre .0 in
     record {
       inside = omega (arith, row-fits (p .ask) _ (t .row-start .ensures), length-window (p .ask));
-      source = omega (arith, f .fetch-source .kept .0, p .source, p .ask .drawable .clear .output .narrow);
-      destination = omega (arith, g .fetch-row .kept .0, p .destination, p .ask .drawable .clear .output .narrow);
+      source = omega (arith, f .fetch-source .kept .0, p .buffers .source, p .ask .drawable .clear .output .narrow);
+      destination = omega (arith, g .fetch-row .kept .0, p .buffers .destination, p .ask .drawable .clear .output .narrow);
     }
 
 same-length : tie.Need-same-length

@@ -19,7 +19,7 @@ sub-at c = search needs
 fetch-source-requires : tie.Need-fetch-source-requires
 fetch-source-requires c κs =
     let s = c .before .before .before .before .before .before .before in
-    fetches (s .pre .0 .ask) (now (s .args .source)) (s .pre .0 .source)
+    fetches (s .pre .0 .ask) (now (s .args .source)) (s .pre .0 .buffers .source)
 
 sub-blit-at : tie.Need-sub-blit-at
 sub-blit-at c = ordered (c .before .before .before .before .before .before .before .before .before .before .pre .0 .ask)
@@ -39,8 +39,8 @@ blit-at-requires c κs =
     let p = t .before .before .before .before .before .pre .0 in
     record {
       inside = omega (arith, row-fits (p .ask) _ (t .row-start .ensures), length-window (p .ask));
-      source = omega (arith, f .fetch-source .kept .0, p .source, p .ask .drawable .clear .output .narrow);
-      destination = omega (arith, f .fetch-source .kept .0, p .source, p .ask .drawable .clear .output .narrow);
+      source = omega (arith, f .fetch-source .kept .0, p .buffers .source, p .ask .drawable .clear .output .narrow);
+      destination = omega (arith, f .fetch-source .kept .0, p .buffers .source, p .ask .drawable .clear .output .narrow);
     }
 
 same-length : tie.Need-same-length

@@ -10,7 +10,11 @@ use Rattle.raster.proofs.task.draw_task.Tie as tie
 
 abbrev Inv-loop : tie.InvT-loop
 Inv-loop memory₀ window task source₀ destination₀ height y₀ memory source destination y =
-    (y ≤ height) × (memory ≡ begun task y memory₀) × (length memory ≡ length memory₀) × (length source ≡ 4096) × (length destination ≡ 4096)
+    (y ≤ height)
+    × (memory ≡ begun task y memory₀)
+    × (length memory ≡ length memory₀)
+    × (length source ≡ length source₀)
+    × (length destination ≡ length destination₀)
 
 abbrev μ-loop : tie.MeasureT-loop
 μ-loop memory₀ window task source₀ destination₀ height y₀ memory source destination y = height - y
@@ -18,40 +22,33 @@ abbrev μ-loop : tie.MeasureT-loop
 loop-holds : tie.Need-loop-holds Inv-loop μ-loop
 loop-holds c = (search needs, none-begun _ _, refl, refl, refl)
 
-slice-aggregate-draw-row : tie.Need-slice-aggregate-draw-row Inv-loop μ-loop
-slice-aggregate-draw-row c = search needs
-
-slice-aggregate-draw-row-2 : tie.Need-slice-aggregate-draw-row-2 Inv-loop μ-loop
-slice-aggregate-draw-row-2 c = search needs
-
 draw-row-requires : tie.Need-draw-row-requires Inv-loop μ-loop
 draw-row-requires c κs =
     let t = c .before .before .before in
     let l = t .before .loop in
-    let s = t .before .before .before .before in
+    let s = t .before .before .before .before .before .before in
     record {
-      ask = record { drawable = rw (l .inv .2) (s .pre); row = t .loop-test .taken };
-      source = omega (arith, l .inv .3);
-      destination = omega (arith, l .inv .4);
+      ask = record { drawable = rw (l .inv .2) (s .pre .0); row = t .loop-test .taken };
+      buffers = record { source = omega (arith, l .inv .3, s .pre .1 .source); destination = omega (arith, l .inv .4, s .pre .1 .destination) };
     }
 
 add-y : tie.Need-add-y Inv-loop μ-loop
 add-y c =
-    let t = c .before .before .before .before .before .before .before .before in
-    omega (arith, t .loop-test .taken, t .before .before .before .before .pre .clear .output .low)
+    let t = c .before .before .before .before .before .before .before .before .before .before in
+    omega (arith, t .loop-test .taken, t .before .before .before .before .before .before .pre .0 .clear .output .low)
 
 loop-less : tie.Need-loop-less Inv-loop μ-loop
 loop-less c = search needs
 
 loop-again : tie.Need-loop-again Inv-loop μ-loop
 loop-again c =
-    let d = c .before .before .before .before in
+    let d = c .before .before .before .before .before .before in
     let t = d .before .before .before .before in
     let l = t .before .loop in
-    let s = t .before .before .before .before in
+    let s = t .before .before .before .before .before .before in
     let f = d .draw-row in (
       search needs,
-      more-begun (s .args .window) _ (s .args .task) (s .pre .clear) (now (s .args .memory)) (l .memory) (f .last .0) (l .y) (t .loop-test .taken) (l .inv .1) (f .ensures),
+      more-begun (s .args .window) _ (s .args .task) (s .pre .0 .clear) (now (s .args .memory)) (l .memory) (f .last .0) (l .y) (t .loop-test .taken) (l .inv .1) (f .ensures),
       f .kept .0 ∙ l .inv .2,
       f .kept .1 .1 .1 .1 .0 ∙ l .inv .3,
       f .kept .1 .1 .1 .1 .1 .0 ∙ l .inv .4,
@@ -60,10 +57,16 @@ loop-again c =
 same-length : tie.Need-same-length Inv-loop μ-loop
 same-length c = search needs
 
+same-length-2 : tie.Need-same-length-2 Inv-loop μ-loop
+same-length-2 c = search needs
+
+same-length-3 : tie.Need-same-length-3 Inv-loop μ-loop
+same-length-3 c = search needs
+
 returns : tie.Need-returns Inv-loop μ-loop
 returns c =
     let l = c .before .loop in
-    let a = c .before .before .before .before .args in
+    let a = c .before .before .before .before .before .before .args in
     let e : l .y ≡ a .task .output .height = omega arith in
     (rw e at (l .inv .1)) ∙ all-begun (a .task) (now (a .memory))
 
@@ -74,11 +77,11 @@ draw-task-spec =
     Inv-loop
     μ-loop
     loop-holds
-    slice-aggregate-draw-row
-    slice-aggregate-draw-row-2
     draw-row-requires
     add-y
     loop-less
     loop-again
     same-length
+    same-length-2
+    same-length-3
     returns)

@@ -17,14 +17,16 @@ use Rattle.raster.proofs.walk.draw_batch.Statement.{statement}
 use Rattle.raster.proofs.walk.draw_batch.Tie as tie
 
 abbrev Inv-loop : tie.InvT-loop
-Inv-loop memory₀ ring offset size bounds window current₀ at₀ memory current at =
+Inv-loop memory₀ ring offset size bounds source₀ destination₀ window current₀ at₀ memory source destination current at =
     let ws = batchWords ring offset size in
     (at ≤ length ws)
     × (drawTasks (readBatch bounds current₀ ws .tasks) memory₀ ≡ drawTasks (rest bounds ws current at .tasks) memory)
     × (length memory ≡ length memory₀)
+    × (length source ≡ 4096)
+    × (length destination ≡ 4096)
 
 abbrev μ-loop : tie.MeasureT-loop
-μ-loop memory₀ ring offset size bounds window current₀ at₀ memory current at = length (batchWords ring offset size) - at
+μ-loop memory₀ ring offset size bounds source₀ destination₀ window current₀ at₀ memory source destination current at = length (batchWords ring offset size) - at
 
 -- the words of the batch
 abbrev Ws : tie.Start Inv-loop μ-loop → List ℕ
@@ -41,7 +43,7 @@ onward c =
     step-onward (s .args .bounds) (Ws s) (l .current) (l .at) (n .result) (n .ensures) _ _ _ (c .task .given .1)
 
 loop-holds : tie.Need-loop-holds Inv-loop μ-loop
-loop-holds c = (search needs, refl, refl)
+loop-holds c = (search needs, refl, refl, refl, refl)
 
 next-task-requires : tie.Need-next-task-requires Inv-loop μ-loop
 next-task-requires c κs = search needs
@@ -49,31 +51,41 @@ next-task-requires c κs = search needs
 enum-known-task : tie.Need-enum-known-task Inv-loop μ-loop
 enum-known-task c = search needs
 
+slice-aggregate-draw-task : tie.Need-slice-aggregate-draw-task Inv-loop μ-loop
+slice-aggregate-draw-task c = search needs
+
+slice-aggregate-draw-task-2 : tie.Need-slice-aggregate-draw-task-2 Inv-loop μ-loop
+slice-aggregate-draw-task-2 c = search needs
+
 draw-task-requires : tie.Need-draw-task-requires Inv-loop μ-loop
 draw-task-requires c κs =
-    let t = c .before .before in
+    let t = c .before .before .before .before in
     let s = t .before .before .before .before .before .before .before in
     let l = t .before .before .before .loop in
-    let n = t .before .before .next-task in
-    drawable (s .args .bounds) (t .task .given .0 .0)
-    (step-sound (s .args .bounds) (Ws s) (l .current) (l .at) (n .result) (n .ensures) _ _ _ (t .task .given .1))
-    (length (l .memory)) (omega (arith, s .pre .window, l .inv .2)) (omega (arith, s .pre .common, l .inv .2))
+    let n = t .before .before .next-task in (
+      drawable (s .args .bounds) (t .task .given .0 .0)
+          (step-sound (s .args .bounds) (Ws s) (l .current) (l .at) (n .result) (n .ensures) _ _ _ (t .task .given .1))
+          (length (l .memory)) (omega (arith, s .pre .window, l .inv .2)) (omega (arith, s .pre .common, l .inv .2)),
+      record { source = omega (arith, l .inv .3); destination = omega (arith, l .inv .4) },
+    )
 
 loop-less : tie.Need-loop-less Inv-loop μ-loop
-loop-less c = omega (arith, onward (c .before .before .before .before .before))
+loop-less c = omega (arith, onward (c .before .before .before .before .before .before .before .before .before))
 
 loop-again : tie.Need-loop-again Inv-loop μ-loop
 loop-again c =
-    let t = c .before .before .before .before .before in
+    let t = c .before .before .before .before .before .before .before .before .before in
     let s = t .before .before .before .before .before .before .before in
     let l = t .before .before .before .loop in
     let n = t .before .before .next-task in
-    let d = c .before .before .draw-task in (
+    let d = c .before .before .before .before .draw-task in (
       onward t .1,
       l .inv .1
           ∙ step-draws (s .args .bounds) (Ws s) (l .current) (l .at) (n .result) (n .ensures) (l .memory) _ _ _ (t .task .given .1)
           ∙ ap (drawTasks (rest (s .args .bounds) (Ws s) (t .task .given .0 .1 .0) (t .task .given .0 .1 .1 .0) .tasks)) (sym (d .ensures)),
       d .kept .0 ∙ l .inv .2,
+      d .kept .1 .1 .1 .0 ∙ l .inv .3,
+      d .kept .1 .1 .1 .1 .0 ∙ l .inv .4,
     )
 
 enum-told : tie.Need-enum-told Inv-loop μ-loop
@@ -111,6 +123,8 @@ draw-batch-spec =
     loop-holds
     next-task-requires
     enum-known-task
+    slice-aggregate-draw-task
+    slice-aggregate-draw-task-2
     draw-task-requires
     loop-less
     loop-again
