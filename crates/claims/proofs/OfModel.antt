@@ -12,10 +12,6 @@ of-model setup ring =
     record {
       separate = c .separate (confined resetBank);
       unmoved = c .unmoved (confined resetBank);
-      exchange = c .exchange (confined resetBank);
-      any-order = c .any-order (confined resetBank);
-      any-submissions = c .any-submissions (confined resetBank);
-      by-hand = c .by-hand (confined resetBank);
       holds = c .holds;
       in-order = c .in-order;
       in-time = c .in-time;

@@ -7,7 +7,7 @@ use Rattle.model.specs.Calls.{Setup, Call}
 use Rattle.model.specs.Drawing.{Way}
 use Rattle.model.specs.State.{Model}
 use Rattle.model.specs.TwoRuns.{Twins}
-use Rattle.model.specs.Claims.{Separate, Unmoved, Exchange, AnyOrder, AnySubmissions, ReorderedByHand, Holds, InOrder, InTime, Harmless}
+use Rattle.model.specs.Claims.{Separate, Unmoved, Holds, InOrder, InTime, Harmless}
 use Rattle.claims.specs.Way.{wayFrom}
 
 -- the reset value of 01
@@ -21,13 +21,6 @@ pub record OfModel (setup : Setup) (ring : ℕ) : Type 0 where
   -- two runs that differ only in one client's bytes agree everywhere else
   pub unmoved : (client : ℕ) (calls calls′ : List Call) (memory memory′ : List ℕ) →
       Twins real setup ring client calls calls′ memory memory′ → Unmoved real setup ring client calls calls′ memory memory′
-  -- 02, 9: two batches of different clients that are executed one right after the other may change places
-  pub exchange : (calls : List Call) (memory : List ℕ) → Exchange real setup ring calls memory
-  -- 02, 9: two lists that keep each client's own sequence end in the same memory, and each batch gets the same verdict
-  pub any-order : (calls calls′ : List Call) (memory : List ℕ) → AnyOrder real setup ring calls calls′ memory
-  pub any-submissions : (calls calls′ : List Call) (memory : List ℕ) → AnySubmissions real setup ring calls calls′ memory
-  -- 02, 9: and so does the queue that is changed by hand and run to the end
-  pub by-hand : (calls : List Call) (memory : List ℕ) → ReorderedByHand real setup ring calls memory
   -- a client's window is the one that it opens in the list
   pub holds : (calls later : List Call) (memory : List ℕ) → Holds real setup ring calls memory later
   -- batches are executed in the order of their tickets; at most eight wait

@@ -193,3 +193,31 @@ same-so = claims toy setup 128 .any-submissions toy-confined early turned memory
 early-drawn : end toy setup 128 early memory .memory ≡ eight 100 ++ eight 108 ++ eight 107 ++ eight 3 ++ eight 4
 unfolding after unless effect table firstOf overlapAny totalBytes countOf
 early-drawn = refl
+
+-- ---- and each premise is needed. Another way: the window's first byte is the last batch's first
+
+abbrev stamp : Way
+stamp = record {
+  verdict = λ w common bytes. good;
+  draw = λ w common bytes m. putMid (w .start) (w .length) m (set (midOf (w .start) (w .length) m) 0 (getD bytes 0 0));
+}
+
+stamp-confined : Confined stamp
+stamp-confined w common bytes = local-window w common (λ c x. set x 0 (getD bytes 0 0)) (λ c x _ l. rw length-set l)
+
+-- one client's two batches, and some runs
+abbrev twice : (first second : ℕ) → (runs : List Call) → List Call
+twice first second runs = opens (window 8 8) ∷ submit 0 (replicate 4 first) ∷ submit 0 (replicate 4 second) ∷ runs
+
+abbrev stamped : ℕ → List ℕ
+stamped x = eight 100 ++ eight x ++ eight 2 ++ eight 3 ++ eight 4
+
+-- a client's own batches change places, or are as many and as long but of other bytes: another memory
+own-so : (end stamp setup 128 (twice 7 9 (run ∷ run ∷ [])) memory .memory ≡ stamped 9) × (end stamp setup 128 (twice 9 7 (run ∷ run ∷ [])) memory .memory ≡ stamped 7)
+unfolding after unless effect table firstOf overlapAny totalBytes countOf
+own-so = (refl, refl)
+
+-- the same batches, but one is left waiting: another memory
+left-so : end stamp setup 128 (twice 7 9 (run ∷ [])) memory .memory ≡ stamped 7
+unfolding after unless effect table firstOf overlapAny totalBytes countOf
+left-so = refl
