@@ -12,4 +12,5 @@ pub mod Follows
 pub mod InTime
 pub mod Fruitless
 pub mod Theorem
+pub mod Order
 pub mod Twelve

@@ -4,4 +4,5 @@ pub mod OfModel
 pub mod Engine
 pub mod Demand1
 pub mod Demand3
+pub mod Order
 pub mod Twelve

@@ -23,7 +23,7 @@ use Rattle.model.proofs.Sound.{Named, named-more, named-append, Good, g
 
 -- ---- a client's own batches
 
-own-none : (p : ℕ → Bool) (k : ℕ) → p k ≡ false → (log : List Batch) → Named p log → own k log ≡ []
+pub own-none : (p : ℕ → Bool) (k : ℕ) → p k ≡ false → (log : List Batch) → Named p log → own k log ≡ []
 unfolding own
 own-none p k e [] r = refl
 own-none p k e (b ∷ bs) r = rw (ne-eqb (b .client) k (λ q. true≢false (sym (r .0) ∙ ap p q ∙ e))) (own-none p k e bs (r .1))
@@ -63,11 +63,11 @@ module _ (way : Way) (L : Confined way) (common : ℕ) (w : Window) where
 -- ---- along the list: m₀ the starting memory, log what has been executed
 
 module _ (way : Way) (L : Confined way) (setup : Setup) (ring : ℕ) (m₀ : List ℕ) where
-  record Kept (log : List Batch) (model : Model) : Type 0 where
-    owned : (k i : ℕ) → Owns model k i → byte (model .memory) i ≡ byte (drawAll way (setup .common) (windowOf model k) (own k log) m₀) i
-    rest : (i : ℕ) → ((k : ℕ) → ¬ (Owns model k i)) → byte (model .memory) i ≡ byte m₀ i
-    size : length (model .memory) ≡ length m₀
-    logged : Named (isOpen model) log
+  pub record Kept (log : List Batch) (model : Model) : Type 0 where
+    pub owned : (k i : ℕ) → Owns model k i → byte (model .memory) i ≡ byte (drawAll way (setup .common) (windowOf model k) (own k log) m₀) i
+    pub rest : (i : ℕ) → ((k : ℕ) → ¬ (Owns model k i)) → byte (model .memory) i ≡ byte m₀ i
+    pub size : length (model .memory) ≡ length m₀
+    pub logged : Named (isOpen model) log
 
   -- a new window's bytes were in no window
   kept-open : (log : List Batch) (model : Model) (w : Window) → Sound setup model → Kept log model → refusal setup ring model (opens w) ≡ 0 → Kept log (openStep model w .after)
@@ -140,7 +140,7 @@ module _ (way : Way) (L : Confined way) (setup : Setup) (ring : ℕ) (m₀ : Lis
       go (b ∷ bs) n e = kept-run log model b bs S K (n .0) e
   step-kept log (pending k) model S K = unless-cases (Goes log) (refusal setup ring model (pending k)) model _ (λ e. unchanged log model K) (λ k. unchanged log model K)
 
-  all-kept : (cs : List Call) (log : List Batch) (model : Model) → Sound setup model → Kept log model → Kept (log ++ executed way setup ring cs model) (after way setup ring cs model)
+  pub all-kept : (cs : List Call) (log : List Batch) (model : Model) → Sound setup model → Kept log model → Kept (log ++ executed way setup ring cs model) (after way setup ring cs model)
   unfolding after executed
   all-kept [] log model S K = unchanged log model K
   all-kept (c ∷ cs) log model S K =

@@ -7,6 +7,7 @@ use Prim.Native.Nat.{ℕ, zero, suc, _+_, _%_}
 use native.Mathlib.Omega.{arith}
 use lib.ListN.{take, getD, set, length-set, replicate}
 use lib.Dec.{ltb}
+use borrow.Author.Tests.{ne-eqb}
 use borrow.Rule.Slice.PartMut.{midOf, putMid}
 use Rattle.model.specs.Windows.{window, byte, overlapAny}
 use Rattle.model.specs.Calls.{Setup, Call, opens, submit, run, pending, Verdict, opened, accepted, completed, ready, refused}
@@ -15,6 +16,7 @@ use Rattle.model.specs.State.{Model, fresh, Owns, totalBytes, countOf}
 use Rattle.model.specs.Refusals.{table, firstOf}
 use Rattle.model.specs.Model.{unless, effect, answers, after, executed, end}
 use Rattle.model.specs.Alone.{own, drawAll, replayedAlone}
+use Rattle.model.specs.Order.{SameSequences, submitted, SameOutcome}
 use Rattle.model.specs.TwoRuns.{none, more, same, rewritten, Twins}
 use Rattle.model.specs.Claims.{Unmoved}
 use Rattle.model.proofs.Locality.{local-if, local-window}
@@ -158,3 +160,64 @@ twins = record {
 
 unmoved-so : Unmoved toy setup 128 0 few few′ memory memory′
 unmoved-so = claims toy setup 128 .unmoved toy-confined 0 few few′ memory memory′ twins
+
+-- ---- order: two clients' batches in two orders, and past an opening
+
+abbrev early : List Call
+early = opens (window 8 8) ∷ submit 0 (replicate 4 7) ∷ run ∷ opens (window 16 8) ∷ submit 0 (replicate 4 0) ∷ submit 1 (5 ∷ 6 ∷ 7 ∷ 8 ∷ []) ∷ run ∷ pending 0 ∷ run ∷ []
+
+abbrev turned : List Call
+turned = opens (window 8 8) ∷ opens (window 16 8) ∷ submit 1 (5 ∷ 6 ∷ 7 ∷ 8 ∷ []) ∷ submit 0 (replicate 4 7) ∷ run ∷ submit 0 (replicate 4 0) ∷ run ∷ run ∷ run ∷ []
+
+-- tickets differ
+early-so : answers toy setup 128 early (fresh memory) ≡
+    opened 0 ∷ accepted 0 ∷ completed 0 0 good ∷ opened 1 ∷ accepted 1 ∷ accepted 2 ∷ completed 0 1 bad ∷ ready 0 ∷ completed 1 2 good ∷ []
+unfolding answers unless effect table firstOf overlapAny totalBytes countOf
+early-so = refl
+
+turned-so : answers toy setup 128 turned (fresh memory) ≡
+    opened 0 ∷ opened 1 ∷ accepted 0 ∷ accepted 1 ∷ completed 1 0 good ∷ accepted 2 ∷ completed 0 1 good ∷ completed 0 2 bad ∷ refused 9 ∷ []
+unfolding answers unless effect table firstOf overlapAny totalBytes countOf
+turned-so = refl
+
+kept-so : SameSequences (submitted toy setup 128 early (fresh memory)) (submitted toy setup 128 turned (fresh memory))
+unfolding submitted own unless effect table firstOf overlapAny totalBytes countOf
+kept-so zero = refl
+kept-so (suc zero) = refl
+kept-so (suc (suc client)) = rw (ne-eqb 0 (suc (suc client)) (λ e. omega arith), ne-eqb 1 (suc (suc client)) (λ e. omega arith))
+
+same-so : SameOutcome toy setup 128 early turned (fresh memory) (fresh memory)
+unfolding after unless effect table firstOf overlapAny totalBytes countOf
+same-so = claims toy setup 128 .any-submissions toy-confined early turned memory refl refl refl kept-so
+
+early-drawn : end toy setup 128 early memory .memory ≡ eight 100 ++ eight 108 ++ eight 107 ++ eight 3 ++ eight 4
+unfolding after unless effect table firstOf overlapAny totalBytes countOf
+early-drawn = refl
+
+-- ---- and each premise is needed. Another way: the window's first byte is the last batch's first
+
+abbrev stamp : Way
+stamp = record {
+  verdict = λ w common bytes. good;
+  draw = λ w common bytes m. putMid (w .start) (w .length) m (set (midOf (w .start) (w .length) m) 0 (getD bytes 0 0));
+}
+
+stamp-confined : Confined stamp
+stamp-confined w common bytes = local-window w common (λ c x. set x 0 (getD bytes 0 0)) (λ c x _ l. rw length-set l)
+
+-- one client's two batches, and some runs
+abbrev twice : (first second : ℕ) → (runs : List Call) → List Call
+twice first second runs = opens (window 8 8) ∷ submit 0 (replicate 4 first) ∷ submit 0 (replicate 4 second) ∷ runs
+
+abbrev stamped : ℕ → List ℕ
+stamped x = eight 100 ++ eight x ++ eight 2 ++ eight 3 ++ eight 4
+
+-- a client's own batches change places, or are as many and as long but of other bytes: another memory
+own-so : (end stamp setup 128 (twice 7 9 (run ∷ run ∷ [])) memory .memory ≡ stamped 9) × (end stamp setup 128 (twice 9 7 (run ∷ run ∷ [])) memory .memory ≡ stamped 7)
+unfolding after unless effect table firstOf overlapAny totalBytes countOf
+own-so = (refl, refl)
+
+-- the same batches, but one is left waiting: another memory
+left-so : end stamp setup 128 (twice 7 9 (run ∷ [])) memory .memory ≡ stamped 7
+unfolding after unless effect table firstOf overlapAny totalBytes countOf
+left-so = refl

@@ -5,6 +5,7 @@ pub mod Sound
 pub mod Alone
 pub mod TwoRuns
 pub mod Queue
+pub mod Order
 pub mod Theorems
 pub mod Locality
 pub mod Examples

@@ -6,6 +6,7 @@ use Rattle.model.specs.Claims.{Claims}
 use Rattle.model.proofs.Sound as sound
 use Rattle.model.proofs.Alone as alone
 use Rattle.model.proofs.TwoRuns as two-runs
+use Rattle.model.proofs.Order as order
 use Rattle.model.proofs.Queue as queue
 use Rattle.model.proofs.Refusals as refusals
 
@@ -13,6 +14,10 @@ pub claims : (way : Way) (setup : Setup) (ring : ℕ) → Claims way setup ring
 claims way setup ring = record {
   separate = λ confined calls memory. alone.separate way confined setup ring memory calls;
   unmoved = λ confined client calls calls′ memory memory′. two-runs.unmoved way confined setup ring client calls calls′ memory memory′;
+  exchange = λ confined. order.exchange way confined setup ring;
+  any-order = λ confined. order.any-order way confined setup ring;
+  any-submissions = λ confined. order.any-submissions way confined setup ring;
+  by-hand = λ confined. order.by-hand way confined setup ring;
   holds = sound.holds way setup ring;
   in-order = queue.in-order way setup ring;
   in-time = queue.in-time way setup ring;

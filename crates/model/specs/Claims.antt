@@ -6,11 +6,12 @@ use mathlib.Core.List.{List, [], _∷_, _++_, List·Memᴰ}
 use Prim.Native.Nat.{ℕ, suc, _%_, _≤_, _<_}
 use lib.ListN.{length, take}
 use Rattle.model.specs.Windows.{Window, byte}
-use Rattle.model.specs.Calls.{Setup, Call, opens, submit, opened, accepted, refused, completions}
+use Rattle.model.specs.Calls.{Setup, Call, opens, submit, run, Verdict, opened, accepted, completed, refused, completions}
 use Rattle.model.specs.Drawing.{Way, Confined}
 use Rattle.model.specs.State.{Batch, batch, Model, fresh, isOpen, windowOf, Owns, takenSlots, takenBytes}
 use Rattle.model.specs.Model.{Step, step, answers, after, executed, end}
 use Rattle.model.specs.Alone.{replayedAlone}
+use Rattle.model.specs.Order.{SameSequences, submitted, SameOutcome, Exchanged, ByHand}
 use Rattle.model.specs.TwoRuns.{Each, SameAnswer, Twins}
 
 -- The batches' tickets are n, n + 1, .., modulo 4,294,967,296 (01, "Engine, desks, queue": "Accepted batches get tickets 0, 1, 2, ..").
@@ -52,6 +53,16 @@ module _ (way : Way) (setup : Setup) (ring : ℕ) where
         8 ≤ completions (answers way setup ring later (submitted .after)) →
         List·Memᴰ (batch client ticket bytes) (take 8 (executed way setup ring later (submitted .after)))
 
+    -- 02, 9: "two faultless or faulty batches of different desks, taken one right after the other": the next two runs execute a and b.
+    abbrev pub Exchange : Type 0
+    Exchange = (a b : Batch) (first second : Verdict) (rest : List Batch) → final .waiting ≡ a ∷ b ∷ rest → ¬ (a .client ≡ b .client) →
+        answers way setup ring (run ∷ run ∷ []) final ≡ completed (a .client) (a .ticket) first ∷ completed (b .client) (b .ticket) second ∷ [] →
+        Exchanged way setup ring a b first second rest final
+
+    -- 02, 9: "Night staff reorder the queue by hand", at any moment, each client's batches in their order.
+    abbrev pub ReorderedByHand : Type 0
+    ReorderedByHand = (other : List Batch) → SameSequences other (final .waiting) → ByHand way setup ring final other
+
     -- A client that is opened now with a window has that window after any later calls: the one that it opens in the list.
     abbrev pub Holds : (later : List Call) → Type 0
     Holds later = (client : ℕ) (w : Window) →
@@ -67,16 +78,33 @@ module _ (way : Way) (setup : Setup) (ring : ℕ) where
     pub size : length (final calls memory .memory) ≡ length (final calls′ memory′ .memory)
     pub bytes : (i : ℕ) → ¬ (Owns (final calls memory) client i) → byte (final calls memory .memory) i ≡ byte (final calls′ memory′ .memory) i
 
+  module _ (calls calls′ : List Call) (memory : List ℕ) where
+    -- 02, 9, whole queues: "any order that keeps each desk's own sequence ends in the same memory". Both open the same windows in the same order
+    -- and execute the same batches of each client in the client's order; how openings, submits and runs are mixed is not asked.
+    abbrev pub AnyOrder : Type 0
+    AnyOrder = final calls memory .windows ≡ final calls′ memory .windows → SameSequences (done calls memory) (done calls′ memory) →
+        SameOutcome way setup ring calls calls′ (fresh memory) (fresh memory)
+
+    -- The same from what is handed in, "where every batch is accepted and run in both": nothing waits at the end.
+    abbrev pub AnySubmissions : Type 0
+    AnySubmissions = final calls memory .windows ≡ final calls′ memory .windows → final calls memory .waiting ≡ [] → final calls′ memory .waiting ≡ [] →
+        SameSequences (submitted way setup ring calls (fresh memory)) (submitted way setup ring calls′ (fresh memory)) →
+        SameOutcome way setup ring calls calls′ (fresh memory) (fresh memory)
+
   -- A refused call leaves the whole model as it was and executes nothing. Its number is 3 to 10: 1 and 2 are set up's, 11 never comes.
   abbrev pub Harmless : Call → Model → Type 0
   Harmless call model = (number : ℕ) → step way setup ring call model .answer ≡ refused number →
       (step way setup ring call model .after ≡ model) × (step way setup ring call model .executed ≡ []) × (3 ≤ number) × (number ≤ 10)
 
--- The claims. The first two ask that a batch is drawn by its window and common alone; the others ask nothing.
+-- The claims. The first six ask that a batch is drawn by its window and common alone; the others ask nothing.
 pub record Claims (way : Way) (setup : Setup) (ring : ℕ) : Type 0 where
   pub separate : Confined way → (calls : List Call) (memory : List ℕ) → Separate way setup ring calls memory
   pub unmoved : Confined way → (client : ℕ) (calls calls′ : List Call) (memory memory′ : List ℕ) →
       Twins way setup ring client calls calls′ memory memory′ → Unmoved way setup ring client calls calls′ memory memory′
+  pub exchange : Confined way → (calls : List Call) (memory : List ℕ) → Exchange way setup ring calls memory
+  pub any-order : Confined way → (calls calls′ : List Call) (memory : List ℕ) → AnyOrder way setup ring calls calls′ memory
+  pub any-submissions : Confined way → (calls calls′ : List Call) (memory : List ℕ) → AnySubmissions way setup ring calls calls′ memory
+  pub by-hand : Confined way → (calls : List Call) (memory : List ℕ) → ReorderedByHand way setup ring calls memory
   pub holds : (calls later : List Call) (memory : List ℕ) → Holds way setup ring calls memory later
   pub in-order : (calls : List Call) (memory : List ℕ) → InOrder way setup ring calls memory
   pub in-time : (calls later : List Call) (memory : List ℕ) → InTime way setup ring calls memory later

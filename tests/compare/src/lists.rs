@@ -11,7 +11,7 @@ fn difference(name: &str, expected: &[u8], found: &[u8]) -> Option<String> {
 }
 
 /// All that differs between what the independent program and the engine left.
-fn differences(expected: &Played, found: Option<&Played>) -> Vec<String> {
+pub fn differences(expected: &Played, found: Option<&Played>) -> Vec<String> {
     let Some(found) = found else { return vec!["bytes outside the lent buffers were changed".into()] };
     let written = (expected.written != found.written)
         .then(|| format!("answer bytes: {} expected, {} found", expected.written, found.written));
@@ -33,7 +33,7 @@ fn first_call(expected: &Played, found: &Played) -> Option<String> {
 }
 
 /// The list in words, so that a difference can be looked into.
-fn describe(list: &List) {
+pub fn describe(list: &List) {
     let (ring, memory, answers) = (list.ring.len(), list.memory.len(), list.answers.len());
     println!("{:?}; lent: ring {ring}, memory {memory}, answers {answers}", list.numbers);
     for (number, call) in Calls(&list.script).enumerate() {

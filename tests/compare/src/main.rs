@@ -1,10 +1,12 @@
 //! Compares the engine with the independent program. A difference ends it with status 1.
 //!
 //! compare lists COUNT SEED                       random lists of calls, played by the static library
+//! compare orders COUNT SEED                      random pairs of orders of the same batches, likewise
 //! compare replays COUNT SEED PROGRAM [WORD ..]   random replay files, on PROGRAM's standard input
 //! compare cuts FILE PROGRAM [WORD ..]            a replay file cut at every byte
 mod linked;
 mod lists;
+mod orders;
 mod replays;
 
 use std::io::{Error, Result};
@@ -18,9 +20,12 @@ fn number(word: &str) -> Result<u64> {
 fn compared(words: &[&str]) -> Result<bool> {
     match words {
         ["lists", count, seed] => Ok(lists::compare(number(count)?, number(seed)?)),
+        ["orders", count, seed] => Ok(orders::compare(number(count)?, number(seed)?)),
         ["replays", count, seed, program @ ..] => replays::compare(number(count)?, number(seed)?, program),
         ["cuts", file, program @ ..] => replays::cuts(file, program),
-        _ => Err(Error::other("usage: lists COUNT SEED | replays COUNT SEED PROGRAM | cuts FILE PROGRAM")),
+        _ => {
+            Err(Error::other("usage: lists COUNT SEED | orders COUNT SEED | replays COUNT SEED PROGRAM | cuts FILE PROGRAM"))
+        }
     }
 }
 

@@ -8,6 +8,7 @@ pub mod engine;
 pub mod leaf_cases;
 pub mod made_batches;
 pub mod made_tasks;
+pub mod orders;
 pub mod picture;
 pub mod pixel;
 pub mod pixel_cases;

@@ -1,0 +1,40 @@
+-- Order between clients: the model's theorem at the real definitions, and of the engine by what it shares with the model.
+use mathlib.Core.Path.{_≡_, sym, ap, _∙_}
+use mathlib.Core.List.{List}
+use Prim.Native.Nat.{ℕ}
+use lib.ListN.{length}
+use Rattle.register.specs.Bank.{resetBank}
+use Rattle.model.specs.Calls.{Setup, Call}
+use Rattle.model.specs.State.{fresh}
+use Rattle.model.specs.Order.{verdictsOf, SameOutcome as SameInModel}
+use Rattle.model.specs.Claims.{Claims}
+use Rattle.model.proofs.Theorems.{claims}
+use Rattle.claims.specs.OfModel.{real}
+use Rattle.claims.specs.Engine.{Accepted}
+use Rattle.claims.specs.Order.{SameOutcome, Promise}
+use Rattle.claims.proofs.Confined.{confined}
+use Rattle.claims.proofs.Follows.{like-model}
+
+module _ (setup : Setup) (ring : List ℕ) (A : Accepted setup) where
+  -- what is the same of the model is the same of the engine
+  of-engine : (calls calls′ : List Call) (memory : List ℕ) → SameInModel real setup (length ring) calls calls′ (fresh memory) (fresh memory) → SameOutcome setup ring calls calls′ memory
+  of-engine calls calls′ memory same =
+      let one = like-model setup ring A calls memory in
+      let two = like-model setup ring A calls′ memory in
+      record {
+        every-byte = one .every-byte ∙ same .memory ∙ sym (two .every-byte);
+        verdicts = λ client. ap (verdictsOf client) (one .every-answer) ∙ same .verdicts client ∙ sym (ap (verdictsOf client) (two .every-answer));
+      }
+
+pub promise : Promise
+promise setup ring A =
+    let c : Claims real setup (length ring) = claims real setup (length ring) in
+    record {
+      exchange = c .exchange (confined resetBank);
+      any-order = c .any-order (confined resetBank);
+      any-submissions = c .any-submissions (confined resetBank);
+      by-hand = c .by-hand (confined resetBank);
+      engine-order = λ calls calls′ memory windows same. of-engine setup ring A calls calls′ memory (c .any-order (confined resetBank) calls calls′ memory windows same);
+      engine-submissions = λ calls calls′ memory windows none none′ same.
+          of-engine setup ring A calls calls′ memory (c .any-submissions (confined resetBank) calls calls′ memory windows none none′ same);
+    }
