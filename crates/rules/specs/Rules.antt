@@ -3,7 +3,7 @@
 use Prim.Native.Nat.{ℕ, _%_}
 use mathlib.Core.Bool.{Bool, true, false, cond, not, _&&_, _||_}
 use lib.Dec.{eqb, ltb}
-use Rattle.range.specs.Range.{inside, shared}
+use Rattle.range.specs.Range.{inside}
 use Rattle.range.specs.declared.Range.{Range}
 use Rattle.pixel.specs.Formats.{layoutOf}
 use Rattle.pixel.specs.declared.format.Format.{Format}
@@ -12,6 +12,7 @@ use Rattle.transform.specs.declared.Rotation.{Rotation}
 use Rattle.transform.specs.declared.Rotation.the-variants.{Upright, Clockwise, Half, CounterClockwise}
 use Rattle.transform.specs.declared.Size.{Size}
 use Rattle.surface.specs.Surface.{rowLength, span}
+use Rattle.surface.specs.Meet.{meet}
 use Rattle.surface.specs.declared.Surface.{Surface}
 use Rattle.register.specs.Task.{isBuffer}
 use Rattle.register.specs.declared.task.Source.{Source}
@@ -110,11 +111,11 @@ sameFormat a b = eqb (layoutOf a .code) (layoutOf b .code)
 unfoldable pub samePlace : Surface → Surface → Bool
 samePlace a b = eqb (a .address) (b .address) && eqb (a .stride) (b .stride) && sameFormat (a .format) (b .format)
 
--- source and output spans share a byte; blending, destination and output spans share one, unless they are at the same place
+-- source and output meet: with equal strides in rows, else in spans; blending, destination and output meet, unless they are at the same place
 unfoldable pub overlap : Task → Bool
 overlap t =
-    (reads (t .source) && shared (span (t .source .surface)) (span (t .output)))
-    || (t .blending .on && shared (span (t .destination .surface)) (span (t .output)) && not (samePlace (t .destination .surface) (t .output)))
+    (reads (t .source) && meet (t .source .surface) (t .output))
+    || (t .blending .on && meet (t .destination .surface) (t .output) && not (samePlace (t .destination .surface) (t .output)))
 
 -- ---- the lowest number first, over all surfaces
 
