@@ -1,5 +1,5 @@
--- What is asked of a task that is drawn, which is what faults 25 to 28 leave of it (01, "Faults of a taken batch"). That no
--- byte is written which is read elsewhere is said of rows, not of spans.
+-- What is asked of a task that is drawn, which is what faults 25 to 28 leave of it (01, "Faults of a taken batch"; 02, request 7).
+-- That no byte is written which is read elsewhere is said of rows, not of spans.
 use mathlib.Core.Path.{_≡_}
 use mathlib.Core.Bool.{true}
 use mathlib.Core.Logic.{_⊎_}

@@ -1,4 +1,5 @@
--- What a sound task reads and writes, byte by byte (demand 2; the separation that drawing leans on).
+-- Where the bytes lie that a sound task reads and writes (demand 2). That no byte of a row is both, but where destination and output are one, is part
+-- of `Sound`.
 use Prim.Native.Nat.{ℕ}
 use native.Mathlib.Omega.{arith}
 use mathlib.Core.Path.{_≡_}
@@ -6,7 +7,7 @@ use mathlib.Core.Bool.{true}
 use mathlib.Core.Logic.{_⊎_, inl, inr}
 use Rattle.range.specs.Range.{Holds}
 use Rattle.range.specs.declared.Range.{Range}
-use Rattle.surface.specs.Surface.{span, InRow, Separate}
+use Rattle.surface.specs.Surface.{span, InRow}
 use Rattle.surface.proofs.Outside.{byte-in-span}
 use Rattle.register.specs.declared.task.Task.{Task}
 use Rattle.rules.specs.declared.task.Bounds.{Bounds}
@@ -27,18 +28,12 @@ module _ (bounds : Bounds) (t : Task) (s : Sound bounds t) where
   pub written-in-window : (i y j : ℕ) → InRow (t .output) i y j → Holds (bounds .window) i
   written-in-window i y j r = within-holds (span (t .output)) (bounds .window) (s .within) i (byte-in-span (t .output) i y j r)
 
-  -- a byte that it reads of the source is one of the window's or of common's, and none that it writes
+  -- a byte that it reads of the source is one of the window's or of common's
   pub source-in-reach : reads (t .source) ≡ true → (i y j : ℕ) → InRow (t .source .surface) i y j → Holds (bounds .window) i ⊎ Holds (commonOf bounds) i
   source-in-reach on i y j r =
       reach-holds bounds (span (t .source .surface)) (s .source on .reach) i (byte-in-span (t .source .surface) i y j r)
 
-  pub source-not-written : reads (t .source) ≡ true → Separate (t .source .surface) (t .output)
-  source-not-written on = s .source on .apart
-
-  -- a byte that it reads of the destination lies so too; either none of them is written, or destination and output are one
+  -- a byte that it reads of the destination lies so too
   pub destination-in-reach : t .blending .on ≡ true → (i y j : ℕ) → InRow (t .destination .surface) i y j → Holds (bounds .window) i ⊎ Holds (commonOf bounds) i
   destination-in-reach on i y j r =
       reach-holds bounds (span (t .destination .surface)) (s .destination on .reach) i (byte-in-span (t .destination .surface) i y j r)
-
-  pub destination-not-written : t .blending .on ≡ true → Separate (t .destination .surface) (t .output) ⊎ (t .destination .surface ≡ t .output)
-  destination-not-written on = s .destination on .apart

@@ -164,7 +164,7 @@ sound-source bounds t k on =
     record {
       rows = rows s (own .0) (and-false (reads (t .source)) (badStride s) on (own .1));
       reach = in-reach bounds s (not-false (inReach bounds s) (and-false (reads (t .source)) (not (inReach bounds s)) on (r27 .0)));
-      apart = separate s (t .output) (and-false (reads (t .source)) (meet s (t .output)) on (r28 .0));
+      separate = separate s (t .output) (and-false (reads (t .source)) (meet s (t .output)) on (r28 .0));
     }
 
 -- the destination, while blending
@@ -184,7 +184,7 @@ sound-destination bounds t k on =
       enabled = not-false (t .destination .enabled) (own .2);
       size = z;
       reach = in-reach bounds d (not-false (inReach bounds d) (and-false b (not (inReach bounds d)) on (r27 .2)));
-      apart = separate-or-same d (t .output) (and-last b (meet d (t .output)) (not (samePlace d (t .output))) on (r28 .1)) z;
+      separate = separate-or-same d (t .output) (and-last b (meet d (t .output)) (not (samePlace d (t .output))) on (r28 .1)) z;
     }
   where
     and-last : (a b c : Bool) → a ≡ true → a && b && c ≡ false → b && c ≡ false

@@ -1,5 +1,5 @@
 -- What a task that breaks no rule has, as plain facts for the drawing: rectangles of sound rows, that lie where the batch may
--- read or write, and no written byte that is a source byte.
+-- read or write, and that have no byte of a row in common with the output.
 use Prim.Native.Nat.{_%_, _≤_, _<_}
 use mathlib.Core.Path.{_≡_}
 use mathlib.Core.Bool.{true, false}
@@ -41,15 +41,15 @@ InReach bounds r = Within r (bounds .window) ⊎ Within r (commonOf bounds)
 pub record SoundSource (bounds : Bounds) (s : Source) (output : Surface) : Type 0 where
   pub rows : Rows (s .surface)
   pub reach : InReach bounds (span (s .surface))
-  pub apart : Separate (s .surface) output
+  pub separate : Separate (s .surface) output
 
--- what the destination is, while blending: apart from the output, or the output itself, pixel by pixel
+-- what the destination is, while blending: separate from the output, or the output itself, pixel by pixel
 pub record SoundDestination (bounds : Bounds) (d : Destination) (output : Surface) : Type 0 where
   pub rows : Rows (d .surface)
   pub enabled : d .enabled ≡ true
   pub size : sizeOf (d .surface) ≡ sizeOf output
   pub reach : InReach bounds (span (d .surface))
-  pub apart : Separate (d .surface) output ⊎ (d .surface ≡ output)
+  pub separate : Separate (d .surface) output ⊎ (d .surface ≡ output)
 
 pub record Sound (bounds : Bounds) (t : Task) : Type 0 where
   pub sides : Sides (t .source .surface)

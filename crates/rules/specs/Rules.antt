@@ -1,4 +1,4 @@
--- The rules of a task, faults 25 to 28 (01, "Faults of a taken batch"). In colour mode the source has no stride, format or
+-- The rules of a task, faults 25 to 28 (01, "Faults of a taken batch"; 02, request 7). In colour mode the source has no stride, format or
 -- span; without blending the destination is not judged. All sums are of numbers that do not wrap.
 use Prim.Native.Nat.{ℕ, _%_}
 use mathlib.Core.Bool.{Bool, true, false, cond, not, _&&_, _||_}
@@ -102,7 +102,7 @@ outOfBounds bounds t =
     || not (inWindow bounds (t .output))
     || (t .blending .on && not (inReach bounds (t .destination .surface)))
 
--- ---- 28
+-- ---- 28 (02, request 7)
 
 abbrev pub sameFormat : Format → Format → Bool
 sameFormat a b = eqb (layoutOf a .code) (layoutOf b .code)

@@ -139,7 +139,7 @@ module _ (a b : Surface) (o : Before a b) where
 -- ---- what is separate
 
 -- rows that do not meet have no byte in common
-rows-separate : (a b : Surface) → rowsMeet a b ≡ false → Separate a b
+pub rows-separate : (a b : Surface) → rowsMeet a b ≡ false → Separate a b
 rows-separate a b e i y j v k r q =
     false≢true (sym e ∙ meeting-true a b (record { y = y; v = v; first = r .row; second = q .row; common = omega (arith, r .is, r .column, q .is, q .column) }))
 

@@ -1,4 +1,6 @@
--- Whether two surfaces meet (fault 28). What the stride leaves between rows is no part of them.
+-- Whether two surfaces meet (02, request 7: "Where two surfaces have equal strides, 28 asks whether a byte lies in rows of both; padding doesn't count.
+-- With unequal strides the span rule stays."). That rows meet exactly where a byte lies in rows of both is shown in proofs/Meet.antt (`rows-separate`,
+-- `common-byte`).
 use Prim.Native.Nat.{ℕ, zero, suc, _≤_}
 use mathlib.Core.Path.{_≡_}
 use mathlib.Core.Bool.{Bool, false, cond, _||_}
@@ -8,7 +10,7 @@ use Rattle.range.specs.declared.Range.{Range}
 use Rattle.surface.specs.declared.Surface.{Surface}
 use Rattle.surface.specs.Surface.{rowLength, rowStart, span}
 
--- the bytes of row y
+-- the bytes of row y; what the stride leaves between rows is no part of them
 abbrev pub rowOf : Surface → ℕ → Range
 rowOf s y = runOf (rowStart s y) (rowLength s)
 
