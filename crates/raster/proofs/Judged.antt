@@ -9,7 +9,6 @@ use Rattle.register.specs.declared.task.Task.{Task}
 use Rattle.rules.specs.declared.task.Bounds.{Bounds}
 use Rattle.rules.specs.Rules.{commonOf}
 use Rattle.rules.proofs.Sound.{Rows, Within, InReach, Sound}
-use Rattle.rules.proofs.Bytes.{source-not-written, destination-not-written}
 use Rattle.raster.specs.Clear.{Rectangle, Clear, Drawable, Below}
 
 -- the rectangles that a batch with these bounds may read
@@ -28,11 +27,11 @@ module _ (bounds : Bounds) (t : Task) (s : Sound bounds t) where
     begins = s .within .0;
     ends = s .within .1;
     size = sym (s .size);
-    source = λ reads. record { reach = on (t .source .surface) (s .source reads .reach); separate = source-not-written bounds t s reads };
+    source = λ reads. record { reach = on (t .source .surface) (s .source reads .reach); separate = s .source reads .separate };
     destination = λ blends. record {
       reach = on (t .destination .surface) (s .destination blends .reach);
       size = s .destination blends .size;
-      separate = destination-not-written bounds t s blends;
+      separate = s .destination blends .separate;
     };
   }
 

@@ -12,7 +12,7 @@ use Rattle.pixel.specs.Formats.{bytesOf, layoutOf}
 use Rattle.pixel.specs.Colours.{packed}
 use Rattle.transform.specs.Transform.{Within}
 use Rattle.transform.specs.declared.Point.{Point}
-use Rattle.surface.specs.Surface.{rowLength, rowStart, pixelStart}
+use Rattle.surface.specs.Surface.{rowLength, rowStart, pixelStart, Separate}
 use Rattle.surface.specs.Memory.{mapi}
 use Rattle.surface.specs.Rows.{rows, rowByte}
 use Rattle.surface.specs.Drawn.{drawn, drawnOn}
@@ -26,7 +26,7 @@ use Rattle.register.specs.declared.task.Task.{Task}
 use Rattle.register.specs.Size.{sizeOf}
 use Rattle.rows.specs.Row.{colourAt}
 use Rattle.raster.specs.Task.{pixelColour, drawTask}
-use Rattle.raster.specs.Clear.{Rectangle, Separate, Clear}
+use Rattle.raster.specs.Clear.{Rectangle, Clear}
 use Rattle.raster.specs.Row.{rowDrawn, drawRow}
 use Rattle.raster.proofs.Lent.{row-ext}
 use Rattle.raster.proofs.Pixel.{pixel-same, origin-within, destination-within}

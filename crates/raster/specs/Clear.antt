@@ -1,12 +1,12 @@
--- What is asked of a task that is drawn, which is what faults 25 to 28 leave of it (01, "Faults of a taken batch"). That no
--- byte is written which is read elsewhere is said of rows, not of spans.
+-- What is asked of a task that is drawn, which is what faults 25 to 28 leave of it (01, "Faults of a taken batch"; 02, request 7).
+-- That no byte is written which is read elsewhere is said of rows, not of spans.
 use mathlib.Core.Path.{_≡_}
 use mathlib.Core.Bool.{true}
 use mathlib.Core.Logic.{_⊎_}
 use Prim.Native.Nat.{ℕ, _≤_, _<_}
 use Rattle.range.specs.declared.Range.{Range}
 use Rattle.transform.specs.Transform.{rotatedSize}
-use Rattle.surface.specs.Surface.{rowLength, span, InRow}
+use Rattle.surface.specs.Surface.{rowLength, span, Separate}
 use Rattle.surface.specs.declared.Surface.{Surface}
 use Rattle.register.specs.Task.{isBuffer}
 use Rattle.register.specs.declared.task.Task.{Task}
@@ -20,10 +20,6 @@ pub record Rectangle (s : Surface) : Type 0 where
   pub high : 0 < s .height
   pub low : s .height ≤ 4096
   pub spaced : rowLength s ≤ s .stride
-
--- no byte lies in rows of both
-abbrev pub Separate : Surface → Surface → Type 0
-Separate s o = (i y j v k : ℕ) → InRow s i y j → InRow o i v k → ⊥
 
 -- a source that is read
 pub record ClearSource (Reach : Surface → Type 0) (s o : Surface) : Type 0 where

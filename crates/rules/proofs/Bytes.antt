@@ -1,19 +1,18 @@
--- What a sound task reads and writes, byte by byte (demand 2; the separation that drawing leans on).
-use Prim.Native.Nat.{ℕ, max, _≤_, _<_}
+-- Where the bytes lie that a sound task reads and writes (demand 2). That no byte of a row is both, but where destination and output are one, is part
+-- of `Sound`.
+use Prim.Native.Nat.{ℕ}
 use native.Mathlib.Omega.{arith}
 use mathlib.Core.Path.{_≡_}
 use mathlib.Core.Bool.{true}
-use mathlib.Core.Logic.{_⊎_, inl, inr, ⊎-elim}
-use Rattle.word.proofs.Tests.{split}
+use mathlib.Core.Logic.{_⊎_, inl, inr}
 use Rattle.range.specs.Range.{Holds}
 use Rattle.range.specs.declared.Range.{Range}
 use Rattle.surface.specs.Surface.{span, InRow}
-use Rattle.surface.specs.declared.Surface.{Surface}
 use Rattle.surface.proofs.Outside.{byte-in-span}
 use Rattle.register.specs.declared.task.Task.{Task}
 use Rattle.rules.specs.declared.task.Bounds.{Bounds}
 use Rattle.rules.specs.Rules.{reads, commonOf}
-use Rattle.rules.proofs.Sound.{Within, InReach, Apart, Sound}
+use Rattle.rules.proofs.Sound.{Within, InReach, Sound}
 
 -- each byte of a run that lies within another is one of the other's
 pub within-holds : (r q : Range) → Within r q → (i : ℕ) → Holds r i → Holds q i
@@ -24,35 +23,17 @@ pub reach-holds : (bounds : Bounds) (r : Range) → InReach bounds r → (i : �
 reach-holds bounds r (inl w) i h = inl (within-holds r (bounds .window) w i h)
 reach-holds bounds r (inr w) i h = inr (within-holds r (commonOf bounds) w i h)
 
--- runs that are apart, and not empty, lie one before the other
-pub apart-sides : (r q : Range) → r .start < r .end → q .start < q .end → Apart r q → (r .end ≤ q .start) ⊎ (q .end ≤ r .start)
-apart-sides r q m n a = ⊎-elim one (λ h. inl h) (split (q .start) (r .end))
-  where
-    one : q .start < r .end → (r .end ≤ q .start) ⊎ (q .end ≤ r .start)
-    one h = ⊎-elim (λ l. absurd (a (max (r .start) (q .start)) (omega arith, omega arith) (omega arith, omega arith))) (λ l. inr l) (split (r .start) (q .end))
-
--- rows of spans that are apart have no byte in common
-pub rows-apart : (a b : Surface) → Apart (span a) (span b) → (i y j y′ j′ : ℕ) → InRow a i y j → InRow b i y′ j′ → ⊥
-rows-apart a b h i y j y′ j′ r q = h i (byte-in-span a i y j r) (byte-in-span b i y′ j′ q)
-
 module _ (bounds : Bounds) (t : Task) (s : Sound bounds t) where
   -- a byte that the task writes is one of the window's
   pub written-in-window : (i y j : ℕ) → InRow (t .output) i y j → Holds (bounds .window) i
   written-in-window i y j r = within-holds (span (t .output)) (bounds .window) (s .within) i (byte-in-span (t .output) i y j r)
 
-  -- a byte that it reads of the source is one of the window's or of common's, and none that it writes
+  -- a byte that it reads of the source is one of the window's or of common's
   pub source-in-reach : reads (t .source) ≡ true → (i y j : ℕ) → InRow (t .source .surface) i y j → Holds (bounds .window) i ⊎ Holds (commonOf bounds) i
   source-in-reach on i y j r =
       reach-holds bounds (span (t .source .surface)) (s .source on .reach) i (byte-in-span (t .source .surface) i y j r)
 
-  pub source-not-written : reads (t .source) ≡ true → (i y j y′ j′ : ℕ) → InRow (t .source .surface) i y j → InRow (t .output) i y′ j′ → ⊥
-  source-not-written on = rows-apart (t .source .surface) (t .output) (s .source on .apart)
-
-  -- a byte that it reads of the destination lies so too; either none of them is written, or destination and output are one
+  -- a byte that it reads of the destination lies so too
   pub destination-in-reach : t .blending .on ≡ true → (i y j : ℕ) → InRow (t .destination .surface) i y j → Holds (bounds .window) i ⊎ Holds (commonOf bounds) i
   destination-in-reach on i y j r =
       reach-holds bounds (span (t .destination .surface)) (s .destination on .reach) i (byte-in-span (t .destination .surface) i y j r)
-
-  pub destination-not-written : t .blending .on ≡ true
-      → ((i y j y′ j′ : ℕ) → InRow (t .destination .surface) i y j → InRow (t .output) i y′ j′ → ⊥) ⊎ (t .destination .surface ≡ t .output)
-  destination-not-written on = ⊎-elim (λ h. inl (rows-apart (t .destination .surface) (t .output) h)) (λ e. inr e) (s .destination on .apart)

@@ -8,17 +8,19 @@ use mathlib.Core.Logic.{_⊎_, inl, inr, ⊎-elim}
 use lib.Dec.{eqb, ltb}
 use borrow.Author.Tests.{ltb-false, eqb-true, eqb-false, not-false}
 use Rattle.word.proofs.Tests.{and-true, and-false, or-false}
-use Rattle.range.specs.Range.{inside, shared}
-use Rattle.range.proofs.Laws.{inside-ends, apart}
+use Rattle.range.specs.Range.{inside}
+use Rattle.range.proofs.Laws.{inside-ends}
 use Rattle.pixel.specs.Formats.{bytesOf}
 use Rattle.pixel.specs.declared.format.Format.{Format}
 use Rattle.pixel.specs.declared.format.Format.the-variants.{Argb8888, Rgb888, Rgb565}
 use Rattle.transform.specs.declared.Rotation.{Rotation}
 use Rattle.transform.specs.declared.Rotation.the-variants.{Upright, Clockwise, Half, CounterClockwise}
 use Rattle.transform.specs.declared.Size.{Size}
-use Rattle.surface.specs.Surface.{rowLength, span}
+use Rattle.surface.specs.Surface.{rowLength, span, Separate}
+use Rattle.surface.specs.Meet.{meet}
 use Rattle.surface.specs.declared.Surface.{Surface}
 use Rattle.surface.proofs.Sizes.{bytes-some}
+use Rattle.surface.proofs.Meet.{separate}
 use Rattle.register.specs.declared.task.Task.{Task}
 use Rattle.register.specs.Size.{sizeOf}
 use Rattle.rules.specs.declared.fault.Fault.{Fault}
@@ -27,7 +29,7 @@ use Rattle.rules.specs.declared.task.Bounds.{Bounds}
 use Rattle.rules.specs.declared.task.Check.{Check}
 use Rattle.rules.specs.declared.task.Check.the-variants.{Fine, Wrong}
 use Rattle.rules.specs.Rules.{reads, badSide, badSides, badStride, badSource, badOutput, badDestination, badSurface, isUpright, turnedColour, turnedSize, sameSize, sizeMismatch, commonOf, inWindow, inReach, outOfBounds, sameFormat, samePlace, overlap, taskFault}
-use Rattle.rules.proofs.Sound.{Sides, Rows, InReach, Apart, SoundSource, SoundDestination, Sound}
+use Rattle.rules.proofs.Sound.{Sides, Rows, InReach, SoundSource, SoundDestination, Sound}
 
 -- a rule that is not broken, and those after it
 passed : (b : Bool) (f : Fault) (rest : Check) → cond b (Wrong f) rest ≡ Fine → (b ≡ false) × (rest ≡ Fine)
@@ -125,12 +127,12 @@ same-surface a b e z =
     (ap (λ (z : Size). z .height) z)
     (same-format (a .format) (b .format) (first .1))
 
-apart-or-same : (a b : Surface) → shared (span a) (span b) && not (samePlace a b) ≡ false → sizeOf a ≡ sizeOf b → Apart (span a) (span b) ⊎ (a ≡ b)
-apart-or-same a b e z = go (shared (span a) (span b)) refl
+separate-or-same : (a b : Surface) → meet a b && not (samePlace a b) ≡ false → sizeOf a ≡ sizeOf b → Separate a b ⊎ (a ≡ b)
+separate-or-same a b e z = go (meet a b) refl
   where
-    go : (t : Bool) → shared (span a) (span b) ≡ t → Apart (span a) (span b) ⊎ (a ≡ b)
-    go true s = inr (same-surface a b (not-false (samePlace a b) (and-false (shared (span a) (span b)) (not (samePlace a b)) s e)) z)
-    go false s = inl (apart (span a) (span b) s)
+    go : (t : Bool) → meet a b ≡ t → Separate a b ⊎ (a ≡ b)
+    go true s = inr (same-surface a b (not-false (samePlace a b) (and-false (meet a b) (not (samePlace a b)) s e)) z)
+    go false s = inl (separate a b s)
 
 -- ---- all of them
 
@@ -158,11 +160,11 @@ sound-source bounds t k on =
     let r25 = or-false3 (badSource (t .source)) (badOutput (t .output)) (t .blending .on && badDestination (t .destination)) (k .surfaces) in
     let own = or-false3 (badSides s) (reads (t .source) && badStride s) (not (t .source .enabled)) (r25 .0) in
     let r27 = or-false3 (reads (t .source) && not (inReach bounds s)) (not (inWindow bounds (t .output))) (t .blending .on && not (inReach bounds (t .destination .surface))) (k .bounded) in
-    let r28 = or-false (reads (t .source) && shared (span s) (span (t .output))) _ (k .separate) in
+    let r28 = or-false (reads (t .source) && meet s (t .output)) _ (k .separate) in
     record {
       rows = rows s (own .0) (and-false (reads (t .source)) (badStride s) on (own .1));
       reach = in-reach bounds s (not-false (inReach bounds s) (and-false (reads (t .source)) (not (inReach bounds s)) on (r27 .0)));
-      apart = apart (span s) (span (t .output)) (and-false (reads (t .source)) (shared (span s) (span (t .output))) on (r28 .0));
+      separate = separate s (t .output) (and-false (reads (t .source)) (meet s (t .output)) on (r28 .0));
     }
 
 -- the destination, while blending
@@ -175,14 +177,14 @@ sound-destination bounds t k on =
     let own = or-false3 (badSides d) (badStride d) (not (t .destination .enabled)) (and-false b (badDestination (t .destination)) on (r25 .2)) in
     let r26 = or-false3 (turnedColour (t .source)) (not (sameSize (sizeOf (t .output)) (turnedSize (t .source)))) (b && not (sameSize (sizeOf d) (sizeOf (t .output)))) (k .sizes) in
     let r27 = or-false3 (reads (t .source) && not (inReach bounds (t .source .surface))) (not (inWindow bounds (t .output))) (b && not (inReach bounds d)) (k .bounded) in
-    let r28 = or-false (reads (t .source) && shared (span (t .source .surface)) (span (t .output))) _ (k .separate) in
+    let r28 = or-false (reads (t .source) && meet (t .source .surface) (t .output)) _ (k .separate) in
     let z = same-size (sizeOf d) (sizeOf (t .output)) (not-false (sameSize (sizeOf d) (sizeOf (t .output))) (and-false b (not (sameSize (sizeOf d) (sizeOf (t .output)))) on (r26 .2))) in
     record {
       rows = rows d (own .0) (own .1);
       enabled = not-false (t .destination .enabled) (own .2);
       size = z;
       reach = in-reach bounds d (not-false (inReach bounds d) (and-false b (not (inReach bounds d)) on (r27 .2)));
-      apart = apart-or-same d (t .output) (and-last b (shared (span d) (span (t .output))) (not (samePlace d (t .output))) on (r28 .1)) z;
+      separate = separate-or-same d (t .output) (and-last b (meet d (t .output)) (not (samePlace d (t .output))) on (r28 .1)) z;
     }
   where
     and-last : (a b c : Bool) → a ≡ true → a && b && c ≡ false → b && c ≡ false

@@ -1,14 +1,13 @@
 -- What a task that breaks no rule has, as plain facts for the drawing: rectangles of sound rows, that lie where the batch may
--- read or write, and no written byte that is a source byte.
-use Prim.Native.Nat.{ℕ, _%_, _≤_, _<_}
+-- read or write, and that have no byte of a row in common with the output.
+use Prim.Native.Nat.{_%_, _≤_, _<_}
 use mathlib.Core.Path.{_≡_}
 use mathlib.Core.Bool.{true, false}
 use mathlib.Core.Logic.{_⊎_}
 use mathlib.Core.List.{List, [], _∷_}
-use Rattle.range.specs.Range.{Holds}
 use Rattle.range.specs.declared.Range.{Range}
 use Rattle.transform.specs.declared.Rotation.the-variants.{Upright}
-use Rattle.surface.specs.Surface.{rowLength, span}
+use Rattle.surface.specs.Surface.{rowLength, span, Separate}
 use Rattle.surface.specs.declared.Surface.{Surface}
 use Rattle.register.specs.declared.task.Source.{Source}
 use Rattle.register.specs.declared.task.Destination.{Destination}
@@ -38,23 +37,19 @@ Within r q = (q .start ≤ r .start) × (r .end ≤ q .end)
 abbrev pub InReach : Bounds → Range → Type 0
 InReach bounds r = Within r (bounds .window) ⊎ Within r (commonOf bounds)
 
--- no byte lies in both
-abbrev pub Apart : Range → Range → Type 0
-Apart r q = (i : ℕ) → Holds r i → Holds q i → ⊥
-
 -- what the source is, if it is read from memory
 pub record SoundSource (bounds : Bounds) (s : Source) (output : Surface) : Type 0 where
   pub rows : Rows (s .surface)
   pub reach : InReach bounds (span (s .surface))
-  pub apart : Apart (span (s .surface)) (span output)
+  pub separate : Separate (s .surface) output
 
--- what the destination is, while blending: apart from the output, or the output itself, pixel by pixel
+-- what the destination is, while blending: separate from the output, or the output itself, pixel by pixel
 pub record SoundDestination (bounds : Bounds) (d : Destination) (output : Surface) : Type 0 where
   pub rows : Rows (d .surface)
   pub enabled : d .enabled ≡ true
   pub size : sizeOf (d .surface) ≡ sizeOf output
   pub reach : InReach bounds (span (d .surface))
-  pub apart : Apart (span (d .surface)) (span output) ⊎ (d .surface ≡ output)
+  pub separate : Separate (d .surface) output ⊎ (d .surface ≡ output)
 
 pub record Sound (bounds : Bounds) (t : Task) : Type 0 where
   pub sides : Sides (t .source .surface)

@@ -22,7 +22,7 @@ faultNumber BadSurface = 25
 faultNumber SizeMismatch = 26
 -- a span outside the window, or, of what is read, outside common too
 faultNumber OutOfBounds = 27
--- spans that share a byte
+-- surfaces that meet: in rows where their strides are equal, else in spans (02, request 7)
 faultNumber Overlap = 28
 
 abbrev pub faultStatus : Fault → ℕ

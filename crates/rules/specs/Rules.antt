@@ -1,9 +1,9 @@
--- The rules of a task, faults 25 to 28 (01, "Faults of a taken batch"). In colour mode the source has no stride, format or
+-- The rules of a task, faults 25 to 28 (01, "Faults of a taken batch"; 02, request 7). In colour mode the source has no stride, format or
 -- span; without blending the destination is not judged. All sums are of numbers that do not wrap.
 use Prim.Native.Nat.{ℕ, _%_}
 use mathlib.Core.Bool.{Bool, true, false, cond, not, _&&_, _||_}
 use lib.Dec.{eqb, ltb}
-use Rattle.range.specs.Range.{inside, shared}
+use Rattle.range.specs.Range.{inside}
 use Rattle.range.specs.declared.Range.{Range}
 use Rattle.pixel.specs.Formats.{layoutOf}
 use Rattle.pixel.specs.declared.format.Format.{Format}
@@ -12,6 +12,7 @@ use Rattle.transform.specs.declared.Rotation.{Rotation}
 use Rattle.transform.specs.declared.Rotation.the-variants.{Upright, Clockwise, Half, CounterClockwise}
 use Rattle.transform.specs.declared.Size.{Size}
 use Rattle.surface.specs.Surface.{rowLength, span}
+use Rattle.surface.specs.Meet.{meet}
 use Rattle.surface.specs.declared.Surface.{Surface}
 use Rattle.register.specs.Task.{isBuffer}
 use Rattle.register.specs.declared.task.Source.{Source}
@@ -101,7 +102,7 @@ outOfBounds bounds t =
     || not (inWindow bounds (t .output))
     || (t .blending .on && not (inReach bounds (t .destination .surface)))
 
--- ---- 28
+-- ---- 28 (02, request 7)
 
 abbrev pub sameFormat : Format → Format → Bool
 sameFormat a b = eqb (layoutOf a .code) (layoutOf b .code)
@@ -110,11 +111,11 @@ sameFormat a b = eqb (layoutOf a .code) (layoutOf b .code)
 unfoldable pub samePlace : Surface → Surface → Bool
 samePlace a b = eqb (a .address) (b .address) && eqb (a .stride) (b .stride) && sameFormat (a .format) (b .format)
 
--- source and output spans share a byte; blending, destination and output spans share one, unless they are at the same place
+-- source and output meet: with equal strides in rows, else in spans; blending, destination and output meet, unless they are at the same place
 unfoldable pub overlap : Task → Bool
 overlap t =
-    (reads (t .source) && shared (span (t .source .surface)) (span (t .output)))
-    || (t .blending .on && shared (span (t .destination .surface)) (span (t .output)) && not (samePlace (t .destination .surface) (t .output)))
+    (reads (t .source) && meet (t .source .surface) (t .output))
+    || (t .blending .on && meet (t .destination .surface) (t .output) && not (samePlace (t .destination .surface) (t .output)))
 
 -- ---- the lowest number first, over all surfaces
 

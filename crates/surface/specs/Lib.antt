@@ -3,3 +3,4 @@ pub mod Surface
 pub mod Memory
 pub mod Rows
 pub mod Drawn
+pub mod Meet

@@ -27,3 +27,7 @@ pub record InRow (s : Surface) (i y j : ℕ) : Type 0 where
   pub row : y < s .height
   pub column : j < rowLength s
   pub is : i ≡ rowStart s y + j
+
+-- no byte lies in rows of both
+abbrev pub Separate : Surface → Surface → Type 0
+Separate s o = (i y j v k : ℕ) → InRow s i y j → InRow o i v k → ⊥

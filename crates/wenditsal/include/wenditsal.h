@@ -49,9 +49,11 @@ extern "C" {
  *                              under width x bytes a pixel; source disabled; destination disabled while blending
  *   26  task end   0x00000002  turn in colour mode; output size not the turned source size; blending, destination size not output size
  *   27  task end   0x00000002  span not wholly in the client's window, or, for what is read, wholly in common
- *   28  task end   0x00000002  source and output spans share a byte; blending, destination and output spans share one, unless address,
- *                              stride and format are equal
+ *   28  task end   0x00000002  source and output meet; blending, destination and output meet, unless address, stride and format are equal
  * "task end" is the header of the group that ends the task. A span runs from the address over stride x (height - 1) + width x bytes a pixel.
+ * Row y is the width x bytes a pixel from address + y x stride on. Two surfaces of equal strides meet if a byte lies in rows of both, any row
+ * of one and any row of the other; what the stride leaves between rows does not count. Surfaces of unequal strides meet if their spans
+ * share a byte.
  *
  * A batch is groups of little-endian words: a header and the words for registers at its offset, offset + 4, ..  Header: bits 31:16 the
  * offset, 15:2 the number of words that follow, 0 task end. Registers are at reset at the start of every batch, 0 but 0x090, which is

@@ -79,5 +79,11 @@ fn call(_: &List, _: &mut Lent, _: &mut Lent, _: &mut Lent) -> usize {
 pub fn play(list: &List) -> Option<Played> {
     let (mut ring, mut memory, mut answers) = (Lent::new(&list.ring), Lent::new(&list.memory), Lent::new(&list.answers));
     let written = call(list, &mut ring, &mut memory, &mut answers);
-    Some(Played { written, answers: answers.returned()?, ring: ring.returned()?, memory: memory.returned()?, wraps: 0 })
+    Some(Played {
+        written,
+        answers: answers.returned()?,
+        ring: ring.returned()?,
+        memory: memory.returned()?,
+        ..Played::default()
+    })
 }

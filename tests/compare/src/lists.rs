@@ -1,8 +1,8 @@
-//! Random lists played by the engine and by the independent program.
+//! Lists of calls played by the engine and by the independent program.
 use crate::linked;
 use independent::play::{play, Call, Calls, List, Played, ANSWER};
-use independent::scripts;
 use independent::tally::Tally;
+use independent::{page_lists, scripts};
 
 /// The first byte in which two buffers of one length differ.
 fn difference(name: &str, expected: &[u8], found: &[u8]) -> Option<String> {
@@ -47,23 +47,34 @@ pub fn describe(list: &List) {
     }
 }
 
-/// Whether so many lists of a seed agree.
-pub fn compare(count: u64, seed: u64) -> bool {
+/// Whether all lists of some name agree.
+fn all_agree(lists: impl Iterator<Item = List>, name: &str) -> bool {
     let mut tally = Tally::default();
-    for number in 0..count {
-        let list = scripts::list(seed, number);
+    let mut count = 0;
+    for list in lists {
         let expected = play(&list);
         let found = linked::play(&list);
         let differ = differences(&expected, found.as_ref());
         if !differ.is_empty() {
-            println!("list {number} of seed {seed} differs:");
+            println!("list {count} {name} differs:");
             differ.iter().for_each(|line| println!("  {line}"));
             describe(&list);
             return false;
         }
         tally.add_list(&list, &expected);
+        count += 1;
     }
     tally.print();
-    println!("{count} lists of seed {seed}: all agree");
+    println!("{count} lists {name}: all agree");
     true
+}
+
+/// Whether so many lists of a seed agree.
+pub fn compare(count: u64, seed: u64) -> bool {
+    all_agree((0..count).map(|number| scripts::list(seed, number)), &format!("of seed {seed}"))
+}
+
+/// Whether the lists agree that put one surface at every place about another.
+pub fn pages() -> bool {
+    all_agree(page_lists::lists().into_iter(), "of two surfaces on a page")
 }

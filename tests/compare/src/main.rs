@@ -2,6 +2,7 @@
 //!
 //! compare lists COUNT SEED                       random lists of calls, played by the static library
 //! compare orders COUNT SEED                      random pairs of orders of the same batches, likewise
+//! compare pages                                  two surfaces at every place about each other, by the static library
 //! compare replays COUNT SEED PROGRAM [WORD ..]   random replay files, on PROGRAM's standard input
 //! compare cuts FILE PROGRAM [WORD ..]            a replay file cut at every byte
 mod linked;
@@ -21,11 +22,12 @@ fn compared(words: &[&str]) -> Result<bool> {
     match words {
         ["lists", count, seed] => Ok(lists::compare(number(count)?, number(seed)?)),
         ["orders", count, seed] => Ok(orders::compare(number(count)?, number(seed)?)),
+        ["pages"] => Ok(lists::pages()),
         ["replays", count, seed, program @ ..] => replays::compare(number(count)?, number(seed)?, program),
         ["cuts", file, program @ ..] => replays::cuts(file, program),
-        _ => {
-            Err(Error::other("usage: lists COUNT SEED | orders COUNT SEED | replays COUNT SEED PROGRAM | cuts FILE PROGRAM"))
-        }
+        _ => Err(Error::other(
+            "usage: lists COUNT SEED | orders COUNT SEED | pages | replays COUNT SEED PROGRAM | cuts FILE PROGRAM",
+        )),
     }
 }
 

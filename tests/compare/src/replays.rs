@@ -1,7 +1,8 @@
 //! Replay files read by a program and by the independent program.
-use independent::replay::replayed;
+use independent::registers::Task;
+use independent::replay::played;
 use independent::replay_files;
-use std::collections::BTreeMap;
+use independent::tally::Tally;
 use std::io::{Error, Read, Result, Write};
 use std::process::{Command, Stdio};
 
@@ -21,12 +22,12 @@ fn printed(program: &[&str], file: &[u8]) -> Result<Vec<u8>> {
     status.code().map(|_| lines).ok_or_else(|| Error::other(format!("{path} was ended by a signal")))
 }
 
-/// Compares one file, and answers its lines if they agree.
-fn agreed(program: &[&str], file: &[u8], name: &str) -> Result<Option<String>> {
-    let (expected, _) = replayed(file);
+/// Compares one file, and answers its lines, and the tasks that rule 28 was asked about, if they agree.
+fn agreed(program: &[&str], file: &[u8], name: &str) -> Result<Option<(String, Vec<Task>)>> {
+    let (expected, book) = played(file);
     let found = printed(program, file)?;
     if found == expected.as_bytes() {
-        return Ok(Some(expected));
+        return Ok(Some((expected, book.asked)));
     }
     println!("{name} differs\nexpected:\n{expected}found:\n{}", String::from_utf8_lossy(&found));
     Ok(None)
@@ -45,13 +46,15 @@ fn kind(line: &str) -> String {
 
 /// Whether a program prints what it should of so many random files of a seed.
 pub fn compare(count: u64, seed: u64, program: &[&str]) -> Result<bool> {
-    let mut tally: BTreeMap<String, u64> = BTreeMap::new();
+    let mut tally = Tally::default();
     for number in 0..count {
         let file = replay_files::file(seed, number);
-        let Some(lines) = agreed(program, &file, &format!("file {number} of seed {seed}"))? else { return Ok(false) };
-        lines.lines().for_each(|line| *tally.entry(kind(line)).or_default() += 1);
+        let agreed = agreed(program, &file, &format!("file {number} of seed {seed}"))?;
+        let Some((lines, asked)) = agreed else { return Ok(false) };
+        lines.lines().for_each(|line| tally.add(kind(line), 1));
+        tally.add_pairs(&asked);
     }
-    tally.iter().for_each(|(kind, times)| println!("{times:>12}  {kind}"));
+    tally.print();
     println!("{count} replay files of seed {seed}: all agree");
     Ok(true)
 }

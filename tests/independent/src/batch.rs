@@ -1,7 +1,7 @@
-//! A batch read and judged (01, "Groups and registers" and "Faults of a taken batch"). A batch is taken apart into groups
+//! A batch read and judged (01, "Groups and registers" and "Faults of a taken batch"; 02, request 7). A batch is taken apart into groups
 //! first; the groups are then gone through in order.
 use crate::registers::{size, Bank, Refusal, Task};
-use crate::surface::{is_inside, shares, Run, Surface};
+use crate::surface::{is_inside, Run, Surface};
 use crate::transform::turned_size;
 
 /// What a client may touch: its window, and as many bytes of common from address 0 on.
@@ -43,6 +43,12 @@ impl Reading {
             Some(fault) => [fault.status(), fault.number, fault.place],
             None => [self.tasks.len() as u32 * 65536 + 1, 0, 0],
         }
+    }
+
+    /// The tasks that rule 28 was asked about.
+    pub fn asked(&self) -> Vec<Task> {
+        let met = self.fault.filter(|fault| fault.number == 28).map(|_| self.last.task());
+        self.tasks.iter().copied().chain(met).collect()
     }
 }
 
@@ -120,27 +126,44 @@ fn is_readable(surface: &Surface, bounds: &Bounds) -> bool {
     is_inside(&surface.span(), &bounds.window) || is_inside(&surface.span(), &(0..bounds.common))
 }
 
-/// The number of the first of 25 to 28 that a task breaks.
-pub fn judge(task: &Task, bounds: &Bounds) -> Option<u32> {
-    let buffer = (!task.is_colour).then_some(&task.source);
-    let destination = task.blend.then_some(&task.destination);
+/// What a task reads from memory: the source but in colour mode, and the destination while it blends.
+fn read_surfaces(task: &Task) -> [Option<&Surface>; 2] {
+    [(!task.is_colour).then_some(&task.source), task.blend.then_some(&task.destination)]
+}
+
+fn breaks_25(task: &Task) -> bool {
+    let [buffer, destination] = read_surfaces(task);
     let with_sides = [Some(&task.source), Some(&task.output), destination];
     let in_memory = [buffer, Some(&task.output), destination];
-    let equal = |a: &Surface, b: &Surface| (a.address, a.stride, a.format.code) == (b.address, b.stride, b.format.code);
-    let rules = [
-        with_sides.iter().flatten().any(|s| has_bad_sides(s))
-            || in_memory.iter().flatten().any(|s| has_bad_stride(s))
-            || !task.source_enabled
-            || task.blend && !task.destination_enabled,
-        task.is_colour && task.setting.turns != 0
-            || size(&task.output) != turned_size(task.setting.turns, size(&task.source))
-            || destination.is_some_and(|d| size(d) != size(&task.output)),
-        !is_inside(&task.output.span(), &bounds.window)
-            || [buffer, destination].iter().flatten().any(|s| !is_readable(s, bounds)),
-        buffer.is_some_and(|s| shares(&s.span(), &task.output.span()))
-            || destination.is_some_and(|d| shares(&d.span(), &task.output.span()) && !equal(d, &task.output)),
-    ];
-    rules.iter().position(|broken| *broken).map(|rule| 25 + rule as u32)
+    with_sides.iter().flatten().any(|s| has_bad_sides(s))
+        || in_memory.iter().flatten().any(|s| has_bad_stride(s))
+        || !task.source_enabled
+        || task.blend && !task.destination_enabled
+}
+
+fn breaks_26(task: &Task) -> bool {
+    task.is_colour && task.setting.turns != 0
+        || size(&task.output) != turned_size(task.setting.turns, size(&task.source))
+        || task.blend && size(&task.destination) != size(&task.output)
+}
+
+fn breaks_27(task: &Task, bounds: &Bounds) -> bool {
+    !is_inside(&task.output.span(), &bounds.window) || read_surfaces(task).iter().flatten().any(|s| !is_readable(s, bounds))
+}
+
+fn breaks_28(task: &Task) -> bool {
+    let output = &task.output;
+    let equal = |d: &Surface| (d.address, d.stride, d.format.code) == (output.address, output.stride, output.format.code);
+    let [buffer, destination] = read_surfaces(task);
+    buffer.is_some_and(|s| s.meets(output)) || destination.is_some_and(|d| d.meets(output) && !equal(d))
+}
+
+/// The number of the first of 25 to 28 that a task breaks. 28 is asked last, so that it goes through the rows only of surfaces
+/// that lie in memory.
+pub fn judge(task: &Task, bounds: &Bounds) -> Option<u32> {
+    let rules: [&dyn Fn() -> bool; 4] =
+        [&|| breaks_25(task), &|| breaks_26(task), &|| breaks_27(task, bounds), &|| breaks_28(task)];
+    rules.iter().position(|broken| broken()).map(|rule| 25 + rule as u32)
 }
 
 #[cfg(test)]

@@ -1,6 +1,6 @@
 //! A task drawn (01, "Pixels"): the output's pixels are gone through in order, and all of them are worked out from the memory
 //! before the task.
-use crate::batch::{self, Bounds};
+use crate::batch::{self, Bounds, Reading};
 use crate::pixel::{self, Colour};
 use crate::registers::{size, Bank, Task};
 use crate::surface;
@@ -43,12 +43,16 @@ pub fn drawn(task: &Task, memory: &[u8]) -> Vec<u8> {
     after
 }
 
-/// Memory after a batch: a faulty one draws nothing at all. Status, fault and place beside it.
+/// Memory after a batch that was read: a faulty one draws nothing at all.
+pub fn drawn_reading(reading: &Reading, memory: &[u8]) -> Vec<u8> {
+    let tasks = if reading.fault.is_none() { &reading.tasks[..] } else { &[] };
+    tasks.iter().fold(memory.to_vec(), |memory, task| drawn(task, &memory))
+}
+
+/// Memory after a batch. Status, fault and place beside it.
 pub fn drawn_batch(words: &[u32], bounds: &Bounds, memory: &[u8]) -> ([u32; 3], Vec<u8>) {
     let reading = batch::read(words, bounds, &Bank::reset());
-    let tasks = if reading.fault.is_none() { &reading.tasks[..] } else { &[] };
-    let after = tasks.iter().fold(memory.to_vec(), |memory, task| drawn(task, &memory));
-    (reading.answer(), after)
+    (reading.answer(), drawn_reading(&reading, memory))
 }
 
 #[cfg(test)]

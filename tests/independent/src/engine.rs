@@ -1,7 +1,8 @@
 //! The book (01, "The book of demand 3"): the engine as a list of windows, a list of waiting batches with their bytes, the
 //! number accepted, and memory. It knows no record, no slots and no ring bytes; a ring's are beside it, for comparing.
-use crate::batch::Bounds;
+use crate::batch::{self, Bounds};
 use crate::drawing;
+use crate::registers::{Bank, Task};
 use crate::ring;
 use crate::surface::{run, shares, Run};
 use std::collections::VecDeque;
@@ -56,6 +57,8 @@ pub struct Book {
     waiting: VecDeque<Waiting>,
     accepted: u64,
     pub memory: Vec<u8>,
+    /// The tasks that rule 28 was asked about, for counting alone.
+    pub asked: Vec<Task>,
 }
 
 impl Book {
@@ -63,8 +66,8 @@ impl Book {
         if let Some(number) = numbers.refusal() {
             return Err(number);
         }
-        let (windows, waiting) = (Vec::new(), VecDeque::new());
-        Ok(Book { numbers, lent_ring: lent_ring as u64, windows, waiting, accepted: 0, memory: memory.to_vec() })
+        let (windows, waiting, asked) = (Vec::new(), VecDeque::new(), Vec::new());
+        Ok(Book { numbers, lent_ring: lent_ring as u64, windows, waiting, accepted: 0, memory: memory.to_vec(), asked })
     }
 
     /// The windows in the order of opening.
@@ -126,8 +129,10 @@ impl Book {
         }
         let Waiting { client, ticket, bytes } = self.waiting.pop_front().ok_or(9u32)?;
         let words = ring::words(&bytes, 0, bytes.len() as u64);
-        let ([status, fault, place], after) = drawing::drawn_batch(&words, &self.bounds(client as usize), &self.memory);
-        self.memory = after;
+        let reading = batch::read(&words, &self.bounds(client as usize), &Bank::reset());
+        let [status, fault, place] = reading.answer();
+        self.memory = drawing::drawn_reading(&reading, &self.memory);
+        self.asked.extend(reading.asked());
         Ok(Completion { client, ticket, status, fault, place })
     }
 

@@ -1,7 +1,7 @@
 //! Random tasks for a client: such as pass all rules, and such as are meant to break one of 25 to 28. Fields are numbered as
 //! in the writer's list.
 use crate::batch::{judge, Bounds};
-use crate::pixel::{FORMATS, RULES};
+use crate::pixel::{format, FORMATS, RULES};
 use crate::random::Random;
 use crate::surface::Run;
 use crate::writer::{registers, reset_with};
@@ -59,6 +59,32 @@ fn set(fields: &mut Fields, base: usize, surface: [u32; 5]) {
     fields[base..base + 5].copy_from_slice(&surface);
 }
 
+/// Bytes of a row of the surface whose fields begin at `base`.
+fn row_length(fields: &Fields, base: usize) -> u32 {
+    fields[base + WIDTH] * format(fields[base + FORMAT]).map_or(4, |format| format.bytes as u32)
+}
+
+/// Puts what is read at `base` and the output on one page (02, request 7): with one stride, so that they lie in two columns, one
+/// below the other, across the end of a line, or on one another. Now and then their strides differ after all.
+fn on_one_page(random: &mut Random, window: &Run, fields: &mut Fields, base: usize) {
+    let (first, second) = if random.one_in(2) { (base, OUTPUT) } else { (OUTPUT, base) };
+    let (a, b) = (row_length(fields, first), row_length(fields, second));
+    let stride = random.pick(&[a.max(b), a + b, a + b, a + b + 8, 2 * (a + b)]).next_multiple_of(8).max(8);
+    (fields[first + STRIDE], fields[second + STRIDE]) = (stride, stride);
+    let any = (random.below(fields[first + HEIGHT] + 1), random.below(stride));
+    let down = random.pick(&[0, 0, 1, any.0]);
+    let across = random.pick(&[a, a.saturating_sub(1), stride.saturating_sub(b), stride.saturating_sub(b) + 1, any.1]);
+    let offset = stride * down + across;
+    let bytes = |at: usize| stride * fields[at + HEIGHT].saturating_sub(1) + row_length(fields, at);
+    let taken = bytes(first).max(offset + bytes(second));
+    let slack = ((window.end - window.start) as u32).saturating_sub(taken);
+    fields[first + ADDRESS] = window.start as u32 + random.below(slack + 1);
+    fields[second + ADDRESS] = fields[first + ADDRESS] + offset;
+    if random.one_in(5) {
+        fields[base + STRIDE] += 8;
+    }
+}
+
 /// A task that passes more often than not.
 fn attempt(random: &mut Random, bounds: &Bounds, longest: Sides) -> Fields {
     let (w, h) = (1 + random.below(longest.0), 1 + random.below(longest.1));
@@ -73,14 +99,29 @@ fn attempt(random: &mut Random, bounds: &Bounds, longest: Sides) -> Fields {
     set(&mut fields, SOURCE, source);
     set(&mut fields, OUTPUT, output);
     (fields[10], fields[11]) = (random.below(2), random.below(2));
+    if !is_colour && random.one_in(3) {
+        on_one_page(random, &bounds.window, &mut fields, SOURCE);
+    }
     if blends || random.one_in(6) {
-        let own = random.one_in(2);
-        let destination = if own { output } else { placed_readable(random, bounds, turned) };
-        set(&mut fields, DESTINATION, destination);
+        set_destination(random, bounds, &mut fields, turned);
         (fields[DESTINATION_ENABLE], fields[BLEND]) = (1, blends.into());
         blending(random, &mut fields);
     }
     fields
+}
+
+/// A destination: the output itself, on one page with it, or anywhere.
+fn set_destination(random: &mut Random, bounds: &Bounds, fields: &mut Fields, sides: Sides) {
+    let place = random.below(4);
+    if place < 2 {
+        fields.copy_within(OUTPUT..OUTPUT + 5, DESTINATION);
+        return;
+    }
+    let destination = placed_readable(random, bounds, sides);
+    set(fields, DESTINATION, destination);
+    if place == 2 {
+        on_one_page(random, &bounds.window, fields, DESTINATION);
+    }
 }
 
 fn placed_readable(random: &mut Random, bounds: &Bounds, sides: Sides) -> [u32; 5] {
@@ -123,7 +164,7 @@ pub fn broken(random: &mut Random, bounds: &Bounds, fault: u32) -> Fields {
         25 => break_surface(random, &mut fields),
         26 => break_sizes(random, &mut fields),
         27 => break_place(random, bounds, &mut fields),
-        _ => break_apart(random, &mut fields),
+        _ => break_apart(random, bounds, &mut fields),
     }
     fields
 }
@@ -163,8 +204,8 @@ fn break_place(random: &mut Random, bounds: &Bounds, fields: &mut Fields) {
     fields[base + ADDRESS] = if random.one_in(2) { edge.wrapping_sub(step) } else { edge.wrapping_add(step) };
 }
 
-/// The source, or the destination, on a part of the output.
-fn break_apart(random: &mut Random, fields: &mut Fields) {
+/// The source, or the destination, on a part of the output, or on one page with it.
+fn break_apart(random: &mut Random, bounds: &Bounds, fields: &mut Fields) {
     let base = random.pick(&[SOURCE, DESTINATION]);
     let format = fields[base + FORMAT];
     fields.copy_within(OUTPUT..OUTPUT + 5, base);
@@ -175,10 +216,13 @@ fn break_apart(random: &mut Random, fields: &mut Fields) {
     fields[base + ADDRESS] =
         if random.one_in(2) { fields[base + ADDRESS].wrapping_sub(step) } else { fields[base + ADDRESS] + step };
     if random.one_in(4) {
-        fields[base + STRIDE] += 8;
+        fields[base + FORMAT] = format;
+    }
+    if random.one_in(2) {
+        on_one_page(random, &bounds.window, fields, base);
     }
     if random.one_in(4) {
-        fields[base + FORMAT] = format;
+        fields[base + STRIDE] += 8;
     }
     fields[BLEND] = u32::from(base == DESTINATION);
     fields[DESTINATION_ENABLE] = fields[BLEND];

@@ -3,6 +3,7 @@
 //! call, or one cut short, ends the list. Every answer is six words: the refusal's number or 0, then what the call
 //! answers, then zeros; the first is set up's own. A call whose answer has no room is not played.
 use crate::engine::{Book, Numbers, Refusal, RingBytes};
+use crate::registers::Task;
 use crate::words::read_le32;
 
 /// Bytes of an answer.
@@ -57,6 +58,7 @@ pub struct List {
 }
 
 /// What a list leaves.
+#[derive(Default)]
 pub struct Played {
     /// Bytes of answers written.
     pub written: usize,
@@ -65,6 +67,8 @@ pub struct Played {
     pub memory: Vec<u8>,
     /// How many accepted batches went on at the ring's byte 0.
     pub wraps: usize,
+    /// The tasks that rule 28 was asked about.
+    pub asked: Vec<Task>,
 }
 
 impl Played {
@@ -104,7 +108,7 @@ fn called(call: Call, book: &mut Book, ring: &mut RingBytes, wraps: &mut usize) 
 
 pub fn play(list: &List) -> Played {
     let (answers, memory) = (list.answers.clone(), list.memory.clone());
-    let mut played = Played { written: 0, answers, ring: list.ring.clone(), memory, wraps: 0 };
+    let mut played = Played { written: 0, answers, ring: list.ring.clone(), memory, wraps: 0, asked: Vec::new() };
     if !played.has_room() {
         return played;
     }
@@ -120,6 +124,7 @@ pub fn play(list: &List) -> Played {
     }
     played.ring = ring.bytes;
     played.memory = book.memory;
+    played.asked = book.asked;
     played
 }
 

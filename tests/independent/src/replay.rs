@@ -53,8 +53,8 @@ fn line(book: &mut Book, record: &Record) -> String {
     format!("{} {} {:08X} {} {}\n", done.client, done.ticket, done.status, done.fault, done.place)
 }
 
-/// The lines of a file, and memory after it.
-pub fn replayed(file: &[u8]) -> (String, Vec<u8>) {
+/// The lines of a file, and the book after it.
+pub fn played(file: &[u8]) -> (String, Book) {
     let mut book = opened();
     let (records, ending) = records(file);
     let mut lines: String = records.iter().map(|record| line(&mut book, record)).collect();
@@ -62,6 +62,12 @@ pub fn replayed(file: &[u8]) -> (String, Vec<u8>) {
         lines.push_str(ending);
         lines.push('\n');
     }
+    (lines, book)
+}
+
+/// The lines of a file, and memory after it.
+pub fn replayed(file: &[u8]) -> (String, Vec<u8>) {
+    let (lines, book) = played(file);
     (lines, book.memory)
 }
 

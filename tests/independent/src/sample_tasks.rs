@@ -30,7 +30,8 @@ impl Place {
     }
 }
 
-fn set(fields: &mut Fields, base: usize, place: Place) {
+/// Sets the surface whose fields begin at `base`.
+pub fn set(fields: &mut Fields, base: usize, place: Place) {
     fields[base..base + 5].copy_from_slice(&place.fields());
 }
 

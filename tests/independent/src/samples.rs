@@ -1,6 +1,6 @@
 //! Small replay files, each of which shows one thing, with the lines that they print and a list of what they show.
 use crate::replay::replayed;
-use crate::{sample_files as files, sample_page};
+use crate::{sample_columns, sample_files as files, sample_page};
 use std::path::Path;
 
 pub struct Sample {
@@ -21,7 +21,7 @@ const fn sample(
 }
 
 /// The samples in the order in which to look at them.
-pub const SAMPLES: [Sample; 16] = [
+pub const SAMPLES: [Sample; 17] = [
     sample("hello", &["16384 8 2 1 ARGB8888"], files::hello, "01's worked words: two pixels of one colour by client 0"),
     sample("outside", &[], files::outside, "the same with address 64: fault 27 at byte 72, and nothing is drawn"),
     sample("blend", &["16384 64 16 8 ARGB8888"], files::blend, "a half-clear colour by SRC_OVER over a fill"),
@@ -72,6 +72,12 @@ pub const SAMPLES: [Sample; 16] = [
         &["16384 256 64 48 ARGB8888"],
         sample_page::replay,
         "a page in four batches: strips, text, a picture, tints",
+    ),
+    sample(
+        "columns",
+        &["16384 256 64 48 ARGB8888"],
+        sample_columns::replay,
+        "strips copied from the left column of a page to the right; one that runs over the edge onto its source: 28",
     ),
 ];
 
@@ -132,6 +138,7 @@ mod tests {
         }
         assert_eq!(lines("left_over_registers"), "0 0 00010001 0 0\n0 1 00020001 0 0\n0 2 00000002 25 0\n");
         assert_eq!(lines("refused"), "0 - - 6 0\n1 - - 6 0\n7 - - 5 0\n7 - - 5 0\n0 0 00010001 0 0\n");
+        assert_eq!(lines("columns"), "0 0 00070001 0 0\n0 1 00030001 0 0\n0 2 00000002 28 72\n");
         assert_eq!(lines("cut_record"), "0 0 00010001 0 0\ncut record\n");
     }
 }

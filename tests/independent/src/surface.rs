@@ -1,4 +1,4 @@
-//! Runs of bytes, and rectangles of pixels in memory (01, "Faults of a taken batch" and "Pixels").
+//! Runs of bytes, and rectangles of pixels in memory (01, "Faults of a taken batch" and "Pixels"; 02, request 7).
 use crate::pixel::{Colour, Format};
 use crate::words;
 use std::ops::Range;
@@ -69,6 +69,19 @@ impl Surface {
         let start = u64::from(self.address);
         start..self.rows().last().map_or(start + self.row_length(), |row| row.end)
     }
+
+    /// Whether some row of one and some row of the other share a byte: each row is held against each.
+    pub fn rows_meet(&self, other: &Surface) -> bool {
+        self.rows().any(|row| other.rows().any(|another| shares(&row, &another)))
+    }
+
+    /// Whether two surfaces meet (02, request 7): by rows where the strides are equal, else by spans.
+    pub fn meets(&self, other: &Surface) -> bool {
+        if self.stride == other.stride {
+            return self.rows_meet(other);
+        }
+        shares(&self.span(), &other.span())
+    }
 }
 
 /// The stored pixel at an address, if it lies in memory.
@@ -95,6 +108,7 @@ pub fn stored(memory: &[u8], at: u64, format: &Format, colour: Colour) -> Option
 mod tests {
     use super::*;
     use crate::pixel::{format, FORMATS};
+    use std::collections::BTreeSet;
 
     /// S1 of 01: the span of 4 by 3 ARGB8888 at 16, stride 24, is 16 to 79.
     #[test]
@@ -102,6 +116,44 @@ mod tests {
         let surface = Surface { address: 16, stride: 24, width: 4, height: 3, format: &FORMATS[0] };
         assert_eq!(surface.span(), 16..80);
         assert_eq!(surface.pixel_start(3, 2), 76);
+    }
+
+    /// All bytes of all rows.
+    fn bytes(surface: &Surface) -> BTreeSet<u64> {
+        surface.rows().flatten().collect()
+    }
+
+    /// A byte lies in rows of both: of every two small surfaces of one stride, in either order.
+    #[test]
+    fn rows() {
+        let shapes = (0..5u16).flat_map(|width| (0..4u16).map(move |height| (width, height)));
+        let shapes: Vec<(u16, u16, usize)> = shapes.flat_map(|(w, h)| [(w, h, 2), (w, h, 1)]).collect();
+        for stride in [0, 8, 16] {
+            let at = |address, (width, height, format): (u16, u16, usize)| Surface {
+                address,
+                stride,
+                width,
+                height,
+                format: &FORMATS[format],
+            };
+            for (address, shape) in (0..40).flat_map(|address| shapes.iter().map(move |shape| (address, *shape))) {
+                for first in shapes.iter().step_by(3).map(|shape| at(8, *shape)) {
+                    let second = at(address, shape);
+                    let common = !bytes(&first).is_disjoint(&bytes(&second));
+                    assert_eq!((first.meets(&second), second.meets(&first)), (common, common));
+                }
+            }
+        }
+    }
+
+    /// Two columns of a page; a row across the line's end; one below the other; in lines of its own.
+    #[test]
+    fn columns() {
+        let column = |address, stride| Surface { address, stride, width: 4, height: 3, format: &FORMATS[0] };
+        let others = [(16, 64), (15, 64), (48, 64), (49, 64), (192, 64), (16, 72)];
+        let met: Vec<bool> = others.iter().map(|(at, stride)| column(0, 64).meets(&column(*at, *stride))).collect();
+        assert_eq!(met, [false, true, false, true, false, true]);
+        assert!(shares(&column(0, 64).span(), &column(16, 64).span()));
     }
 
     #[test]

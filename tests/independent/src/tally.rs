@@ -1,5 +1,7 @@
-//! What came in many lists: which refusals, faults and answers, and how often.
+//! What came in many lists: which refusals, faults, answers and pairs of surfaces, and how often.
+use crate::pairs;
 use crate::play::{Call, Calls, List, Played, ANSWER};
+use crate::registers::Task;
 use crate::words::read_le32;
 use std::collections::BTreeMap;
 
@@ -28,6 +30,12 @@ impl Tally {
         }
         let unplayed = calls.count() as u64;
         self.add("calls not played".into(), unplayed);
+        self.add_pairs(&played.asked);
+    }
+
+    /// Counts the pairs of surfaces that rule 28 was asked about.
+    pub fn add_pairs(&mut self, tasks: &[Task]) {
+        tasks.iter().flat_map(pairs::of_task).for_each(|kind| self.add(kind, 1));
     }
 
     fn add_answer(&mut self, call: &str, answer: &[u8]) {

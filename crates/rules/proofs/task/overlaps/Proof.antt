@@ -6,11 +6,11 @@ use Rattle.rules.proofs.task.overlaps.Tie as tie
 is-buffer-requires : tie.Need-is-buffer-requires
 is-buffer-requires c κs = search needs
 
-shares-requires : tie.Need-shares-requires
-shares-requires c κs = search needs
+meets-requires : tie.Need-meets-requires
+meets-requires c κs = search needs
 
-shares-requires-2 : tie.Need-shares-requires-2
-shares-requires-2 c κs = search needs
+meets-requires-2 : tie.Need-meets-requires-2
+meets-requires-2 c κs = search needs
 
 same-place-requires : tie.Need-same-place-requires
 same-place-requires c κs = search needs
@@ -20,12 +20,12 @@ unfolding overlap
 returns c =
     simp (
       c .before .before .before .before .is-buffer .ensures,
-      c .before .before .before .shares .ensures,
-      c .before .before .shares2 .ensures,
+      c .before .before .before .meets .ensures,
+      c .before .before .meets2 .ensures,
       c .same-place .ensures,
     )
 
 pub overlaps-spec : {M : Type 1} → statement M
 overlaps-spec =
     tie.close
-    (tie.spec is-buffer-requires shares-requires shares-requires-2 same-place-requires returns)
+    (tie.spec is-buffer-requires meets-requires meets-requires-2 same-place-requires returns)

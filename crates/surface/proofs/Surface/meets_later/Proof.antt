@@ -1,0 +1,102 @@
+use mathlib.Core.Path.{refl, ap}
+use mathlib.Core.Logic.{⊎-elim}
+use Prim.Native.Nat.{ℕ, _+_, _-_}
+use native.Mathlib.Nat.{div-le-self}
+use native.Mathlib.Omega.{arith}
+use borrow.Author.Needs.{needs}
+use Rattle.surface.proofs.Sizes.{pixels-most}
+use Rattle.surface.proofs.Meet.{First, near, flat, far-off, first-down, row-tells}
+use Rattle.surface.proofs.Surface.meets_later.Statement.{statement}
+use Rattle.surface.proofs.Surface.meets_later.Tie as tie
+
+-- y is the row that tells
+first : (c : tie.After-row-known) → First (c .before .before .before .before .before .before .before .args .self) (c .before .before .before .before .before .before .before .args .later) (c .before .before .before .before .before .before .before .pre) (c .before .if1 .y)
+first c =
+    let s = c .before .before .before .before .before .before .before in
+    let e = c .before .before .before .before .before .row-length .ensures in
+    ⊎-elim
+    (λ k. near (k .1) (omega (arith, e, k .0 .taken)))
+    (λ k. ⊎-elim
+    (λ k. flat (k .2) (k .1 .taken))
+    (λ k. far-off (s .args .self) (s .args .later) (s .pre) _ (omega (arith, e, k .0 .left)) (k .1 .left) (rw e at (k .2)))
+    k)
+    (c .before .if1 .came)
+
+cast-start : tie.Need-cast-start
+cast-start c = search needs
+
+row-length-requires : tie.Need-row-length-requires
+row-length-requires c κs = search needs
+
+add-end : tie.Need-add-end
+add-end c =
+    let a = c .before .before .args in
+    omega (arith, c .row-length .ensures, pixels-most (a .self .width) (a .self .format) (omega arith))
+
+cast-from : tie.Need-cast-from
+cast-from c = search needs
+
+row-length-requires-2 : tie.Need-row-length-requires-2
+row-length-requires-2 c κs = search needs
+
+add-to : tie.Need-add-to
+add-to c =
+    let a = c .before .before .before .before .args in
+    omega (arith, c .row-length2 .ensures, pixels-most (a .later .width) (a .later .format) (omega arith))
+
+cast-stride : tie.Need-cast-stride
+cast-stride c = search needs
+
+div-y : tie.Need-div-y
+div-y c = search needs
+
+add-y : tie.Need-add-y
+add-y c =
+    let a = c .before .before .before .before .before .before .before .args in
+    omega (arith, div-le-self (a .later .address - (a .self .address + c .before .before .before .before .before .row-length .result)) (a .self .stride))
+
+mul-down : tie.Need-mul-down
+mul-down c = let s = c .before .before .before .before .before .before .before in omega (arith, first-down (s .args .self) (s .args .later) (s .pre) _ (first c))
+
+add-result : tie.Need-add-result
+add-result c = let s = c .before .before .before .before .before .before .before in omega (arith, first-down (s .args .self) (s .args .later) (s .pre) _ (first c))
+
+add-t18 : tie.Need-add-t18
+add-t18 c =
+    let s = c .before .before .before .before .before .before .before in
+    let a = s .args in
+    omega (arith, first-down (a .self) (a .later) (s .pre) _ (first c), c .before .before .before .before .before .row-length .ensures, pixels-most (a .self .width) (a .self .format) (omega arith))
+
+cast-result : tie.Need-cast-result
+cast-result c = search needs
+
+shares-requires : tie.Need-shares-requires
+shares-requires c κs = search needs
+
+returns : tie.Need-returns
+returns c =
+    let k = c .before .before .before in
+    let s = k .before .before .before .before .before .before .before in
+    let a = s .args in
+    rw (c .shares .ensures)
+    (row-tells (a .self) (a .later) (s .pre) (k .before .if1 .y) _ _ _ (first k) (omega (arith, k .before .before .before .before .before .row-length .ensures)) refl (ap (λ (n : ℕ). a .later .address + n) (k .before .before .before .row-length2 .ensures)))
+
+pub meets-later-spec : {M : Type 1} → statement M
+meets-later-spec =
+    tie.close
+    (tie.spec
+    cast-start
+    row-length-requires
+    add-end
+    cast-from
+    row-length-requires-2
+    add-to
+    cast-stride
+    div-y
+    add-y
+    mul-down
+    add-result
+    add-t18
+    cast-result
+    shares-requires
+    returns)
