@@ -2,6 +2,7 @@
 ghost use mathlib.Core.Path.{_≡_};
 ghost use Prim.Native.Nat.{_<_};
 ghost use Rattle.transform.specs.Transform.{Within, rotatedSize, unrotated, mirrored, unflipped, sourceOf};
+ghost use Rattle.transform.specs.Compose.{quarter, added, turnedBack, isOdd, either, flippedTwice, exchanged, compose, neutral, inverse, opposite, orientation};
 
 // A rotation clockwise by 0 to 3 quarter turns.
 pub enum Rotation {
@@ -104,5 +105,143 @@ impl Transform {
         let flip = self.flip;
         let rotation = self.rotation;
         flip.origin(size, rotation.origin(size, at))
+    }
+}
+
+// ---- two settings as one
+
+impl Rotation {
+    // One quarter turn more.
+    fn quarter(self) -> Rotation
+        ensures { λ r. ⌜ r ≡ quarter self ⌝ }
+    {
+        match self {
+            Rotation::Upright => Rotation::Clockwise,
+            Rotation::Clockwise => Rotation::Half,
+            Rotation::Half => Rotation::CounterClockwise,
+            Rotation::CounterClockwise => Rotation::Upright,
+        }
+    }
+
+    // This turn and then another.
+    fn then(self, other: Rotation) -> Rotation
+        ensures { λ r. ⌜ r ≡ added self other ⌝ }
+    {
+        match self {
+            Rotation::Upright => other,
+            Rotation::Clockwise => other.quarter(),
+            Rotation::Half => other.quarter().quarter(),
+            Rotation::CounterClockwise => other.quarter().quarter().quarter(),
+        }
+    }
+
+    // As many quarter turns the other way.
+    fn back(self) -> Rotation
+        ensures { λ r. ⌜ r ≡ turnedBack self ⌝ }
+    {
+        match self {
+            Rotation::Upright => Rotation::Upright,
+            Rotation::Clockwise => Rotation::CounterClockwise,
+            Rotation::Half => Rotation::Half,
+            Rotation::CounterClockwise => Rotation::Clockwise,
+        }
+    }
+
+    // Whether width and height change places.
+    fn is_odd(self) -> bool
+        ensures { λ r. ⌜ r ≡ isOdd self ⌝ }
+    {
+        match self {
+            Rotation::Upright => false,
+            Rotation::Clockwise => true,
+            Rotation::Half => false,
+            Rotation::CounterClockwise => true,
+        }
+    }
+}
+
+impl Flip {
+    // This flip and then another.
+    fn then(self, other: Flip) -> Flip
+        ensures { λ r. ⌜ r ≡ flippedTwice self other ⌝ }
+    {
+        Flip {
+            horizontal: self.horizontal ^ other.horizontal,
+            vertical: self.vertical ^ other.vertical,
+        }
+    }
+
+    // The flip before a turn that is as good as this one after it.
+    fn exchanged(self, odd: bool) -> Flip
+        ensures { λ r. ⌜ r ≡ exchanged odd self ⌝ }
+    {
+        if odd {
+            Flip {
+                horizontal: self.vertical,
+                vertical: self.horizontal,
+            }
+        } else {
+            self
+        }
+    }
+}
+
+impl Transform {
+    // The one setting that draws what this one and then the second draw.
+    pub fn compose(self, second: Transform) -> Transform
+        ensures { λ r. ⌜ r ≡ compose self second ⌝ }
+    {
+        let flip = self.flip;
+        let rotation = self.rotation;
+        let after = second.flip;
+        let turn = second.rotation;
+        Transform {
+            flip: flip.then(after.exchanged(rotation.is_odd())),
+            rotation: rotation.then(turn),
+        }
+    }
+
+    // The setting that draws every picture as it is.
+    pub fn neutral() -> Transform
+        ensures { λ r. ⌜ r ≡ neutral ⌝ }
+    {
+        Transform {
+            flip: Flip {
+                horizontal: false,
+                vertical: false,
+            },
+            rotation: Rotation::Upright,
+        }
+    }
+
+    // The setting that undoes this one.
+    pub fn inverse(self) -> Transform
+        ensures { λ r. ⌜ r ≡ inverse self ⌝ }
+    {
+        let flip = self.flip;
+        let rotation = self.rotation;
+        Transform {
+            flip: flip.exchanged(rotation.is_odd()),
+            rotation: rotation.back(),
+        }
+    }
+
+    // The setting without a V flip that draws the same: one of eight.
+    pub fn orientation(self) -> Transform
+        ensures { λ r. ⌜ r ≡ orientation self ⌝ }
+    {
+        let flip = self.flip;
+        let rotation = self.rotation;
+        if flip.vertical {
+            Transform {
+                flip: Flip {
+                    horizontal: !flip.horizontal,
+                    vertical: !flip.vertical,
+                },
+                rotation: Rotation::Half.then(rotation),
+            }
+        } else {
+            self
+        }
     }
 }
