@@ -42,11 +42,16 @@ colourBy-buffer Colour s memory p e = let z : false ≡ true = e in cc
 
 pub tasks : Tasks
 unfolding drawTask turned sourceColour
-tasks window n t reads plain format d = record {
-  fits = record { size = d .clear .size; format = format; rows = d .clear .output; inside = omega (arith, d .clear .ends, d .room) };
+tasks window n t p = record {
+  fits = record {
+    size = p .drawable .clear .size;
+    format = p .format;
+    rows = p .drawable .clear .output;
+    inside = omega (arith, p .drawable .clear .ends, p .drawable .room);
+  };
   draws = λ memory.
-      drawnOn-ext (t .output) _ _ memory (stride-some (t .output) (d .clear .output))
-      (λ x y u v. pixel-plain t memory x y plain ∙ colourBy-buffer (t .source .mode) (t .source) memory _ reads);
+      drawnOn-ext (t .output) _ _ memory (stride-some (t .output) (p .drawable .clear .output))
+      (λ x y u v. pixel-plain t memory x y (p .unblended) ∙ colourBy-buffer (t .source .mode) (t .source) memory _ (p .reads));
 }
 
 -- ---- a picture drawn, and a pixel of it loaded
@@ -109,7 +114,10 @@ two-turns s m o a b memory f g = record {
 }
 
 pub two-tasks : TwoTasks
-two-tasks memory first second one c d e h i y j r =
+two-tasks window memory first second one p q k h i y j r =
+    let c = tasks window (length memory) first p in
+    let d = tasks window (length memory) second q in
+    let e = tasks window (length memory) one k in
     let s = first .source .surface in
     let m = first .output in
     let o = second .output in

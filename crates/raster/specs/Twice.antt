@@ -1,5 +1,8 @@
--- Two turns make one (02, request 8). proofs/Twice.antt proves `Tasks`, `TwoTurns` and `TwoTasks`, proofs/Orientation.antt `Orientations`. That composition is
--- associative and has a neutral setting and inverses is said of the settings themselves, in crate transform, specs/Laws.antt.
+-- Two turns make one (02, request 8: "for any picture, drawing with the first and then with the second, each into separate rows, same format, blending
+-- off, gives the bytes of one drawing with the composed setting"; "equal drawing for all pictures holds exactly for the same orientation"). What to read
+-- is `TwoTasks` and `Orientations`; `TwoTurns` says the same of pictures, with less asked. proofs/Twice.antt proves `Tasks`, `TwoTurns` and `TwoTasks`,
+-- proofs/Orientation.antt `Orientations`. That composition is associative and has a neutral setting and inverses is said of the settings themselves, in
+-- crate transform, specs/Laws.antt.
 use mathlib.Core.Path.{_≡_}
 use mathlib.Core.Bool.{true, false}
 use mathlib.Core.List.{List}
@@ -33,14 +36,21 @@ pub record Fits (n : ℕ) (s : Surface) (setting : Transform) (o : Surface) : Ty
   pub rows : Rectangle o
   pub inside : Below n o
 
--- such a drawing is what a task does that reads its source from memory, in the output's format, and does not blend
+-- a task of which the request speaks: it may be drawn (so no byte lies in rows of its source and its output), reads its source from memory, in the
+-- output's format, and does not blend
+pub record Plain (window : Range) (n : ℕ) (t : Task) : Type 0 where
+  pub drawable : Drawable window n t
+  pub reads : isBuffer (t .source .mode) ≡ true
+  pub unblended : t .blending .on ≡ false
+  pub format : t .source .surface .format ≡ t .output .format
+
+-- what such a task draws is the picture, turned
 pub record Copies (n : ℕ) (t : Task) : Type 0 where
   pub fits : Fits n (t .source .surface) (t .source .transform) (t .output)
   pub draws : (memory : List ℕ) → drawTask t memory ≡ turned (t .source .surface) (t .source .transform) (t .output) memory
 
 abbrev pub Tasks : Type 0
-Tasks = (window : Range) (n : ℕ) (t : Task) → isBuffer (t .source .mode) ≡ true → t .blending .on ≡ false → t .source .surface .format ≡ t .output .format →
-    Drawable window n t → Copies n t
+Tasks = (window : Range) (n : ℕ) (t : Task) → Plain window n t → Copies n t
 
 -- s drawn with a setting into m, and m with another into o; and s drawn with the composed setting into o
 module _ (s m o : Surface) (a b : Transform) (memory : List ℕ) where
@@ -61,7 +71,7 @@ module _ (s m o : Surface) (a b : Transform) (memory : List ℕ) where
 abbrev pub TwoTurns : Type 0
 TwoTurns = (s m o : Surface) (a b : Transform) (memory : List ℕ) → Fits (length memory) s a m → Fits (length memory) m b o → Same s m o a b memory
 
--- the same of tasks: one in the place of two
+-- the request's own sentence, of tasks and what drawing them leaves (`drawTask`): one in the place of two
 pub record InPlace (first second one : Task) : Type 0 where
   pub between : second .source .surface ≡ first .output
   pub source : one .source .surface ≡ first .source .surface
@@ -69,8 +79,9 @@ pub record InPlace (first second one : Task) : Type 0 where
   pub setting : one .source .transform ≡ compose (first .source .transform) (second .source .transform)
 
 abbrev pub TwoTasks : Type 0
-TwoTasks = (memory : List ℕ) (first second one : Task) → Copies (length memory) first → Copies (length memory) second → Copies (length memory) one →
-    InPlace first second one → (i y j : ℕ) → InRow (one .output) i y j → getD (drawTask second (drawTask first memory)) i 0 ≡ getD (drawTask one memory) i 0
+TwoTasks = (window : Range) (memory : List ℕ) (first second one : Task) →
+    Plain window (length memory) first → Plain window (length memory) second → Plain window (length memory) one → InPlace first second one →
+    (i y j : ℕ) → InRow (one .output) i y j → getD (drawTask second (drawTask first memory)) i 0 ≡ getD (drawTask one memory) i 0
 
 -- two settings draw every picture alike
 pub record EqualDrawing (a b : Transform) : Type 0 where

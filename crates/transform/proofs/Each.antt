@@ -6,6 +6,7 @@ use lib.Dec.{T, eqb, eqb→eq}
 use Rattle.transform.specs.declared.Rotation.{Rotation}
 use Rattle.transform.specs.declared.Rotation.the-variants.{Upright, Clockwise, Half, CounterClockwise}
 use Rattle.transform.specs.declared.Transform.{Transform}
+use Rattle.transform.specs.Bits.{turns, rotationOf}
 
 -- ---- all settings
 
@@ -50,16 +51,7 @@ each f all t =
 
 -- ---- when two are alike
 
-abbrev turns : Rotation → ℕ
-turns Upright = 0
-turns Clockwise = 1
-turns Half = 2
-turns CounterClockwise = 3
-
-abbrev turn : ℕ → Rotation
-turn n = cond (eqb n 0) Upright (cond (eqb n 1) Clockwise (cond (eqb n 2) Half CounterClockwise))
-
-turn-turns : (r : Rotation) → turn (turns r) ≡ r
+turn-turns : (r : Rotation) → rotationOf (turns r) ≡ r
 turn-turns Upright = refl
 turn-turns Clockwise = refl
 turn-turns Half = refl
@@ -93,7 +85,7 @@ same-alike a b t =
     let h = beq-same (a .flip .horizontal) (b .flip .horizontal) (left (sameH a b) (sameV a b && sameR a b) t) in
     let v = beq-same (a .flip .vertical) (b .flip .vertical) (left (sameV a b) (sameR a b) rest) in
     let n = eqb→eq (turns (a .rotation)) (turns (b .rotation)) (right (sameV a b) (sameR a b) rest) in
-    let r : a .rotation ≡ b .rotation = sym (turn-turns (a .rotation)) ∙ ap turn n ∙ turn-turns (b .rotation) in
+    let r : a .rotation ≡ b .rotation = sym (turn-turns (a .rotation)) ∙ ap rotationOf n ∙ turn-turns (b .rotation) in
     λ i. record { flip = record { horizontal = h i; vertical = v i }; rotation = r i }
 
 -- ---- an equation over all settings, computed once

@@ -4,6 +4,8 @@ pub mod Inside
 pub mod Each
 -- the laws of the settings, computed
 pub mod Settings
+-- how much the bits of a setting come to
+pub mod Bits
 -- the source pixel of a composed setting
 pub mod Composed
 -- the same source pixels exactly for the same orientation

@@ -6,7 +6,8 @@ use Prim.Native.Nat.{ℕ}
 use lib.Dec.{T, T-not, eqb, eqb-refl}
 use Rattle.transform.specs.declared.Transform.{Transform}
 use Rattle.transform.specs.Compose.{compose, neutral, inverse, opposite, SameOrientation, orientation}
-use Rattle.transform.specs.Laws.{Settings}
+use Rattle.transform.specs.Bits.{settingOf, bitsOf}
+use Rattle.transform.specs.Laws.{Settings, ReadBack}
 use Rattle.transform.proofs.Each.{every, each, numberOf, same, same-alike, one, two, three}
 
 associative : (a b c : Transform) → compose (compose a b) c ≡ compose a (compose b c)
@@ -82,6 +83,12 @@ oriented a b =
 composed : (a b : Transform) → orientation (compose (orientation a) (orientation b)) ≡ orientation (compose a b)
 unfolding compose orientation opposite
 composed = two (λ a b. orientation (compose (orientation a) (orientation b))) (λ a b. orientation (compose a b)) tt
+
+-- ---- as bits
+
+pub read-back : ReadBack
+unfolding settingOf bitsOf
+read-back = one (λ t. settingOf (bitsOf t)) (λ t. t) tt
 
 pub settings : Settings
 settings = record {

@@ -1,4 +1,4 @@
--- The laws of composed settings (02, request 8). proofs/Composed.antt proves `Composes`, proofs/Settings.antt `Settings` and proofs/Same.antt `Exactly`.
+-- The laws of composed settings (02, request 8). proofs/Composed.antt proves `Composes`, proofs/Settings.antt `Settings` and `ReadBack`, proofs/Same.antt `Exactly`.
 -- What they say of memory is in crate raster, specs/Twice.antt.
 use mathlib.Core.Path.{_≡_}
 use mathlib.Core.Logic.{_↔_}
@@ -9,6 +9,7 @@ use Rattle.transform.specs.declared.Size.{Size}
 use Rattle.transform.specs.declared.Point.{Point}
 use Rattle.transform.specs.Transform.{Within, rotatedSize, sourceOf}
 use Rattle.transform.specs.Compose.{compose, neutral, inverse, SameOrientation, orientation}
+use Rattle.transform.specs.Bits.{settingOf, bitsOf}
 
 -- the composed setting gives the size, and brings to each place the source pixel, that the two give and bring one after the other
 pub record Composes : Type 0 where
@@ -29,6 +30,10 @@ pub record Settings : Type 0 where
   -- an orientation is that of its own setting, and composing goes by orientations
   pub itself : (t : Transform) → SameOrientation (orientation t) t
   pub composed : (a b : Transform) → orientation (compose (orientation a) (orientation b)) ≡ orientation (compose a b)
+
+-- a setting is read back from its bits
+abbrev pub ReadBack : Type 0
+ReadBack = (t : Transform) → settingOf (bitsOf t) ≡ t
 
 -- two settings give the same size and bring the same source pixel to each place, of every picture
 pub record Alike (a b : Transform) : Type 0 where

@@ -2,4 +2,6 @@
 pub mod Transform
 -- two settings as one
 pub mod Compose
+-- a setting as bits of a control word
+pub mod Bits
 pub mod Laws

@@ -2,6 +2,7 @@
 ghost use mathlib.Core.Path.{_≡_};
 ghost use Prim.Native.Nat.{_<_};
 ghost use Rattle.transform.specs.Transform.{Within, rotatedSize, unrotated, mirrored, unflipped, sourceOf};
+ghost use Rattle.transform.specs.Bits.{turns, rotationOf, weight, settingOf, bitsOf};
 ghost use Rattle.transform.specs.Compose.{quarter, added, turnedBack, isOdd, either, flippedTwice, exchanged, compose, neutral, inverse, opposite, orientation};
 
 // A rotation clockwise by 0 to 3 quarter turns.
@@ -244,4 +245,77 @@ impl Transform {
             self
         }
     }
+}
+
+// ---- settings as bits of a source control word: 7 V flip, 6 H flip, 5:4 quarter turns
+
+impl Rotation {
+    fn from_turns(n: u32) -> Rotation
+        ensures { λ r. ⌜ r ≡ rotationOf n ⌝ }
+    {
+        match n {
+            0 => Rotation::Upright,
+            1 => Rotation::Clockwise,
+            2 => Rotation::Half,
+            _ => Rotation::CounterClockwise,
+        }
+    }
+
+    fn turns(self) -> u32
+        ensures { λ r. ⌜ r ≡ turns self ⌝ }
+    {
+        match self {
+            Rotation::Upright => 0,
+            Rotation::Clockwise => 1,
+            Rotation::Half => 2,
+            Rotation::CounterClockwise => 3,
+        }
+    }
+}
+
+// What a bit counts for.
+fn weight(on: bool, n: u32) -> u32
+    ensures { λ r. ⌜ r ≡ weight on n ⌝ }
+{
+    if on { n } else { 0 }
+}
+
+impl Transform {
+    // The setting in any word. Its other bits are not looked at.
+    pub fn from_bits(word: u32) -> Transform
+        ensures { λ r. ⌜ r ≡ settingOf word ⌝ }
+    {
+        Transform {
+            flip: Flip {
+                horizontal: word / 64 % 2 == 1,
+                vertical: word / 128 % 2 == 1,
+            },
+            rotation: Rotation::from_turns(word / 16 % 4),
+        }
+    }
+
+    // The bits of this setting, with zeros in all other places.
+    pub fn bits(self) -> u32
+        ensures { λ r. ⌜ r ≡ bitsOf self ⌝ }
+    {
+        let flip = self.flip;
+        let rotation = self.rotation;
+        weight(flip.vertical, 128) + weight(flip.horizontal, 64) + rotation.turns() * 16
+    }
+}
+
+// The setting in two words, one drawn after the other, as one.
+pub fn compose_bits(first: u32, second: u32) -> u32
+    ensures { λ r. ⌜ r ≡ bitsOf (compose (settingOf first) (settingOf second)) ⌝ }
+{
+    Transform::from_bits(first)
+        .compose(Transform::from_bits(second))
+        .bits()
+}
+
+// The setting that undoes the one in a word.
+pub fn inverse_bits(word: u32) -> u32
+    ensures { λ r. ⌜ r ≡ bitsOf (inverse (settingOf word)) ⌝ }
+{
+    Transform::from_bits(word).inverse().bits()
 }
