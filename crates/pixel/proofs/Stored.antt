@@ -175,7 +175,11 @@ narrow Argb8888 = record { alpha = lit≤ tt; red = lit≤ tt; green = lit≤ tt
 narrow Rgb888 = record { alpha = lit≤ tt; red = lit≤ tt; green = lit≤ tt; blue = lit≤ tt }
 narrow Rgb565 = record { alpha = lit≤ tt; red = lit≤ tt; green = lit≤ tt; blue = lit≤ tt }
 
+-- a pixel made a colour and stored again in its format has the same bytes
+pub packed-again : (f : Format) (pixel : ℕ) → packed (layoutOf f) (unpacked (layoutOf f) pixel) ≡ pixel % 256 ^ bytesOf f
+packed-again Argb8888 pixel = packed-unpacked (layoutOf Argb8888) (sound Argb8888) pixel
+packed-again Rgb888 pixel = packed-unpacked (layoutOf Rgb888) (sound Rgb888) pixel
+packed-again Rgb565 pixel = packed-unpacked (layoutOf Rgb565) (sound Rgb565) pixel
+
 pub stored-same : (f : Format) (pixel : ℕ) → pixel < 256 ^ bytesOf f → packed (layoutOf f) (unpacked (layoutOf f) pixel) ≡ pixel
-stored-same Argb8888 pixel small = packed-unpacked (layoutOf Argb8888) (sound Argb8888) pixel ∙ mod-eq-of-lt small
-stored-same Rgb888 pixel small = packed-unpacked (layoutOf Rgb888) (sound Rgb888) pixel ∙ mod-eq-of-lt small
-stored-same Rgb565 pixel small = packed-unpacked (layoutOf Rgb565) (sound Rgb565) pixel ∙ mod-eq-of-lt small
+stored-same f pixel small = packed-again f pixel ∙ mod-eq-of-lt small

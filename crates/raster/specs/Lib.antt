@@ -4,3 +4,5 @@ pub mod Batch
 pub mod Written
 pub mod Clear
 pub mod Row
+-- two drawings as one
+pub mod Twice

@@ -16,7 +16,7 @@ use Rattle.pixel.specs.Colours.{packed, unpacked}
 use Rattle.pixel.specs.declared.colour.Colour.{Colour}
 use Rattle.pixel.specs.declared.format.Format.{Format}
 use Rattle.pixel.specs.declared.format.Format.the-variants.{Argb8888, Rgb888, Rgb565}
-use Rattle.pixel.proofs.Stored.{Bytes, kept, narrow, unpacked-packed}
+use Rattle.pixel.proofs.Stored.{Bytes, kept, narrow, packed-again, unpacked-packed}
 use Rattle.surface.specs.declared.Surface.{Surface}
 use Rattle.surface.specs.Surface.{rowLength, pixelStart, span}
 use Rattle.surface.specs.Memory.{mapi, within, number, pixelAt}
@@ -94,6 +94,11 @@ loaded-same f i xs ys e h = ap (unpacked (layoutOf f)) (pixel-same (bytesOf f) i
 pub loaded-shift : (f : Format) (d k i : ℕ) (xs : List ℕ) → i + bytesOf f ≤ k → loaded f (midOf d k xs) i ≡ loaded f xs (d + i)
 unfolding loaded
 loaded-shift f d k i xs h = ap (unpacked (layoutOf f)) (pixel-shift (bytesOf f) d k i xs h)
+
+-- stored in its own format and loaded again, it has the same colour
+pub loaded-again : (f : Format) (memory : List ℕ) (i : ℕ) → unpacked (layoutOf f) (packed (layoutOf f) (loaded f memory i)) ≡ loaded f memory i
+unfolding loaded
+loaded-again f memory i = ap (unpacked (layoutOf f)) (packed-again f _) ∙ unpacked-low f _
 
 -- ---- a pixel stored
 

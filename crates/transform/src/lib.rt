@@ -2,6 +2,8 @@
 ghost use mathlib.Core.Path.{_≡_};
 ghost use Prim.Native.Nat.{_<_};
 ghost use Rattle.transform.specs.Transform.{Within, rotatedSize, unrotated, mirrored, unflipped, sourceOf};
+ghost use Rattle.transform.specs.Bits.{turns, rotationOf, weight, settingOf, bitsOf};
+ghost use Rattle.transform.specs.Compose.{quarter, added, turnedBack, isOdd, either, flippedTwice, exchanged, compose, neutral, inverse, opposite, orientation};
 
 // A rotation clockwise by 0 to 3 quarter turns.
 pub enum Rotation {
@@ -105,4 +107,215 @@ impl Transform {
         let rotation = self.rotation;
         flip.origin(size, rotation.origin(size, at))
     }
+}
+
+// ---- two settings as one
+
+impl Rotation {
+    // One quarter turn more.
+    fn quarter(self) -> Rotation
+        ensures { λ r. ⌜ r ≡ quarter self ⌝ }
+    {
+        match self {
+            Rotation::Upright => Rotation::Clockwise,
+            Rotation::Clockwise => Rotation::Half,
+            Rotation::Half => Rotation::CounterClockwise,
+            Rotation::CounterClockwise => Rotation::Upright,
+        }
+    }
+
+    // This turn and then another.
+    fn then(self, other: Rotation) -> Rotation
+        ensures { λ r. ⌜ r ≡ added self other ⌝ }
+    {
+        match self {
+            Rotation::Upright => other,
+            Rotation::Clockwise => other.quarter(),
+            Rotation::Half => other.quarter().quarter(),
+            Rotation::CounterClockwise => other.quarter().quarter().quarter(),
+        }
+    }
+
+    // As many quarter turns the other way.
+    fn back(self) -> Rotation
+        ensures { λ r. ⌜ r ≡ turnedBack self ⌝ }
+    {
+        match self {
+            Rotation::Upright => Rotation::Upright,
+            Rotation::Clockwise => Rotation::CounterClockwise,
+            Rotation::Half => Rotation::Half,
+            Rotation::CounterClockwise => Rotation::Clockwise,
+        }
+    }
+
+    // Whether width and height change places.
+    fn is_odd(self) -> bool
+        ensures { λ r. ⌜ r ≡ isOdd self ⌝ }
+    {
+        match self {
+            Rotation::Upright => false,
+            Rotation::Clockwise => true,
+            Rotation::Half => false,
+            Rotation::CounterClockwise => true,
+        }
+    }
+}
+
+impl Flip {
+    // This flip and then another.
+    fn then(self, other: Flip) -> Flip
+        ensures { λ r. ⌜ r ≡ flippedTwice self other ⌝ }
+    {
+        Flip {
+            horizontal: self.horizontal ^ other.horizontal,
+            vertical: self.vertical ^ other.vertical,
+        }
+    }
+
+    // The flip before a turn that is as good as this one after it.
+    fn exchanged(self, odd: bool) -> Flip
+        ensures { λ r. ⌜ r ≡ exchanged odd self ⌝ }
+    {
+        if odd {
+            Flip {
+                horizontal: self.vertical,
+                vertical: self.horizontal,
+            }
+        } else {
+            self
+        }
+    }
+}
+
+impl Transform {
+    // The one setting that draws what this one and then the second draw.
+    pub fn compose(self, second: Transform) -> Transform
+        ensures { λ r. ⌜ r ≡ compose self second ⌝ }
+    {
+        let flip = self.flip;
+        let rotation = self.rotation;
+        let after = second.flip;
+        let turn = second.rotation;
+        Transform {
+            flip: flip.then(after.exchanged(rotation.is_odd())),
+            rotation: rotation.then(turn),
+        }
+    }
+
+    // The setting that draws every picture as it is.
+    pub fn neutral() -> Transform
+        ensures { λ r. ⌜ r ≡ neutral ⌝ }
+    {
+        Transform {
+            flip: Flip {
+                horizontal: false,
+                vertical: false,
+            },
+            rotation: Rotation::Upright,
+        }
+    }
+
+    // The setting that undoes this one.
+    pub fn inverse(self) -> Transform
+        ensures { λ r. ⌜ r ≡ inverse self ⌝ }
+    {
+        let flip = self.flip;
+        let rotation = self.rotation;
+        Transform {
+            flip: flip.exchanged(rotation.is_odd()),
+            rotation: rotation.back(),
+        }
+    }
+
+    // The setting without a V flip that draws the same: one of eight.
+    pub fn orientation(self) -> Transform
+        ensures { λ r. ⌜ r ≡ orientation self ⌝ }
+    {
+        let flip = self.flip;
+        let rotation = self.rotation;
+        if flip.vertical {
+            Transform {
+                flip: Flip {
+                    horizontal: !flip.horizontal,
+                    vertical: !flip.vertical,
+                },
+                rotation: Rotation::Half.then(rotation),
+            }
+        } else {
+            self
+        }
+    }
+}
+
+// ---- settings as bits of a source control word: 7 V flip, 6 H flip, 5:4 quarter turns
+
+impl Rotation {
+    fn from_turns(n: u32) -> Rotation
+        ensures { λ r. ⌜ r ≡ rotationOf n ⌝ }
+    {
+        match n {
+            0 => Rotation::Upright,
+            1 => Rotation::Clockwise,
+            2 => Rotation::Half,
+            _ => Rotation::CounterClockwise,
+        }
+    }
+
+    fn turns(self) -> u32
+        ensures { λ r. ⌜ r ≡ turns self ⌝ }
+    {
+        match self {
+            Rotation::Upright => 0,
+            Rotation::Clockwise => 1,
+            Rotation::Half => 2,
+            Rotation::CounterClockwise => 3,
+        }
+    }
+}
+
+// What a bit counts for.
+fn weight(on: bool, n: u32) -> u32
+    ensures { λ r. ⌜ r ≡ weight on n ⌝ }
+{
+    if on { n } else { 0 }
+}
+
+impl Transform {
+    // The setting in any word. Its other bits are not looked at.
+    pub fn from_bits(word: u32) -> Transform
+        ensures { λ r. ⌜ r ≡ settingOf word ⌝ }
+    {
+        Transform {
+            flip: Flip {
+                horizontal: word / 64 % 2 == 1,
+                vertical: word / 128 % 2 == 1,
+            },
+            rotation: Rotation::from_turns(word / 16 % 4),
+        }
+    }
+
+    // The bits of this setting, with zeros in all other places.
+    pub fn bits(self) -> u32
+        ensures { λ r. ⌜ r ≡ bitsOf self ⌝ }
+    {
+        let flip = self.flip;
+        let rotation = self.rotation;
+        weight(flip.vertical, 128) + weight(flip.horizontal, 64) + rotation.turns() * 16
+    }
+}
+
+// The setting in two words, one drawn after the other, as one.
+pub fn compose_bits(first: u32, second: u32) -> u32
+    ensures { λ r. ⌜ r ≡ bitsOf (compose (settingOf first) (settingOf second)) ⌝ }
+{
+    Transform::from_bits(first)
+        .compose(Transform::from_bits(second))
+        .bits()
+}
+
+// The setting that undoes the one in a word.
+pub fn inverse_bits(word: u32) -> u32
+    ensures { λ r. ⌜ r ≡ bitsOf (inverse (settingOf word)) ⌝ }
+{
+    Transform::from_bits(word).inverse().bits()
 }

@@ -86,6 +86,25 @@ size_t wenditsal_play(
     uint8_t *answers,
     size_t answers_size);
 
+/*
+ * Two turns make one. A setting of flips and quarter turns is bits 7:4 of a source control word, register 0x010: 7 V flip, 6 H flip, 5:4
+ * quarter turns clockwise, after the flips. Any word may be handed over, a whole control word too: its other bits are not looked at, and
+ * they are 0 in what is returned. So a control word is given a composed setting by
+ *
+ *   control = (control & ~0xF0u) | wenditsal_compose(first, second);
+ *
+ * wenditsal_compose returns the setting with which one drawing leaves what a drawing with `first`, and then one of what came out with
+ * `second`, leaves: the output has the same bytes, for every picture, where the three surfaces have one format, blending is off and no fault
+ * comes. It is associative. 0 is neutral: composed with it, on either side, a setting stays as it is.
+ *
+ * wenditsal_inverse returns the setting that undoes one: composed with it, on either side, it is 0.
+ *
+ * Two settings draw every picture alike exactly if they are alike or differ in both flips and by two quarter turns: a ^ 0xE0 draws as a does.
+ * (Sixteen settings are eight orientations. A picture of 2 by 2 different pixels tells them apart.)
+ */
+uint32_t wenditsal_compose(uint32_t first, uint32_t second);
+uint32_t wenditsal_inverse(uint32_t setting);
+
 #ifdef __cplusplus
 }
 #endif

@@ -16,7 +16,36 @@ extern "C" {
         answers: *mut u8,
         answers_size: usize,
     ) -> usize;
+    fn wenditsal_compose(first: u32, second: u32) -> u32;
+    fn wenditsal_inverse(setting: u32) -> u32;
 }
+
+/// Two settings, as bits, composed by the engine.
+#[cfg(linked)]
+pub fn compose(first: u32, second: u32) -> u32 {
+    // Numbers in, a number out.
+    unsafe { wenditsal_compose(first, second) }
+}
+
+/// The inverse of a setting.
+#[cfg(linked)]
+pub fn inverse(setting: u32) -> u32 {
+    // Numbers in, a number out.
+    unsafe { wenditsal_inverse(setting) }
+}
+
+#[cfg(not(linked))]
+pub fn compose(_: u32, _: u32) -> u32 {
+    panic!("{UNLINKED}")
+}
+
+#[cfg(not(linked))]
+pub fn inverse(_: u32) -> u32 {
+    panic!("{UNLINKED}")
+}
+
+#[cfg(not(linked))]
+const UNLINKED: &str = "built without the static library: set WENDITSAL_LIB to the folder of libwenditsal.a";
 
 /// Bytes before and after what is lent, which the engine must not touch.
 const MARGIN: usize = 64;
@@ -72,7 +101,7 @@ fn call(list: &List, ring: &mut Lent, memory: &mut Lent, answers: &mut Lent) -> 
 
 #[cfg(not(linked))]
 fn call(_: &List, _: &mut Lent, _: &mut Lent, _: &mut Lent) -> usize {
-    panic!("built without the static library: set WENDITSAL_LIB to the folder of libwenditsal.a")
+    panic!("{UNLINKED}")
 }
 
 /// A list played by the engine. Nothing if it wrote outside what it was lent.

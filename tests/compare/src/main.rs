@@ -3,12 +3,14 @@
 //! compare lists COUNT SEED                       random lists of calls, played by the static library
 //! compare orders COUNT SEED                      random pairs of orders of the same batches, likewise
 //! compare pages                                  two surfaces at every place about each other, by the static library
+//! compare settings                               every two settings composed by the static library, held to pictures
 //! compare replays COUNT SEED PROGRAM [WORD ..]   random replay files, on PROGRAM's standard input
 //! compare cuts FILE PROGRAM [WORD ..]            a replay file cut at every byte
 mod linked;
 mod lists;
 mod orders;
 mod replays;
+mod settings;
 
 use std::io::{Error, Result};
 use std::process::ExitCode;
@@ -23,10 +25,11 @@ fn compared(words: &[&str]) -> Result<bool> {
         ["lists", count, seed] => Ok(lists::compare(number(count)?, number(seed)?)),
         ["orders", count, seed] => Ok(orders::compare(number(count)?, number(seed)?)),
         ["pages"] => Ok(lists::pages()),
+        ["settings"] => Ok(settings::compare()),
         ["replays", count, seed, program @ ..] => replays::compare(number(count)?, number(seed)?, program),
         ["cuts", file, program @ ..] => replays::cuts(file, program),
         _ => Err(Error::other(
-            "usage: lists COUNT SEED | orders COUNT SEED | pages | replays COUNT SEED PROGRAM | cuts FILE PROGRAM",
+            "usage: lists COUNT SEED | orders COUNT SEED | pages | settings | replays COUNT SEED PROGRAM | cuts FILE PROGRAM",
         )),
     }
 }

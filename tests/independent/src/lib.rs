@@ -3,6 +3,7 @@
 pub mod batch;
 pub mod batch_cases;
 pub mod batch_questions;
+pub mod compositions;
 pub mod drawing;
 pub mod engine;
 pub mod leaf_cases;

@@ -1,0 +1,3 @@
+-- Laws of the registers.
+-- the setting of a task, and of its bits
+pub mod Setting

@@ -1,0 +1,17 @@
+-- How much the bits of a setting come to.
+use mathlib.Core.Bool.{Bool, true, false}
+use Prim.Native.Nat.{ℕ, _≤_}
+use native.Mathlib.Omega.{arith}
+use Rattle.transform.specs.declared.Rotation.{Rotation}
+use Rattle.transform.specs.declared.Rotation.the-variants.{Upright, Clockwise, Half, CounterClockwise}
+use Rattle.transform.specs.Bits.{turns, weight}
+
+pub weight-most : (on : Bool) (n : ℕ) → weight on n ≤ n
+weight-most true n = omega arith
+weight-most false n = omega arith
+
+pub turns-most : (r : Rotation) → turns r ≤ 3
+turns-most Upright = omega arith
+turns-most Clockwise = omega arith
+turns-most Half = omega arith
+turns-most CounterClockwise = omega arith

@@ -1,0 +1,55 @@
+-- The laws of composed settings (02, request 8). proofs/Composed.antt proves `Composes`, proofs/Settings.antt `Settings` and `ReadBack`, proofs/Same.antt `Exactly`.
+-- What they say of memory is in crate raster, specs/Twice.antt.
+use mathlib.Core.Path.{_≡_}
+use mathlib.Core.Logic.{_↔_}
+use mathlib.Core.Bool.{false}
+use Prim.Native.Nat.{ℕ}
+use Rattle.transform.specs.declared.Transform.{Transform}
+use Rattle.transform.specs.declared.Size.{Size}
+use Rattle.transform.specs.declared.Point.{Point}
+use Rattle.transform.specs.Transform.{Within, rotatedSize, sourceOf}
+use Rattle.transform.specs.Compose.{compose, neutral, inverse, SameOrientation, orientation}
+use Rattle.transform.specs.Bits.{settingOf, bitsOf}
+
+-- the composed setting gives the size, and brings to each place the source pixel, that the two give and bring one after the other
+pub record Composes : Type 0 where
+  pub size : (a b : Transform) (s : Size) → rotatedSize (compose a b .rotation) s ≡ rotatedSize (b .rotation) (rotatedSize (a .rotation) s)
+  pub source : (a b : Transform) (s : Size) (p : Point) → Within (rotatedSize (compose a b .rotation) s) p →
+      sourceOf (compose a b) s p ≡ sourceOf a s (sourceOf b (rotatedSize (a .rotation) s) p)
+
+-- the sixteen settings; all of it holds strictly, and so up to equal drawing
+pub record Settings : Type 0 where
+  pub associative : (a b c : Transform) → compose (compose a b) c ≡ compose a (compose b c)
+  pub neutral-first : (t : Transform) → compose neutral t ≡ t
+  pub neutral-second : (t : Transform) → compose t neutral ≡ t
+  pub inverse-second : (t : Transform) → compose t (inverse t) ≡ neutral
+  pub inverse-first : (t : Transform) → compose (inverse t) t ≡ neutral
+  -- settings of one orientation are those with the same one of the eight
+  pub upright : (t : Transform) → orientation t .flip .vertical ≡ false
+  pub oriented : (a b : Transform) → (orientation a ≡ orientation b) ↔ SameOrientation a b
+  -- an orientation is that of its own setting, and composing goes by orientations
+  pub itself : (t : Transform) → SameOrientation (orientation t) t
+  pub composed : (a b : Transform) → orientation (compose (orientation a) (orientation b)) ≡ orientation (compose a b)
+
+-- a setting is read back from its bits
+abbrev pub ReadBack : Type 0
+ReadBack = (t : Transform) → settingOf (bitsOf t) ≡ t
+
+-- two settings give the same size and bring the same source pixel to each place, of every picture
+pub record Alike (a b : Transform) : Type 0 where
+  pub size : (s : Size) → rotatedSize (a .rotation) s ≡ rotatedSize (b .rotation) s
+  pub source : (s : Size) (p : Point) → Within (rotatedSize (a .rotation) s) p → sourceOf a s p ≡ sourceOf b s p
+
+abbrev pub square : Size
+square = record { width = 2; height = 2 }
+
+abbrev pub place : ℕ → Point
+place x = record { x = x; y = 0 }
+
+-- they do exactly if they have the same orientation
+pub record Exactly : Type 0 where
+  pub alike : (a b : Transform) → SameOrientation a b → Alike a b
+  pub same : (a b : Transform) → Alike a b → SameOrientation a b
+  -- a picture of 2 by 2 tells orientations apart, by the source pixels of two places of its upper row
+  pub told : (a b : Transform) → sourceOf a square (place 0) ≡ sourceOf b square (place 0) → sourceOf a square (place 1) ≡ sourceOf b square (place 1) →
+      SameOrientation a b
