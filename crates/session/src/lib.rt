@@ -1,5 +1,5 @@
 // A list of calls, given as bytes, played on the engine; the answers are written as bytes.
-mod answer;
+pub mod answer;
 mod script;
 
 ghost use mathlib.Core.Path.{_≡_};

@@ -87,6 +87,72 @@ size_t wenditsal_play(
     size_t answers_size);
 
 /*
+ * The calls one at a time, for a server. The engine record is 272 bytes that the caller lends and keeps between calls; it may copy, store and
+ * send them. Any bytes may be handed in: 11 is returned for what is no valid record, and for any other engine_size. Each call returns the
+ * refusal's number, 0 without one. A refused call leaves every byte of engine, ring and memory as it was and writes zeros through its last
+ * pointer. Any list of calls from an accepted set up on answers, and leaves memory, as wenditsal_play does.
+ *
+ * The bytes are 68 u32, little-endian: 0 ring, 1 memory, 2 common length, 3 zero, 4 clients open, 5 read offset, 6 next ticket, 7 zero; from 8 on
+ * four clients: window start, length, batches pending, zero; from 24 on eight slots: 1 if ready and 0 if free, client, ticket, offset,
+ * length, all zero if free; 64 to 67 zero. One record has one form. A flipped bit is told only where it breaks a rule.
+ *
+ * What the caller owes: each pointer is not null, also where its size is 0, and is good for its size (client, ticket, count: a u32; completion:
+ * five u32); what is written (not const) lies apart from all else that is lent to the call.
+ */
+#define WENDITSAL_ENGINE_SIZE 272
+
+uint32_t wenditsal_set_up(uint8_t *engine, size_t engine_size, size_t ring_length, size_t memory_length, size_t common_length);
+
+uint32_t wenditsal_open(uint8_t *engine, size_t engine_size, uint32_t start, uint32_t length, uint32_t *client);
+
+uint32_t wenditsal_submit(
+    uint8_t *engine,
+    size_t engine_size,
+    uint8_t *ring,
+    size_t ring_size,
+    uint32_t client,
+    const uint8_t *batch,
+    size_t batch_size,
+    uint32_t *ticket);
+
+/* completion: client, ticket, status, fault, place */
+uint32_t wenditsal_run(
+    uint8_t *engine,
+    size_t engine_size,
+    const uint8_t *ring,
+    size_t ring_size,
+    uint8_t *memory,
+    size_t memory_size,
+    uint32_t completion[5]);
+
+uint32_t wenditsal_pending(const uint8_t *engine, size_t engine_size, uint32_t client, uint32_t *count);
+
+/* A task's fields, as in the registers; any numbers may be handed in. */
+struct wenditsal_surface {
+    uint32_t width, height, stride, address, format;
+};
+
+struct wenditsal_fields {
+    struct {
+        struct wenditsal_surface surface;
+        uint32_t alpha_mode, global_alpha;
+        uint32_t flip_h, flip_v, quarter_turns;
+        uint32_t mode, enable;
+    } source;
+    struct {
+        struct wenditsal_surface surface;
+        uint32_t alpha_mode, global_alpha;
+        uint32_t enable;
+    } destination;
+    struct wenditsal_surface output;
+    uint32_t colour;
+    uint32_t source_factor, destination_factor, blend;
+};
+
+/* Writes the 80 bytes of the batch of the one task with these fields to the buffer's start; 24 and 12 (a buffer of under 80 bytes) refuse. */
+uint32_t wenditsal_encode(struct wenditsal_fields fields, uint8_t *buffer, size_t buffer_size);
+
+/*
  * Two turns make one. A setting of flips and quarter turns is bits 7:4 of a source control word, register 0x010: 7 V flip, 6 H flip, 5:4
  * quarter turns clockwise, after the flips. Any word may be handed over, a whole control word too: its other bits are not looked at, and
  * they are 0 in what is returned. So a control word is given a composed setting by

@@ -1,0 +1,3 @@
+-- Laws of the calls on bytes.
+pub mod Telling
+pub mod Reporting

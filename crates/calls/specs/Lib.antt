@@ -1,0 +1,2 @@
+-- The engine's calls on a record that is lent as bytes.
+pub mod Calls
