@@ -8,6 +8,8 @@ static uint32_t rnd(void){S^=S<<13;S^=S>>7;S^=S<<17;return (uint32_t)(S>>16);}
 static uint32_t below(uint32_t n){return rnd()%n;}
 static void put32(uint8_t*p,uint32_t v){p[0]=v;p[1]=v>>8;p[2]=v>>16;p[3]=v>>24;}
 static double now(void){struct timespec t;clock_gettime(CLOCK_MONOTONIC,&t);return t.tv_sec*1e9+t.tv_nsec;}
+/* run with its five words in an array */
+#define wenditsal_run(e,en,r,rn,m,mn,f) wenditsal_run(e,en,r,rn,m,mn,(struct wenditsal_completion*)(f))
 static long fails;
 #define BAD(...) do{ if(fails++<10){printf(__VA_ARGS__);} }while(0)
 
