@@ -1,40 +1,27 @@
 -- Run.
-use mathlib.Core.Path.{_≡_, refl, sym, ap, subst, _∙_}
+use mathlib.Core.Path.{_≡_, sym, ap, subst, _∙_}
 use mathlib.Core.List.{List, [], _∷_}
-use Prim.Native.Nat.{ℕ, zero, suc}
+use Prim.Native.Nat.{ℕ}
 use lib.ListN.{length, getD}
 use Rattle.record.specs.declared.Record.{Record}
 use Rattle.queue.specs.Calls.{unless}
 use Rattle.engine.specs.declared.Outcome.{Outcome}
-use Rattle.engine.specs.declared.Outcome.the-variants.{Refused, Completed}
 use Rattle.engine.specs.declared.Ran.{Ran}
-use Rattle.engine.specs.Outcome.{numberOf as refusalOf, valuesOf}
+use Rattle.engine.specs.Outcome.{numberOf as refusalOf}
 use Rattle.engine.specs.Run.{runOf, runMemory}
 use Rattle.engine.proofs.Refusals.{run-allowed}
 use Rattle.engine.proofs.Stays.{run-number}
-use Rattle.claims.specs.Engine.{told, completion}
-use Rattle.session.specs.Answers.{wordsOf}
-use Rattle.session.specs.Called.{Small}
-use Rattle.session.proofs.Numbers.{run-small}
+use Rattle.answers.specs.Answers.{outcomeWords, Small}
+use Rattle.answers.proofs.Numbers.{run-small}
 use Rattle.record_bytes.specs.Read.{recordOf}
 use Rattle.record_bytes.specs.Written.{bytesOf, written}
-use Rattle.calls.specs.Calls.{fiveOf, Reports, Runs}
+use Rattle.calls.specs.Calls.{Reports, Runs}
 use Rattle.calls.proofs.Telling.{unless-not, unless-zero, whole, fits}
-
--- the six words of an outcome
-six : (o : Outcome) → wordsOf (told (refusalOf o) (completion (valuesOf o))) ≡ refusalOf o ∷ fiveOf o
-unfolding wordsOf told
-six (Refused zero) = refl
-six (Refused (suc n)) = refl
-six (Completed c) = refl
 
 abbrev rest : List ℕ → List ℕ
 rest words = getD words 1 0 ∷ getD words 2 0 ∷ getD words 3 0 ∷ getD words 4 0 ∷ getD words 5 0 ∷ []
 
-module _ (bytes after words : List ℕ) (o : Outcome) (w : words ≡ wordsOf (told (refusalOf o) (completion (valuesOf o)))) where
-  are : words ≡ refusalOf o ∷ fiveOf o
-  are = w ∙ six o
-
+module _ (bytes after words : List ℕ) (o : Outcome) (are : words ≡ outcomeWords o) where
   pub reported-done : (bytesNow : List ℕ) → getD words 0 0 ≡ 0 → bytesNow ≡ after → Reports bytes after o (getD words 0 0) (rest words) bytesNow
   reported-done bytesNow z e = record {
     number-is = rw are;

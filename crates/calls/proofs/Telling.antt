@@ -14,7 +14,7 @@ use Rattle.queue.specs.Answers.{numberOf, valueOf}
 use Rattle.queue.specs.Calls.{unless, setUp, openOf, submitOf, submitRing, pendingOf}
 use Rattle.queue.proofs.Refusals.{open-allowed, submit-allowed}
 use Rattle.queue.proofs.Stays.{open-number, submit-number}
-use Rattle.session.specs.Answers.{twoWords}
+use Rattle.answers.specs.Answers.{twoWords}
 use Rattle.record_bytes.specs.Read.{recordOf}
 use Rattle.record_bytes.specs.Written.{bytesOf, written}
 use Rattle.record_bytes.proofs.Cases.{valid-record, record-size, written-whole}

@@ -2,7 +2,7 @@
 -- stand for. A refused call answers zeros and leaves every byte as it was.
 use mathlib.Core.Path.{_≡_}
 use mathlib.Core.Bool.{cond}
-use mathlib.Core.List.{List, [], _∷_}
+use mathlib.Core.List.{List}
 use Prim.Native.Nat.{ℕ}
 use lib.ListN.{length}
 use lib.Dec.{eqb}
@@ -13,8 +13,9 @@ use Rattle.queue.specs.Answers.{numberOf, valueOf}
 use Rattle.queue.specs.Calls.{unless, setUp, openOf, submitOf, submitRing, pendingOf}
 use Rattle.engine.specs.declared.Outcome.{Outcome}
 use Rattle.engine.specs.declared.Ran.{Ran}
-use Rattle.engine.specs.Outcome.{numberOf as refusalOf, valuesOf}
+use Rattle.engine.specs.Outcome.{numberOf as refusalOf}
 use Rattle.engine.specs.Run.{runOf, runMemory}
+use Rattle.answers.specs.Answers.{fiveOf}
 use Rattle.record_bytes.specs.Read.{recordOf}
 use Rattle.record_bytes.specs.Written.{bytesOf}
 
@@ -54,10 +55,6 @@ pub record Pends (bytes : List ℕ) (client number value : ℕ) : Type 0 where
   pub value-is : value ≡ valueOf (pendingOf (recordOf bytes) client)
 
 -- ---- run
-
--- client, ticket, status, fault, place
-abbrev pub fiveOf : Outcome → List ℕ
-fiveOf o = valuesOf o .client ∷ valuesOf o .ticket ∷ valuesOf o .status ∷ valuesOf o .fault ∷ valuesOf o .offset ∷ []
 
 pub record Reports (bytes after : List ℕ) (outcome : Outcome) (number : ℕ) (five bytesNow : List ℕ) : Type 0 where
   pub number-is : number ≡ refusalOf outcome

@@ -2,7 +2,7 @@
 ghost use mathlib.Core.Path.{_≡_};
 ghost use Rattle.queue.specs.Answers.{numberOf, valueOf};
 ghost use Rattle.record_bytes.specs.Written.{written};
-ghost use Rattle.session.specs.Called.{Small};
+ghost use Rattle.answers.specs.Answers.{Small};
 ghost use Rattle.calls.specs.Calls.{SetsUp, Told, Opens, Submits, Pends, Reports, Runs};
 use engine::Ran;
 use queue::Reply;
@@ -13,7 +13,7 @@ fn tell(bytes: &mut [u8], reply: Reply, value: &mut u32) -> u32
 {
     let answer = reply.answer;
     let engine = reply.engine;
-    let words = session::answer::answer_words(answer);
+    let words = answers::answer_words(answer);
     let number = words[0];
     *value = words[1];
     if number == 0 {
@@ -29,7 +29,7 @@ fn report(bytes: &mut [u8], ran: Ran, five: &mut [u32; 5]) -> u32
 {
     let outcome = ran.outcome;
     let engine = ran.engine;
-    let words = session::answer::outcome_words(outcome);
+    let words = answers::outcome_words(outcome);
     let number = words[0];
     *five = [words[1], words[2], words[3], words[4], words[5]];
     if number == 0 {
@@ -82,7 +82,7 @@ pub fn pending(bytes: &[u8], client: u32, count: &mut u32) -> u32
     ensures { λ r. ⌜ Pends (now (bytes .entry)) client r (now (count .exit)) ⌝ }
 {
     let engine = record_bytes::decode(bytes);
-    let words = session::answer::answer_words(engine::pending(engine, client));
+    let words = answers::answer_words(engine::pending(engine, client));
     *count = words[1];
     words[0]
 }

@@ -16,6 +16,7 @@ use Rattle.record.specs.declared.Record.{Record}
 use Rattle.record_bytes.specs.declared.write.Row.{Row}
 use Rattle.record_bytes.specs.Written.{rowAt, wordsWith, wordsOf, bytesOf, written}
 use Rattle.record_bytes.specs.Read.{slotsRight, spareRight, isRecord, recordIn, noRecord, recordOf}
+use Rattle.record_bytes.specs.RoundTrip.{Untrusted}
 
 -- ---- decode
 
@@ -70,7 +71,7 @@ left-alone r bytes n = rw (ne-eqb (length bytes) 272 n)
 -- ---- what is no record
 
 -- it breaks a rule
-pub none-valid : (bytes : List ℕ) → isRecord bytes ≡ false → valid (recordOf bytes) ≡ false
+pub none-valid : (bytes : List ℕ) → Untrusted bytes
 unfolding recordOf noRecord valid
 none-valid bytes e = rw e
 

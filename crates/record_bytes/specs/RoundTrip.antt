@@ -1,6 +1,7 @@
--- A record's bytes stand for that record. proofs/RoundTrip.antt and proofs/Fitting.antt prove the promises.
+-- A record's bytes stand for that record, and bytes that are no record for one that no call takes. proofs/RoundTrip.antt, proofs/Fitting.antt,
+-- proofs/Canonical.antt and proofs/Cases.antt prove the promises.
 use mathlib.Core.Path.{_≡_}
-use mathlib.Core.Bool.{true}
+use mathlib.Core.Bool.{true, false}
 use mathlib.Core.List.{List, [], _∷_}
 use Prim.Native.Nat.{ℕ, _<_, _^_}
 use lib.ListN.{length}
@@ -59,7 +60,7 @@ pub record RoundTrip (r : Record) : Type 0 where
   -- those of a valid record do
   pub fits : Typed r → valid r ≡ true → Small r
 
--- ---- the other way: what is taken for a record is the bytes of that record, so that one record has one form. proofs/Canonical.antt proves it
+-- ---- the other way: what is taken for a record is the bytes of that record, so that one record has one form
 
 abbrev pub AllBytes : List ℕ → Type 0
 AllBytes [] = Unit {0}
@@ -67,3 +68,8 @@ AllBytes (b ∷ bs) = (b < 2 ^ 8) × AllBytes bs
 
 abbrev pub Canonical : (bytes : List ℕ) → Type 0
 Canonical bytes = AllBytes bytes → isRecord bytes ≡ true → bytesOf (recordOf bytes) ≡ bytes
+
+-- ---- what is no record, a buffer of another length included, breaks a rule: every call refuses it with 11
+
+abbrev pub Untrusted : (bytes : List ℕ) → Type 0
+Untrusted bytes = isRecord bytes ≡ false → valid (recordOf bytes) ≡ false

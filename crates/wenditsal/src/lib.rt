@@ -34,8 +34,10 @@ pub extern "C" fn wenditsal_play(
     )
 }
 
-// The engine's calls, one at a time, on a record that is lent as bytes. Each returns the refusal's number, 0 without one.
+// The engine's calls, one at a time, on a record that is lent as bytes. Each returns the refusal's number, 0 without one. Any bytes may be
+// handed in: no call has a `requires`.
 
+// Sets up an engine and writes its record.
 #[no_mangle]
 pub extern "C" fn wenditsal_set_up(
     engine: &mut [u8],
@@ -48,6 +50,7 @@ pub extern "C" fn wenditsal_set_up(
     calls::set_up(engine, ring, memory, common)
 }
 
+// Opens a client with a window; answers its id.
 #[no_mangle]
 pub extern "C" fn wenditsal_open(
     engine: &mut [u8],
@@ -60,6 +63,7 @@ pub extern "C" fn wenditsal_open(
     calls::open(engine, start, length, client)
 }
 
+// Puts a client's batch into the ring and the queue; answers its ticket.
 #[no_mangle]
 pub extern "C" fn wenditsal_submit(
     engine: &mut [u8],
@@ -74,6 +78,7 @@ pub extern "C" fn wenditsal_submit(
     calls::submit(engine, ring, client, batch, ticket)
 }
 
+// Takes the oldest batch; answers client, ticket, status, fault and place. The header has these five as a structure.
 #[no_mangle]
 pub extern "C" fn wenditsal_run(
     engine: &mut [u8],
@@ -87,6 +92,7 @@ pub extern "C" fn wenditsal_run(
     calls::run(engine, ring, memory, completion)
 }
 
+// Answers how many batches of a client are ready.
 #[no_mangle]
 pub extern "C" fn wenditsal_pending(engine: &[u8], client: u32, count: &mut u32) -> u32
     ensures { λ r. ⌜ Pends (now (engine .entry)) client r (now (count .exit)) ⌝ }

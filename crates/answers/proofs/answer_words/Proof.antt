@@ -1,6 +1,6 @@
 use borrow.Author.Needs.{needs}
-use Rattle.session.proofs.answer.answer_words.Statement.{statement}
-use Rattle.session.proofs.answer.answer_words.Tie as tie
+use Rattle.answers.proofs.answer_words.Statement.{statement}
+use Rattle.answers.proofs.answer_words.Tie as tie
 
 enum-known-answer : tie.Need-enum-known-answer
 enum-known-answer c = search needs

@@ -2,10 +2,10 @@ use mathlib.Core.Path.{_∙_}
 use Prim.Native.Nat.{_≤_}
 use native.Mathlib.Omega.{arith}
 use Rattle.batch.specs.Batch.{statusOf, offsetOf}
-use Rattle.session.proofs.Numbers.{refused-words, completed-words, completed-small, word-whole}
+use Rattle.answers.proofs.Numbers.{completed-words, completed-small, word-whole}
 use borrow.Author.Needs.{needs}
-use Rattle.session.proofs.answer.outcome_words.Statement.{statement}
-use Rattle.session.proofs.answer.outcome_words.Tie as tie
+use Rattle.answers.proofs.outcome_words.Statement.{statement}
+use Rattle.answers.proofs.outcome_words.Tie as tie
 
 small : (c : tie.After-offset) → (statusOf (c .before .before .outcome2 .given .0 .0 .verdict) ≤ 4294967295) × (offsetOf (c .before .before .outcome2 .given .0 .0 .verdict) ≤ 4294967295)
 small c = completed-small _ _ (c .before .before .outcome2 .given .1) (c .before .before .before .before .pre)
@@ -29,7 +29,7 @@ number-requires : tie.Need-number-requires
 number-requires c κs = search needs
 
 returns : tie.Need-returns
-returns c = rw (c .before .outcome .given .1) (refused-words _)
+returns c = rw (c .before .outcome .given .1)
 
 returns-2 : tie.Need-returns-2
 returns-2 c = completed-words _ _ _ _ _ (c .before .before .before .before .outcome2 .given .1) (c .before .status .ensures ∙ word-whole (statusOf (c .before .before .before .before .outcome2 .given .0 .0 .verdict)) (small (c .before .before) .0)) (c .number .ensures) (c .before .before .offset .ensures)
