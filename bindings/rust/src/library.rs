@@ -82,6 +82,8 @@ extern "C" {
     ) -> u32;
     fn wenditsal_pending(engine: *const u8, engine_size: usize, client: u32, count: *mut u32) -> u32;
     fn wenditsal_encode(fields: Fields, buffer: *mut u8, buffer_size: usize) -> u32;
+    fn wenditsal_compose(first: u32, second: u32) -> u32;
+    fn wenditsal_inverse(setting: u32) -> u32;
 }
 
 // In all of them: a slice's pointer is never null and good for its length, and `&mut` borrows share no byte with any other
@@ -130,4 +132,14 @@ pub fn pending(engine: &[u8], client: u32, count: &mut u32) -> u32 {
 
 pub fn encode(fields: Fields, buffer: &mut [u8]) -> u32 {
     unsafe { wenditsal_encode(fields, buffer.as_mut_ptr(), buffer.len()) }
+}
+
+// Numbers in, a number out.
+
+pub fn compose(first: u32, second: u32) -> u32 {
+    unsafe { wenditsal_compose(first, second) }
+}
+
+pub fn inverse(setting: u32) -> u32 {
+    unsafe { wenditsal_inverse(setting) }
 }

@@ -98,6 +98,42 @@ pub struct Transform {
     pub turn: Turn,
 }
 
+impl Transform {
+    /// The one transform that draws what this one and then `second` draw, for every picture.
+    ///
+    /// ```
+    /// use wenditsal::{Transform, Turn};
+    /// let turned = Transform { turn: Turn::Quarter, ..Transform::default() };
+    /// let flipped = Transform { flip_h: true, ..Transform::default() };
+    /// // A flip after a quarter turn is the other flip before it.
+    /// assert_eq!(turned.then(flipped), Transform { flip_v: true, ..turned });
+    /// ```
+    pub fn then(self, second: Transform) -> Transform {
+        Transform::of(library::compose(self.setting(), second.setting()))
+    }
+
+    /// The transform that undoes this one.
+    ///
+    /// ```
+    /// use wenditsal::{Transform, Turn};
+    /// let turned = Transform { flip_h: true, flip_v: false, turn: Turn::Quarter };
+    /// assert_eq!(turned.then(turned.inverse()), Transform::default());
+    /// ```
+    pub fn inverse(self) -> Transform {
+        Transform::of(library::inverse(self.setting()))
+    }
+
+    /// Bits 7:4 of a source control word.
+    fn setting(self) -> u32 {
+        u32::from(self.flip_v) << 7 | u32::from(self.flip_h) << 6 | (self.turn as u32) << 4
+    }
+
+    fn of(setting: u32) -> Transform {
+        let turns = [Turn::None, Turn::Quarter, Turn::Half, Turn::ThreeQuarters];
+        Transform { flip_h: setting >> 6 & 1 == 1, flip_v: setting >> 7 & 1 == 1, turn: turns[(setting >> 4 & 3) as usize] }
+    }
+}
+
 /// Where the source's colours come from.
 #[derive(Clone, Copy, Debug, Default, PartialEq, Eq, Hash)]
 pub enum SourceMode {
