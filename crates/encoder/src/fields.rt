@@ -10,6 +10,7 @@ use pixel::Format;
 use register::Bank;
 use register::SurfaceRegisters;
 
+#[repr(C)]
 pub struct SurfaceFields {
     pub width: u32,
     pub height: u32,
@@ -18,11 +19,13 @@ pub struct SurfaceFields {
     pub format: u32,
 }
 
+#[repr(C)]
 pub struct AlphaFields {
     pub mode: u32,
     pub global: u32,
 }
 
+#[repr(C)]
 pub struct TransformFields {
     // 1 for a flip
     pub horizontal: u32,
@@ -31,6 +34,7 @@ pub struct TransformFields {
     pub rotation: u32,
 }
 
+#[repr(C)]
 pub struct SourceFields {
     pub surface: SurfaceFields,
     pub alpha: AlphaFields,
@@ -39,12 +43,14 @@ pub struct SourceFields {
     pub enable: u32,
 }
 
+#[repr(C)]
 pub struct DestinationFields {
     pub surface: SurfaceFields,
     pub alpha: AlphaFields,
     pub enable: u32,
 }
 
+#[repr(C)]
 pub struct BlendingFields {
     // the factors
     pub source: u32,
@@ -52,6 +58,7 @@ pub struct BlendingFields {
     pub on: u32,
 }
 
+#[repr(C)]
 pub struct Fields {
     pub source: SourceFields,
     pub destination: DestinationFields,

@@ -1,39 +1,16 @@
--- What is answered fits in words of 32 bits, and is the words of crate claims' answer.
+-- The words of what is answered are those of crate claims' answer.
 use mathlib.Core.Path.{_≡_, refl}
-use mathlib.Core.Bool.{true, not}
-use Prim.Native.Nat.{ℕ, zero, suc, _≤_, _<_, _%_}
-use mathlib.Core.List.{List, [], _∷_}
-use native.Mathlib.Omega.{arith}
-use lib.ListN.{length}
-use borrow.Author.Tests.{not-true}
-use Rattle.word.proofs.Tests.{and-true}
-use Rattle.register.specs.Bank.{resetBank}
-use Rattle.batch.specs.Batch.{statusOf, numberOf as faultOf, offsetOf}
-use Rattle.batch.proofs.Ways.{words-fit}
-use Rattle.batch.proofs.Tasks.{status-fits}
-use Rattle.batch.proofs.Offsets.{offset-within}
-use Rattle.record.specs.declared.Batch.{Batch}
-use Rattle.record.specs.declared.Record.{Record}
-use Rattle.record.specs.Setup.{badLength}
-use Rattle.record.specs.Tickets.{ticketBefore, batchWith, inOrder}
-use Rattle.record.specs.Queue.{takenSlots}
-use Rattle.record.specs.Rules.{lengthsAllowed, valid}
-use Rattle.record.proofs.Rules.{valid-facts, length-good}
+use Prim.Native.Nat.{ℕ, zero, suc}
 use Rattle.queue.specs.declared.Answer.{Answer as Told}
 use Rattle.queue.specs.declared.Answer.the-variants.{Refused as No, Set, Opened, Accepted, Ready}
 use Rattle.queue.specs.Answers.{numberOf, valueOf}
 use Rattle.engine.specs.declared.Outcome.{Outcome}
-use Rattle.engine.specs.declared.Outcome.the-variants.{Completed}
-use Rattle.engine.specs.declared.Completion.{Completion}
+use Rattle.engine.specs.declared.Outcome.the-variants.{Refused, Completed}
 use Rattle.engine.specs.Outcome.{numberOf as refusalOf, valuesOf}
-use Rattle.engine.specs.Run.{runNumber, oldest, boundsFor, oldestWords, oldestVerdict, answered, runOf}
-use Rattle.engine.proofs.Refusals.{run-allowed}
-use Rattle.model.specs.Calls.{Answer, completed}
+use Rattle.model.specs.Calls.{Answer}
 use Rattle.claims.specs.Engine.{told, completion}
-use Rattle.session.specs.Answers.{twoWords, wordsOf}
-use Rattle.session.specs.Called.{Small}
-
--- ---- words of an answer
+use Rattle.answers.specs.Answers.{twoWords, outcomeWords}
+use Rattle.session.specs.Answers.{wordsOf}
 
 -- an answer of one number
 pub told-words : (a : Told) (f : ℕ → Answer) → ((v : ℕ) → wordsOf (f v) ≡ twoWords 0 v) → wordsOf (told (numberOf a) (f (valueOf a))) ≡ twoWords (numberOf a) (valueOf a)
@@ -45,55 +22,9 @@ told-words (Opened v) f h = h v
 told-words (Accepted v) f h = h v
 told-words (Ready v) f h = h v
 
--- run's refusal
-pub refused-words : (number : ℕ) → twoWords number 0 ≡ wordsOf (told number (completed 0 0 (record { status = 0; fault = 0; offset = 0 })))
+-- run's
+pub run-words : (o : Outcome) → wordsOf (told (refusalOf o) (completion (valuesOf o))) ≡ outcomeWords o
 unfolding wordsOf told
-refused-words zero = refl
-refused-words (suc n) = refl
-
--- and its completion
-pub completed-words : (o : Outcome) (d : Completion) (status fault offset : ℕ) → o ≡ Completed d → status ≡ statusOf (d .verdict) → fault ≡ faultOf (d .verdict) → offset ≡ offsetOf (d .verdict) →
-    (0 ∷ d .client ∷ d .ticket ∷ status ∷ fault ∷ offset ∷ []) ≡ wordsOf (told (refusalOf o) (completion (valuesOf o)))
-unfolding wordsOf told
-completed-words o d status fault offset e s f p = rw (e, s, f, p)
-
--- ---- run's numbers
-
-pub completed-small : (o : Outcome) (d : Completion) → o ≡ Completed d → Small o → (statusOf (d .verdict) ≤ 4294967295) × (offsetOf (d .verdict) ≤ 4294967295)
-completed-small o d e s = let q = rw e at s in (q .status, q .offset)
-
-pub word-whole : (n : ℕ) → n ≤ 4294967295 → n % 4294967296 ≡ n
-word-whole n small = omega arith
-
--- a batch of a valid record has no more bytes than the longest ring
-oldest-short : (engine : Record) → valid engine ≡ true → 0 < takenSlots engine → oldest engine .length ≤ 32768
-unfolding inOrder lengthsAllowed
-oldest-short engine ok some = go (takenSlots engine) refl some
-  where
-    go : (n : ℕ) → takenSlots engine ≡ n → 0 < n → oldest engine .length ≤ 32768
-    go zero e h = absurd (omega arith)
-    go (suc k) e h =
-        let v = valid-facts engine ok in
-        let b : Batch = batchWith (ticketBefore (engine .next) (suc k)) (engine .slots) in
-        let bad = badLength (engine .setup .ring) (b .length) in
-        let first = and-true (not bad) (lengthsAllowed (engine .setup .ring) (inOrder k (engine .next) (engine .slots))) (rw e at (v .lengths)) .0 in
-        let good = length-good (engine .setup .ring) (b .length) (not-true bad first) in
-        rw e (omega (arith, good .within, v .numbers .ring .small))
-
-pub run-small : (engine : Record) (ring memory : List ℕ) → Small (runOf engine ring memory .outcome)
-unfolding runOf answered
-run-small engine ring memory = go (runNumber engine ring memory) refl
-  where
-    go : (n : ℕ) → runNumber engine ring memory ≡ n →
-        Small (answered n (Completed (record { client = oldest engine .client; ticket = oldest engine .ticket; verdict = oldestVerdict engine ring })))
-    go (suc n) e = record { status = omega arith; offset = omega arith }
-    go zero e =
-        let a = run-allowed engine (length ring) (length memory) e in
-        let short = oldest-short engine (a .ok) (a .some) in
-        let bounds = boundsFor engine (oldest engine .client) in
-        let at = oldest engine .offset in
-        let size = oldest engine .length in
-        record {
-          status = status-fits bounds resetBank ring at size (omega arith);
-          offset = omega (arith, offset-within bounds resetBank (oldestWords engine ring), words-fit ring at size);
-        }
+run-words (Refused zero) = refl
+run-words (Refused (suc n)) = refl
+run-words (Completed c) = refl

@@ -8,16 +8,16 @@ use Rattle.queue.specs.declared.Reply.{Reply}
 use Rattle.queue.specs.Answers.{numberOf, valueOf}
 use Rattle.queue.specs.Calls.{openOf, submitOf, submitRing, pendingOf}
 use Rattle.engine.specs.declared.Ran.{Ran}
-use Rattle.engine.specs.Outcome.{numberOf as refusalOf, valuesOf}
 use Rattle.engine.specs.Run.{runOf, runMemory}
+use Rattle.answers.specs.Answers.{twoWords, outcomeWords}
 use Rattle.model.specs.Calls.{opens, submit, run, pending, opened, accepted, ready}
-use Rattle.claims.specs.Engine.{state, told, completion, called}
+use Rattle.claims.specs.Engine.{state, called}
 use Rattle.session.specs.declared.script.Request.{Request}
 use Rattle.session.specs.declared.script.Request.the-variants.{Submit}
 use Rattle.session.specs.Requests.{Lies}
-use Rattle.session.specs.Answers.{twoWords, wordsOf}
+use Rattle.session.specs.Answers.{wordsOf}
 use Rattle.session.specs.Called.{Plays}
-use Rattle.session.proofs.Numbers.{told-words}
+use Rattle.session.proofs.Numbers.{told-words, run-words}
 
 opened-words : (v : ℕ) → wordsOf (opened v) ≡ twoWords 0 v
 unfolding wordsOf
@@ -49,10 +49,10 @@ module _ (engine : Record) (ring memory : List ℕ) where
   submit-plays client batch r words ring′ after e q w g = record { says = rw (← e) (w ∙ sym (told-words (r .answer) accepted accepted-words)); leaves = rw (g, e, q) }
 
   pub run-plays : (r : Ran) (words memory′ : List ℕ) (after : Record) → r ≡ runOf engine ring memory → memory′ ≡ runMemory engine ring memory →
-      words ≡ wordsOf (told (refusalOf (r .outcome)) (completion (valuesOf (r .outcome)))) → after ≡ r .engine →
+      words ≡ outcomeWords (r .outcome) → after ≡ r .engine →
       Plays run (state engine ring memory) (state after ring memory′) words
   unfolding called
-  run-plays r words memory′ after e q w g = record { says = rw (← e) w; leaves = rw (g, e, q) }
+  run-plays r words memory′ after e q w g = record { says = rw (← e) (w ∙ sym (run-words (r .outcome))); leaves = rw (g, e, q) }
 
   pub pending-plays : (client : ℕ) (a : Told) (words : List ℕ) → a ≡ pendingOf engine client → words ≡ twoWords (numberOf a) (valueOf a) →
       Plays (pending client) (state engine ring memory) (state engine ring memory) words

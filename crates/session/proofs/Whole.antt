@@ -24,7 +24,8 @@ use Rattle.claims.specs.OfModel.{real}
 use Rattle.claims.specs.Engine.{State, state, answersOf, stateAfter, begin}
 use Rattle.claims.proofs.Theorem.{promise}
 use Rattle.session.specs.Script.{decode}
-use Rattle.session.specs.Answers.{twoWords, answerBytes}
+use Rattle.answers.specs.Answers.{twoWords}
+use Rattle.session.specs.Answers.{answerBytes}
 use Rattle.session.specs.Called.{PlaysAll}
 use Rattle.session.specs.Played.{setUpNumber, calls, written, memoryAfter, ringAfter, Played}
 use Rattle.session.proofs.Going.{rest-is, decode-none}

@@ -1,13 +1,9 @@
--- Answers as bytes: every answer is six little-endian words of 32 bits. The first is the refusal's number, 0 without one; then what is
--- answered, by open the id, by submit the ticket, by run client, ticket, status, fault and place, by pending the count. Zeros fill up.
+-- The model's answers as bytes: each is six little-endian words of 32 bits, those of crate answers.
 use mathlib.Core.List.{List, [], _∷_, _++_}
 use Prim.Native.Nat.{ℕ}
 use Rattle.word.specs.Word.{wordsBytes}
+use Rattle.answers.specs.Answers.{twoWords}
 use Rattle.model.specs.Calls.{Answer, opened, accepted, completed, ready, refused}
-
--- a refusal's number, 0 for none, and one number more
-abbrev pub twoWords : (number value : ℕ) → List ℕ
-twoWords number value = number ∷ value ∷ 0 ∷ 0 ∷ 0 ∷ 0 ∷ []
 
 unfoldable pub wordsOf : Answer → List ℕ
 wordsOf (opened client) = twoWords 0 client

@@ -2,10 +2,8 @@
 -- crate's inner functions.
 use mathlib.Core.Path.{_≡_}
 use mathlib.Core.List.{List, _++_}
-use Prim.Native.Nat.{ℕ, _≤_}
+use Prim.Native.Nat.{ℕ}
 use lib.ListN.{length, drop}
-use Rattle.engine.specs.declared.Outcome.{Outcome}
-use Rattle.engine.specs.Outcome.{valuesOf}
 use Rattle.model.specs.Calls.{Call}
 use Rattle.claims.specs.Engine.{State, called, answersOf, stateAfter}
 use Rattle.session.specs.Answers.{wordsOf, answerBytes}
@@ -14,11 +12,6 @@ use Rattle.session.specs.Answers.{wordsOf, answerBytes}
 pub record Plays (call : Call) (s after : State) (words : List ℕ) : Type 0 where
   pub says : words ≡ wordsOf (called call s .answer)
   pub leaves : after ≡ called call s .after
-
--- status and offset of an outcome fit in words
-pub record Small (outcome : Outcome) : Type 0 where
-  pub status : valuesOf outcome .status ≤ 4294967295
-  pub offset : valuesOf outcome .offset ≤ 4294967295
 
 -- all of them, from any state: the answers are at the start of the buffer
 pub record PlaysAll (played : List Call) (s : State) (buffer : List ℕ) (count : ℕ) (ringNow memoryNow bufferNow : List ℕ) : Type 0 where

@@ -9,13 +9,14 @@ use lib.Dec.{ltb, eqb}
 use Rattle.word.specs.Word.{wordsBytes}
 use Rattle.queue.specs.Answers.{numberOf}
 use Rattle.queue.specs.Calls.{setUp}
+use Rattle.answers.specs.Answers.{twoWords}
 use Rattle.model.specs.Calls.{Setup, Call}
 use Rattle.model.specs.State.{fresh}
 use Rattle.model.specs.Model.{answers, end}
 use Rattle.claims.specs.OfModel.{real}
 use Rattle.claims.specs.Engine.{stateAfter, begin}
 use Rattle.session.specs.Script.{decode}
-use Rattle.session.specs.Answers.{twoWords, answerBytes}
+use Rattle.session.specs.Answers.{answerBytes}
 
 -- what set up is refused with, 0 if it is accepted
 abbrev pub setUpNumber : Setup → ℕ

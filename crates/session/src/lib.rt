@@ -6,12 +6,11 @@ ghost use mathlib.Core.Path.{_≡_};
 ghost use Prim.Native.Nat.{_/_};
 ghost use lib.ListN.{length};
 ghost use Rattle.queue.specs.Answers.{numberOf, valueOf};
-ghost use Rattle.engine.specs.Outcome.{numberOf as refusalOf, valuesOf};
-ghost use Rattle.claims.specs.Engine.{state, told, completion};
+ghost use Rattle.answers.specs.Answers.{twoWords, outcomeWords, Small};
+ghost use Rattle.claims.specs.Engine.{state};
 ghost use Rattle.session.specs.Script.{decode};
 ghost use Rattle.session.specs.Requests.{callOf, Lies};
-ghost use Rattle.session.specs.Answers.{twoWords, wordsOf};
-ghost use Rattle.session.specs.Called.{Small, Plays, PlaysAll};
+ghost use Rattle.session.specs.Called.{Plays, PlaysAll};
 ghost use Rattle.session.specs.Played.{Played};
 use crate::script::Next;
 use crate::script::Request;
@@ -31,19 +30,19 @@ fn step_of(reply: Reply) -> Step
     let answer = reply.answer;
     let engine = reply.engine;
     Step {
-        words: answer::answer_words(answer),
+        words: answers::answer_words(answer),
         engine: engine,
     }
 }
 
 fn step_of_run(ran: Ran) -> Step
     requires { ⌜ Small (ran .outcome) ⌝ }
-    ensures { λ r. ⌜ (r .words ≡ wordsOf (told (refusalOf (ran .outcome)) (completion (valuesOf (ran .outcome))))) × (r .engine ≡ ran .engine) ⌝ }
+    ensures { λ r. ⌜ (r .words ≡ outcomeWords (ran .outcome)) × (r .engine ≡ ran .engine) ⌝ }
 {
     let outcome = ran.outcome;
     let engine = ran.engine;
     Step {
-        words: answer::outcome_words(outcome),
+        words: answers::outcome_words(outcome),
         engine: engine,
     }
 }
@@ -70,7 +69,7 @@ fn play_call(
         )),
         Request::Run => step_of_run(engine::run(engine, ring, memory)),
         Request::Pending(client) => Step {
-            words: answer::answer_words(engine::pending(engine, client)),
+            words: answers::answer_words(engine::pending(engine, client)),
             engine: engine,
         },
     }
@@ -132,7 +131,7 @@ pub fn play(
     let reply = engine::set_up(ring_length, memory_length, common_length);
     let engine = reply.engine;
     let told = reply.answer;
-    let words = answer::answer_words(told);
+    let words = answers::answer_words(told);
     answer::write_answer(answers, 0, words);
     if words[0] != 0 {
         return 24;

@@ -1,4 +1,3 @@
 -- Laws that this crate's proofs and those of the crates above cite.
 pub mod Typing
 pub mod Digits
-pub mod Mixing

@@ -56,15 +56,8 @@ module _ (l : Line) (xs : List ℕ) (i : ℕ) (h : i < length xs) where
   unfolding typed
   typed-next = rw (rest-next xs i h)
 
-  pub bytes-next : typed l (hexBytes (drop i xs)) ≡ typed (typed l (hexByte (getD xs i 0))) (hexBytes (drop (i + 1) xs))
-  bytes-next = ap (λ (ys : List ℕ). typed l (hexBytes ys)) (rest-next xs i h) ∙ typed-bytes l (getD xs i 0) (drop (i + 1) xs)
-
 -- past a list's end nothing is left to be typed
 module _ (l : Line) (xs : List ℕ) (i : ℕ) (h : length xs ≤ i) where
   pub typed-none : typed l (drop i xs) ≡ l
   unfolding typed
   typed-none = rw (drop-of-length-le xs h)
-
-  pub bytes-none : typed l (hexBytes (drop i xs)) ≡ l
-  unfolding typed hexBytes
-  bytes-none = rw (drop-of-length-le xs h)

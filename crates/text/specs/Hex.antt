@@ -1,6 +1,6 @@
 -- Numbers as text: hexadecimal digits in ASCII, the highest first (01, "Writer and replay": "eight upper-case hex digits").
 use Prim.Native.Nat.{ℕ, _+_, _-_, _/_, _%_}
-use mathlib.Core.Bool.{Bool, cond}
+use mathlib.Core.Bool.{cond}
 use mathlib.Core.List.{List, [], _∷_, _++_}
 use lib.Dec.{ltb}
 use Rattle.word.specs.Word.{beBytes}
@@ -21,11 +21,3 @@ hexBytes (byte ∷ bytes) = hexByte byte ++ hexBytes bytes
 -- a number of 32 bits: eight digits
 unfoldable pub hexWord : ℕ → List ℕ
 hexWord word = hexBytes (beBytes word)
-
--- a number of 64 bits: sixteen digits
-unfoldable pub hexLong : ℕ → List ℕ
-hexLong number = hexWord (number / 4294967296) ++ hexWord (number % 4294967296)
-
--- a truth value: 01 or 00
-unfoldable pub hexFlag : Bool → List ℕ
-hexFlag value = hexByte (cond value 1 0)

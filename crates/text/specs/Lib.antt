@@ -2,4 +2,3 @@
 pub mod Line
 pub mod Hex
 pub mod Decimal
-pub mod Digest

@@ -2,12 +2,10 @@
 // fit is dropped.
 ghost use mathlib.Core.Path.{_≡_};
 ghost use Prim.Native.Nat.{_≤_, _<_};
-ghost use mathlib.Core.List.{_++_};
 ghost use lib.ListN.{length};
 ghost use Rattle.text.specs.Line.{lineOf, pushed, typed};
-ghost use Rattle.text.specs.Hex.{digitOf, hexByte, hexBytes, hexWord, hexLong, hexFlag};
+ghost use Rattle.text.specs.Hex.{digitOf, hexByte, hexWord};
 ghost use Rattle.text.specs.Decimal.{decimal};
-ghost use Rattle.text.specs.Digest.{mixed, mixedAll};
 
 pub fn push(line: &mut [u8], n: usize, byte: u8) -> usize
     ensures { λ r. ⌜ lineOf (now (line .exit)) r ≡ pushed (lineOf (now (line .entry)) n) byte ⌝ }
@@ -30,7 +28,7 @@ fn digit(value: u8) -> u8
     }
 }
 
-pub fn hex(line: &mut [u8], n: usize, byte: u8) -> usize
+fn hex(line: &mut [u8], n: usize, byte: u8) -> usize
     ensures { λ r. ⌜ lineOf (now (line .exit)) r ≡ typed (lineOf (now (line .entry)) n) (hexByte byte) ⌝ }
 {
     let high = push(line, n, digit(byte / 16));
@@ -44,32 +42,6 @@ pub fn hex_word(line: &mut [u8], n: usize, word: u32) -> usize
     let b = hex(line, a, (word / 65536 % 256) as u8);
     let c = hex(line, b, (word / 256 % 256) as u8);
     hex(line, c, (word % 256) as u8)
-}
-
-pub fn hex_long(line: &mut [u8], n: usize, number: u64) -> usize
-    ensures { λ r. ⌜ lineOf (now (line .exit)) r ≡ typed (lineOf (now (line .entry)) n) (hexLong number) ⌝ }
-{
-    let high = hex_word(line, n, (number / 4294967296) as u32);
-    hex_word(line, high, (number % 4294967296) as u32)
-}
-
-pub fn hex_pair(line: &mut [u8], a: usize, b: usize) -> usize
-    ensures { λ r. ⌜ lineOf (now (line .exit)) r ≡ typed (lineOf (now (line .entry)) 0) (hexLong a ++ hexLong b) ⌝ }
-{
-    let first = hex_long(line, 0, a as u64);
-    hex_long(line, first, b as u64)
-}
-
-pub fn hex_all(line: &mut [u8], n: usize, bytes: &[u8]) -> usize
-    ensures { λ r. ⌜ lineOf (now (line .exit)) r ≡ typed (lineOf (now (line .entry)) n) (hexBytes (now (bytes .entry))) ⌝ }
-{
-    let mut end = n;
-    let mut i = 0;
-    while i < bytes.len() {
-        end = hex(line, end, bytes[i]);
-        i += 1;
-    }
-    end
 }
 
 // Text as it is.
@@ -101,47 +73,4 @@ pub fn decimal(line: &mut [u8], n: usize, value: u64) -> usize
     }
     let end = decimal(line, n, value / 10);
     push(line, end, b'0' + ((value % 10) as u8))
-}
-
-pub fn flag(line: &mut [u8], value: bool) -> usize
-    ensures { λ r. ⌜ lineOf (now (line .exit)) r ≡ typed (lineOf (now (line .entry)) 0) (hexFlag value) ⌝ }
-{
-    if value {
-        hex(line, 0, 1)
-    } else {
-        hex(line, 0, 0)
-    }
-}
-
-// The arguments are outside what the function accepts: a hyphen.
-pub fn refused(line: &mut [u8]) -> usize
-    ensures { λ r. ⌜ lineOf (now (line .exit)) r ≡ pushed (lineOf (now (line .entry)) 0) 45 ⌝ }
-{
-    push(line, 0, b'-')
-}
-
-// Many values as one number, in order: the digest so far, and the next value.
-pub fn mix(digest: u32, value: u32) -> u32
-    ensures { λ r. ⌜ r ≡ mixed digest value ⌝ }
-{
-    (((digest as u64) * 31 + (value as u64)) % 4294967296) as u32
-}
-
-fn mix_byte(digest: u32, byte: u8) -> u32
-    ensures { λ r. ⌜ r ≡ mixed digest byte ⌝ }
-{
-    mix(digest, byte as u32)
-}
-
-// All bytes of a slice as one number.
-pub fn mix_all(bytes: &[u8]) -> u32
-    ensures { λ r. ⌜ r ≡ mixedAll 0 (now (bytes .entry)) ⌝ }
-{
-    let mut digest: u32 = 0;
-    let mut i = 0;
-    while i < bytes.len() {
-        digest = mix_byte(digest, bytes[i]);
-        i += 1;
-    }
-    digest
 }

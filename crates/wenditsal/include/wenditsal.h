@@ -1,4 +1,33 @@
-/* Wenditsal for C. Link libwenditsal.a. */
+/*
+ * Wenditsal for C and C++: a 2D engine that takes batches of register commands from up to four clients through one ring and draws into one
+ * memory. Link libwenditsal.a. It needs C99's <stdint.h>, and of the C library memcpy and memset alone.
+ *
+ * A server sets up an engine, opens its clients, and then submits batches and runs them, in any order and as long as it likes:
+ *
+ *     static uint8_t engine[WENDITSAL_ENGINE_SIZE], ring[4096], memory[65536];
+ *     uint32_t client, ticket;
+ *     struct wenditsal_completion done;
+ *
+ *     if (wenditsal_set_up(engine, sizeof engine, sizeof ring, sizeof memory, 16384) == 0
+ *         && wenditsal_open(engine, sizeof engine, 16384, 12288, &client) == 0
+ *         && wenditsal_submit(engine, sizeof engine, ring, sizeof ring, client, batch, batch_size, &ticket) == 0
+ *         && wenditsal_run(engine, sizeof engine, ring, sizeof ring, memory, sizeof memory, &done) == 0)
+ *         printf("batch %u: status %08X, fault %u\n", done.ticket, done.status, done.fault);
+ *
+ * Who owns what. All memory is the caller's: the engine record, the ring, the memory that is drawn into, batches, and what an answer is written
+ * to. A call borrows what it is handed until it returns; the library allocates nothing and keeps nothing between calls. An engine is its record,
+ * its ring and its memory together: hand the same three to every call, and change neither record nor ring in between. Memory may be read
+ * and written between calls (a server fills the common area so).
+ *
+ * Threads. The library has no state of its own. Calls on different engines may run at the same time; calls on one engine must follow each other,
+ * by whatever lock the caller has.
+ *
+ * What the caller owes, in every call:
+ *   - each pointer is not null, also where its size is 0, and is good for its size: a buffer for the size that follows it, a uint32_t or a
+ *     structure for its own size and aligned for it. Buffers need no alignment;
+ *   - what a call writes (all that is not const) lies apart from everything else that is handed to the same call.
+ * Nothing else is asked. Any numbers and any bytes may be handed in, and sizes that do not fit each other are answered as refusals.
+ */
 #ifndef WENDITSAL_H
 #define WENDITSAL_H
 
@@ -10,36 +39,66 @@ extern "C" {
 #endif
 
 /*
- * Sets up an engine with the lengths of ring, memory and common, and plays the script on the lent ring and memory. Returns how many bytes
- * of answers it wrote; other bytes of the answer buffer stay as they were. No state is kept between two calls.
+ * ---- Refusals
  *
- * The script is a list of calls, numbers little-endian and with no padding:
- *   0x00 open     start u32, length u32
- *   0x01 submit   client u8, length u32, that many bytes
- *   0x02 run
- *   0x03 pending  client u8
- * An unknown opcode, or a call that is cut short, ends the list.
- *
- * Every answer is six u32, little-endian: the refusal's number, 0 without one; then, by open: id; by submit: ticket; by run: client, ticket,
- * status, fault, place; by pending: count. Zeros fill up; a refusal's five are zero. The first answer is set up's own: if it is refused
- * nothing is played, and with no room for it nothing is set up and 0 is returned. A call whose answer would not fit is not played.
- *
- * Refusals: the first that holds is told, 10 before the others, then as listed. A refused call changes nothing.
+ * Every call but wenditsal_play returns the refusal's number, 0 if it was accepted. A refused call leaves every byte of record, ring, memory and
+ * buffer as it was, and writes zeros to what it would have answered. Of several refusals that hold, the first in this table is told:
+ *   11  set up           engine_size is not WENDITSAL_ENGINE_SIZE
+ *   11  open, submit, run, pending
+ *                        the engine record is none, or breaks a rule (below)
+ *   10  submit, run      the ring (run: or the memory) is not of the length that was set up
  *    1  set up           ring length 0, over 32,768, or no multiple of 128
- *    2  set up           memory over 16,777,216, or common longer than memory
- *    3  open             four clients open
+ *    2  set up           memory length over 16,777,216, or common length over memory length
+ *    3  open             four clients are open
  *    4  open             window empty, past memory's end, or sharing a byte with common or another window
  *    5  submit, pending  no such client
- *    6  submit           length 0, no multiple of 4, or over the ring length
- *    7  submit           no free slot: eight batches wait
- *    8  submit           free ring bytes fewer than the length
- *    9  run              nothing ready
- *   10  submit, run      lent ring (run: or memory) not of the set-up length
- * 11 (the engine record breaks a rule), 12 (lent buffer under 80 bytes) and 24 (a field that its register's rule forbids) are refusals
- * of the engine's own calls and of its encoder; as refusals they never come here.
+ *    6  submit           batch length 0, no multiple of 4, or over the ring length
+ *    7  submit           no free slot: eight batches are ready
+ *    8  submit           fewer free bytes in the ring than the batch has
+ *    9  run              no batch is ready
+ *   24  encode           a field that its register's rule forbids
+ *   12  encode           buffer under WENDITSAL_TASK_SIZE bytes
+ */
+#define WENDITSAL_RING_LENGTH 1
+#define WENDITSAL_MEMORY_LENGTH 2
+#define WENDITSAL_FOUR_CLIENTS 3
+#define WENDITSAL_BAD_WINDOW 4
+#define WENDITSAL_NO_CLIENT 5
+#define WENDITSAL_BATCH_LENGTH 6
+#define WENDITSAL_NO_SLOT 7
+#define WENDITSAL_NO_ROOM 8
+#define WENDITSAL_NOTHING_READY 9
+#define WENDITSAL_OTHER_LENGTH 10
+#define WENDITSAL_BAD_ENGINE 11
+#define WENDITSAL_SHORT_BUFFER 12
+#define WENDITSAL_FORBIDDEN_FIELD 24
+
+/*
+ * ---- Batches
  *
- * Status, fault and place, by run. A faultless batch has status tasks x 65,536 + 1, fault 0 and place 0. A faulty one draws nothing; its place
- * is a byte offset in the batch, of a group's header or of a word:
+ * A batch is groups of little-endian words of 32 bits: a header, and the words for the registers at its offset, offset + 4, ..  A header has
+ * the offset in bits 31:16, the number of words that follow in 15:2, and the task end in 0. All registers are at reset at the start of every
+ * batch, 0 but 0x090, which is 0x00001300, and stay from task to task inside it. Registers and their allowed bits, all others zero:
+ *   0x010 source control         31:24 global alpha, 23:22 alpha mode (0 pixel's, 1 global, 2 (pixel's x global + 127) / 255), 14:8 format,
+ *                                7 V flip, 6 H flip, 5:4 quarter turns clockwise, after the flips, 3:2 mode (0 buffer, 1 colour), 0 enable
+ *   0x050 destination control    31:24 global alpha, 23:22 alpha mode, 14:8 format, 0 enable
+ *   0x100 output control         14:8 format
+ *   0x014, 0x054, 0x104 size     28:16 height, 12:0 width, of source, destination, output
+ *   0x018, 0x058, 0x108 stride   15:0, in bytes
+ *   0x020, 0x060, 0x110 address  all bits, in bytes from memory's start
+ *   0x01C colour                 all bits: A, R, G, B from bit 31 down
+ *   0x090 blending               13:11 source factor, 10:8 destination factor, 0 blend on
+ * Formats: 0x00 ARGB8888 (bytes B, G, R, A), 0x08 RGB888 (B, G, R), 0x0E RGB565 (low byte first). Alpha reads as 255 where a format has none.
+ * Factors: 0 is 0, 1 is 255, 2 sa, 3 255 - sa, 4 da, 5 255 - da, with sa and da the alphas after the alpha modes.
+ * Blending on, each of A, R, G, B becomes the lesser of 255 and (s x fs + d x fd + 127) / 255; off, it is the source's, and alpha modes are
+ * not used.
+ *
+ * ---- Faults
+ *
+ * A batch is judged whole before any of it is drawn, and a faulty one draws nothing. The first fault is told, in the order of the walk: of a
+ * header 20, 21; then of each word 23, 24; after a task's last group 25 to 28, the lowest first; after the last group 22. Its place is a byte
+ * offset in the batch.
+ *    no  place      status      when
  *   20  header     0x00000002  header bit 1, 16 or 17 set
  *   21  header     0x00000100  group length 0 or past the batch's end
  *   22  header     0x00000100  last group not task end
@@ -50,41 +109,149 @@ extern "C" {
  *   26  task end   0x00000002  turn in colour mode; output size not the turned source size; blending, destination size not output size
  *   27  task end   0x00000002  span not wholly in the client's window, or, for what is read, wholly in common
  *   28  task end   0x00000002  source and output meet; blending, destination and output meet, unless address, stride and format are equal
- * "task end" is the header of the group that ends the task. A span runs from the address over stride x (height - 1) + width x bytes a pixel.
- * Row y is the width x bytes a pixel from address + y x stride on. Two surfaces of equal strides meet if a byte lies in rows of both, any row
- * of one and any row of the other; what the stride leaves between rows does not count. Surfaces of unequal strides meet if their spans
- * share a byte.
- *
- * A batch is groups of little-endian words: a header and the words for registers at its offset, offset + 4, ..  Header: bits 31:16 the
- * offset, 15:2 the number of words that follow, 0 task end. Registers are at reset at the start of every batch, 0 but 0x090, which is
- * 0x00001300, and stay from task to task inside it. Allowed bits, all others zero:
- *   0x010 source control         31:24 global alpha, 23:22 alpha mode (0 pixel's, 1 global, 2 (pixel's x global + 127) / 255), 14:8 format,
- *                                7 V flip, 6 H flip, 5:4 quarter turns clockwise, after the flips, 3:2 mode (0 buffer, 1 colour), 0 enable
- *   0x050 destination control    31:24 global alpha, 23:22 alpha mode, 14:8 format, 0 enable
- *   0x100 output control         14:8 format: 0x00 ARGB8888 (bytes B, G, R, A), 0x08 RGB888 (B, G, R), 0x0E RGB565 (low byte first)
- *   0x014, 0x054, 0x104 size     28:16 height, 12:0 width, of source, destination, output
- *   0x018, 0x058, 0x108 stride   15:0
- *   0x020, 0x060, 0x110 address  all bits
- *   0x01C colour                 A, R, G, B from bit 31 down
- *   0x090 blending               13:11 source factor, 10:8 destination factor (0 is 0, 1 is 255, 2 sa, 3 255-sa, 4 da, 5 255-da), 0 blend on
- * Blending on, each of A, R, G, B becomes the lesser of 255 and (s x fs + d x fd + 127) / 255, with sa and da the alphas after the alpha modes;
- * off, it is the source's, and alpha modes are not used. Alpha reads as 255 where a format has none.
- *
- * What the caller owes: each pointer is not null, also where its size is 0, and is good for that many bytes; ring, memory and answers lie
- * apart from each other and from the script. Sizes may be any; that they do not fit the three lengths is answered as a refusal.
+ * "Task end" is the header of the group that ends the task. A span runs from the address over stride x (height - 1) + width x bytes a pixel.
+ * Two surfaces meet if a byte lies in rows of both; where their strides differ, if their spans share one. In colour mode the source has no
+ * stride, format or span. A faultless batch has status tasks x 65,536 + 1, fault 0 and place 0.
  */
-size_t wenditsal_play(
-    size_t ring_length,
-    size_t memory_length,
-    size_t common_length,
+#define WENDITSAL_ARGB8888 0x00
+#define WENDITSAL_RGB888 0x08
+#define WENDITSAL_RGB565 0x0E
+
+/*
+ * ---- The engine record
+ *
+ * WENDITSAL_ENGINE_SIZE bytes that set up fills and the other calls read and write. They may be copied, stored and sent to another machine. They
+ * are 68 little-endian words of 32 bits, by number:
+ *    0  ring length      1  memory length    2  common length     3  zero
+ *    4  clients open     5  read offset      6  next ticket       7  zero
+ *    8  four clients of four words each: window start, window length, batches ready, zero
+ *   24  eight slots of five words each: 1 if a batch is ready in it and 0 if it is free, client, ticket, offset in the ring, length; of a free
+ *       slot all five are zero
+ *   64  four words that are zero
+ * The words that are zero are kept for later, and a record in which one is not is none. A record has this one form: two records
+ * are the same exactly if their bytes are. The three words of a client that is not open may be any.
+ *
+ * Its rules: the lengths and the open windows are such as set up and open accept; the read offset is a multiple of 4 below the ring length; the
+ * ready batches lie end to end from it in the order of their tickets, their lengths such as submit accepts, in all no more than the ring, each
+ * of an open client; their tickets follow each other up to the one before the next; each open client counts its ready batches. Every call
+ * checks all of them. There is no checksum: a damaged record that keeps the rules is taken as it is.
+ */
+#define WENDITSAL_ENGINE_SIZE 272
+
+/*
+ * Sets up an engine for a ring of ring_length and a memory of memory_length bytes, of which the first common_length are common: every client may
+ * read there and none may draw. Fills engine; what it held before does not matter. No client is open, no batch ready, the next ticket is 0.
+ * Refusals: 11, 1, 2.
+ */
+uint32_t wenditsal_set_up(uint8_t *engine, size_t engine_size, size_t ring_length, size_t memory_length, size_t common_length);
+
+/*
+ * Opens a client with the length bytes of memory from start on as its window, in which it may draw and from which it may read. Answers its id in
+ * *client: 0, 1, 2, 3 in the order of opening.
+ * Refusals: 11, 3, 4.
+ */
+uint32_t wenditsal_open(uint8_t *engine, size_t engine_size, uint32_t start, uint32_t length, uint32_t *client);
+
+/*
+ * Copies a client's batch into the ring behind the newest one and makes it ready. Answers its ticket in *ticket: 0, 1, 2, .. in the order of
+ * submission, going on from 4,294,967,295 to 0. What the batch says is not looked at until it is run, and it may be changed or freed at once.
+ * Refusals: 11, 10, 5, 6, 7, 8.
+ */
+uint32_t wenditsal_submit(
+    uint8_t *engine,
+    size_t engine_size,
     uint8_t *ring,
+    size_t ring_size,
+    uint32_t client,
+    const uint8_t *batch,
+    size_t batch_size,
+    uint32_t *ticket);
+
+/* What run answers; fault and place are 0 without a fault. Five words of 32 bits, one after the other. */
+struct wenditsal_completion {
+    uint32_t client;
+    uint32_t ticket;
+    uint32_t status;
+    uint32_t fault;
+    uint32_t place;
+};
+
+/*
+ * Takes the oldest ready batch, whichever client's it is, judges it, draws it into memory if it is faultless, and frees its slot and its room in
+ * the ring. A faulty batch is no refusal: 0 is returned, and the fault told in *completion. No byte changes outside the output rows of the batch's
+ * tasks, and none outside its client's window.
+ * Refusals: 11, 10, 9.
+ */
+uint32_t wenditsal_run(
+    uint8_t *engine,
+    size_t engine_size,
+    const uint8_t *ring,
     size_t ring_size,
     uint8_t *memory,
     size_t memory_size,
-    const uint8_t *script,
-    size_t script_size,
-    uint8_t *answers,
-    size_t answers_size);
+    struct wenditsal_completion *completion);
+
+/*
+ * Answers how many batches of a client are ready in *count. Changes nothing.
+ * Refusals: 11, 5.
+ */
+uint32_t wenditsal_pending(const uint8_t *engine, size_t engine_size, uint32_t client, uint32_t *count);
+
+/* ---- The encoder */
+
+/* A batch of one task has so many bytes. */
+#define WENDITSAL_TASK_SIZE 80
+
+/* A surface's fields of the registers (above): a rectangle of pixels in memory. */
+struct wenditsal_surface {
+    uint32_t width;
+    uint32_t height;
+    uint32_t stride;
+    uint32_t address;
+    uint32_t format;
+};
+
+struct wenditsal_source {
+    struct wenditsal_surface surface;
+    uint32_t alpha_mode;
+    uint32_t global_alpha;
+    /* 0 or 1 */
+    uint32_t flip_h;
+    uint32_t flip_v;
+    /* 0 to 3, clockwise */
+    uint32_t quarter_turns;
+    /* 0 buffer, 1 colour */
+    uint32_t mode;
+    uint32_t enable;
+};
+
+struct wenditsal_destination {
+    struct wenditsal_surface surface;
+    uint32_t alpha_mode;
+    uint32_t global_alpha;
+    uint32_t enable;
+};
+
+/* A task's fields, each as in its register; any numbers may be handed in. At reset all are 0 but the factors, which are 2 and 3. */
+struct wenditsal_fields {
+    struct wenditsal_source source;
+    struct wenditsal_destination destination;
+    struct wenditsal_surface output;
+    uint32_t colour;
+    uint32_t source_factor;
+    uint32_t destination_factor;
+    uint32_t blend;
+};
+
+/*
+ * Writes the batch of the one task with these fields to the first WENDITSAL_TASK_SIZE bytes of buffer; the others stay. Such batches put one after
+ * the other are a batch of several tasks. Only the registers' own rules are judged here (24): what the fields mean together is judged when
+ * the batch is run (25 to 28).
+ * Refusals: 24, 12.
+ */
+uint32_t wenditsal_encode(struct wenditsal_fields fields, uint8_t *buffer, size_t buffer_size);
+
+/* ---- Flips and turns */
 
 /*
  * Two turns make one. A setting of flips and quarter turns is bits 7:4 of a source control word, register 0x010: 7 V flip, 6 H flip, 5:4
@@ -104,6 +271,36 @@ size_t wenditsal_play(
  */
 uint32_t wenditsal_compose(uint32_t first, uint32_t second);
 uint32_t wenditsal_inverse(uint32_t setting);
+
+/* ---- A whole list of calls at once */
+
+/*
+ * Sets up an engine of its own with the lengths of ring, memory and common, and plays the script on the lent ring and memory, with the answers that
+ * the calls above give. Returns how many bytes of answers it wrote; other bytes of the answer buffer stay as they were.
+ *
+ * The script is a list of calls, numbers little-endian and with no padding:
+ *   0x00 open     start u32, length u32
+ *   0x01 submit   client u8, length u32, that many bytes
+ *   0x02 run
+ *   0x03 pending  client u8
+ * An unknown opcode, or a call that is cut short, ends the list.
+ *
+ * Every answer is six u32, little-endian: the refusal's number, 0 without one; then, by open: id; by submit: ticket; by run: client, ticket,
+ * status, fault, place; by pending: count. Zeros fill up. The first answer is set up's own: if it is refused nothing is played, and with no
+ * room for it nothing is set up and 0 is returned. A call whose answer would not fit is not played. 11 never comes.
+ */
+size_t wenditsal_play(
+    size_t ring_length,
+    size_t memory_length,
+    size_t common_length,
+    uint8_t *ring,
+    size_t ring_size,
+    uint8_t *memory,
+    size_t memory_size,
+    const uint8_t *script,
+    size_t script_size,
+    uint8_t *answers,
+    size_t answers_size);
 
 #ifdef __cplusplus
 }

@@ -1,8 +1,12 @@
 // What other languages link. The header for C is include/wenditsal.h.
 ghost use mathlib.Core.Path.{_≡_};
-ghost use Rattle.session.specs.Played.{Played};
+ghost use lib.ListN.{length};
 ghost use Rattle.transform.specs.Compose.{compose, inverse};
 ghost use Rattle.transform.specs.Bits.{settingOf, bitsOf};
+ghost use Rattle.encoder.specs.Encoder.{numberOf, answerOf, bufferAfter};
+ghost use Rattle.session.specs.Played.{Played};
+ghost use Rattle.calls.specs.Calls.{SetsUp, Opens, Submits, Pends, Runs};
+use encoder::Fields;
 
 // Sets up an engine and plays a script on the lent ring and memory. Returns how many bytes of answers it wrote.
 #[no_mangle]
@@ -28,6 +32,84 @@ pub extern "C" fn wenditsal_play(
         script,
         answers,
     )
+}
+
+// The engine's calls, one at a time, on a record that is lent as bytes. Each returns the refusal's number, 0 without one. Any bytes may be
+// handed in: no call has a `requires`.
+
+// Sets up an engine and writes its record.
+#[no_mangle]
+pub extern "C" fn wenditsal_set_up(
+    engine: &mut [u8],
+    ring: usize,
+    memory: usize,
+    common: usize,
+) -> u32
+    ensures { λ r. ⌜ SetsUp (now (engine .entry)) ring memory common r (now (engine .exit)) ⌝ }
+{
+    calls::set_up(engine, ring, memory, common)
+}
+
+// Opens a client with a window; answers its id.
+#[no_mangle]
+pub extern "C" fn wenditsal_open(
+    engine: &mut [u8],
+    start: u32,
+    length: u32,
+    client: &mut u32,
+) -> u32
+    ensures { λ r. ⌜ Opens (now (engine .entry)) (record { start = start; length = length }) r (now (client .exit)) (now (engine .exit)) ⌝ }
+{
+    calls::open(engine, start, length, client)
+}
+
+// Puts a client's batch into the ring and the queue; answers its ticket.
+#[no_mangle]
+pub extern "C" fn wenditsal_submit(
+    engine: &mut [u8],
+    ring: &mut [u8],
+    client: u32,
+    batch: &[u8],
+    ticket: &mut u32,
+) -> u32
+    ensures { λ r. ⌜ Submits (now (engine .entry)) (now (ring .entry)) client (now (batch .entry))
+        r (now (ticket .exit)) (now (engine .exit)) (now (ring .exit)) ⌝ }
+{
+    calls::submit(engine, ring, client, batch, ticket)
+}
+
+// Takes the oldest batch; answers client, ticket, status, fault and place. The header has these five as a structure.
+#[no_mangle]
+pub extern "C" fn wenditsal_run(
+    engine: &mut [u8],
+    ring: &[u8],
+    memory: &mut [u8],
+    completion: &mut [u32; 5],
+) -> u32
+    ensures { λ r. ⌜ Runs (now (engine .entry)) (now (ring .entry)) (now (memory .entry))
+        r (now (completion .exit)) (now (engine .exit)) (now (memory .exit)) ⌝ }
+{
+    calls::run(engine, ring, memory, completion)
+}
+
+// Answers how many batches of a client are ready.
+#[no_mangle]
+pub extern "C" fn wenditsal_pending(engine: &[u8], client: u32, count: &mut u32) -> u32
+    ensures { λ r. ⌜ Pends (now (engine .entry)) client r (now (count .exit)) ⌝ }
+{
+    calls::pending(engine, client, count)
+}
+
+// Writes the 80 bytes of the batch of the one task with these fields to a buffer.
+#[no_mangle]
+pub extern "C" fn wenditsal_encode(fields: Fields, buffer: &mut [u8]) -> u32
+    ensures { λ r. ⌜
+        (r ≡ numberOf (answerOf fields (length (now (buffer .entry)))))
+        × (now (buffer .exit) ≡ bufferAfter fields (now (buffer .entry)))
+        ⌝ }
+{
+    let answer = encoder::encode(fields, buffer);
+    answer.number()
 }
 
 // The one setting for two, drawn one after the other. A setting is bits 7:4 of a source control word.

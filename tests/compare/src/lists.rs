@@ -1,18 +1,14 @@
-//! Lists of calls played by the engine and by the independent program.
+//! Lists of calls played at once by the engine and by the independent program.
+use crate::lent::GUARDS;
 use crate::linked;
+use crate::trials::{difference, Agreed, OUTSIDE};
 use independent::play::{play, Call, Calls, List, Played, ANSWER};
 use independent::tally::Tally;
 use independent::{page_lists, scripts};
 
-/// The first byte in which two buffers of one length differ.
-fn difference(name: &str, expected: &[u8], found: &[u8]) -> Option<String> {
-    let at = expected.iter().zip(found).position(|(a, b)| a != b)?;
-    Some(format!("{name} byte {at}: {} expected, {} found", expected[at], found[at]))
-}
-
 /// All that differs between what the independent program and the engine left.
 pub fn differences(expected: &Played, found: Option<&Played>) -> Vec<String> {
-    let Some(found) = found else { return vec!["bytes outside the lent buffers were changed".into()] };
+    let Some(found) = found else { return vec![OUTSIDE.into()] };
     let written = (expected.written != found.written)
         .then(|| format!("answer bytes: {} expected, {} found", expected.written, found.written));
     let answers = difference("answers", &expected.answers, &found.answers);
@@ -26,16 +22,14 @@ pub fn differences(expected: &Played, found: Option<&Played>) -> Vec<String> {
 fn first_call(expected: &Played, found: &Played) -> Option<String> {
     let pairs = expected.answers.chunks_exact(ANSWER).zip(found.answers.chunks_exact(ANSWER));
     let (number, (a, b)) = pairs.enumerate().find(|(_, (a, b))| a != b)?;
-    let words = |answer: &[u8]| -> Vec<u32> {
-        answer.chunks_exact(4).map(|word| u32::from_le_bytes([word[0], word[1], word[2], word[3]])).collect()
-    };
+    let words = |answer: &[u8]| independent::ring::words(answer, 0, ANSWER as u64);
     Some(format!("answer {number}: {:08X?} expected, {:08X?} found", words(a), words(b)))
 }
 
 /// The list in words, so that a difference can be looked into.
-pub fn describe(list: &List) {
+pub fn described(list: &List) -> Vec<String> {
     let (ring, memory, answers) = (list.ring.len(), list.memory.len(), list.answers.len());
-    println!("{:?}; lent: ring {ring}, memory {memory}, answers {answers}", list.numbers);
+    let mut lines = vec![format!("{:?}; lent: ring {ring}, memory {memory}, answers {answers}", list.numbers)];
     for (number, call) in Calls(&list.script).enumerate() {
         let call = match call {
             Call::Open { start, length } => format!("open {start} {length}"),
@@ -43,8 +37,20 @@ pub fn describe(list: &List) {
             Call::Run => "run".into(),
             Call::Pending { client } => format!("pending {client}"),
         };
-        println!("  answer {}: {call}", number + 1);
+        lines.push(format!("answer {}: {call}", number + 1));
     }
+    lines
+}
+
+/// What a list leaves, if both leave the same.
+pub fn agreed(list: &List, guards: usize) -> Agreed<Played> {
+    let expected = play(list);
+    let found = linked::play(list, guards);
+    let differ = differences(&expected, found.as_ref());
+    if differ.is_empty() {
+        return Ok(expected);
+    }
+    Err([differ, described(list)].concat().join("\n  "))
 }
 
 /// Whether all lists of some name agree.
@@ -52,16 +58,13 @@ fn all_agree(lists: impl Iterator<Item = List>, name: &str) -> bool {
     let mut tally = Tally::default();
     let mut count = 0;
     for list in lists {
-        let expected = play(&list);
-        let found = linked::play(&list);
-        let differ = differences(&expected, found.as_ref());
-        if !differ.is_empty() {
-            println!("list {count} {name} differs:");
-            differ.iter().for_each(|line| println!("  {line}"));
-            describe(&list);
-            return false;
+        match agreed(&list, GUARDS) {
+            Ok(played) => tally.add_list(&list, &played),
+            Err(differs) => {
+                println!("list {count} {name} differs:\n  {differs}");
+                return false;
+            }
         }
-        tally.add_list(&list, &expected);
         count += 1;
     }
     tally.print();

@@ -1,16 +1,23 @@
 //! Compares the engine with the independent program. A difference ends it with status 1.
 //!
+//! compare calls                                  every case of the calls one at a time, by the static library
 //! compare lists COUNT SEED                       random lists of calls, played by the static library
 //! compare orders COUNT SEED                      random pairs of orders of the same batches, likewise
 //! compare pages                                  two surfaces at every place about each other, by the static library
 //! compare settings                               every two settings composed by the static library, held to pictures
+//! compare fuzz SECONDS SEED                      random and damaged input of every kind, until the time is over
 //! compare replays COUNT SEED PROGRAM [WORD ..]   random replay files, on PROGRAM's standard input
 //! compare cuts FILE PROGRAM [WORD ..]            a replay file cut at every byte
+mod bench;
+mod cases;
+mod fuzz;
+mod lent;
 mod linked;
 mod lists;
 mod orders;
 mod replays;
 mod settings;
+mod trials;
 
 use std::io::{Error, Result};
 use std::process::ExitCode;
@@ -22,14 +29,17 @@ fn number(word: &str) -> Result<u64> {
 /// Whether all agrees.
 fn compared(words: &[&str]) -> Result<bool> {
     match words {
+        ["calls"] => Ok(cases::compare()),
         ["lists", count, seed] => Ok(lists::compare(number(count)?, number(seed)?)),
         ["orders", count, seed] => Ok(orders::compare(number(count)?, number(seed)?)),
         ["pages"] => Ok(lists::pages()),
         ["settings"] => Ok(settings::compare()),
+        ["fuzz", seconds, seed] => Ok(fuzz::compare(number(seconds)?, number(seed)?)),
         ["replays", count, seed, program @ ..] => replays::compare(number(count)?, number(seed)?, program),
         ["cuts", file, program @ ..] => replays::cuts(file, program),
         _ => Err(Error::other(
-            "usage: lists COUNT SEED | orders COUNT SEED | pages | settings | replays COUNT SEED PROGRAM | cuts FILE PROGRAM",
+            "usage: calls | lists COUNT SEED | orders COUNT SEED | pages | settings | fuzz SECONDS SEED \
+             | replays COUNT SEED PROGRAM | cuts FILE PROGRAM",
         )),
     }
 }

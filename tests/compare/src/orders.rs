@@ -1,9 +1,10 @@
 //! Random pairs of orders (02, 9) played by the engine and by the independent program: in both orders memory is the same at
 //! the end, and so are status, fault and place of each client's first batch, of its second, and so on.
+use crate::lent::GUARDS;
 use crate::linked;
-use crate::lists::{describe, differences};
+use crate::lists::{agreed, described};
+use crate::trials::OUTSIDE;
 use independent::orders::{outcome, pair, turns, Outcome};
-use independent::play::play;
 use independent::tally::Tally;
 
 /// What the engine makes of both orders differs here.
@@ -22,26 +23,21 @@ fn differ(number: u64, seed: u64, tally: &mut Tally) -> Vec<String> {
     let mut outcomes = Vec::new();
     let mut orders = Vec::new();
     for list in &pair {
-        let expected = play(list);
-        let found = linked::play(list);
-        let differ = differences(&expected, found.as_ref());
-        if !differ.is_empty() {
-            describe(list);
-            return differ;
+        match agreed(list, GUARDS) {
+            Ok(expected) => tally.add_list(list, &expected),
+            Err(differs) => return vec![differs],
         }
-        tally.add_list(list, &expected);
-        // Nothing differs, so something was found.
-        let found = found.unwrap_or(expected);
+        let Some(found) = linked::play(list, GUARDS) else { return vec![OUTSIDE.into()] };
         orders.push(turns(list, &found));
         outcomes.push(outcome(list, &found));
     }
     tally.add("pairs".into(), 1);
     tally.add("pairs that execute clients' batches in two orders".into(), u64::from(orders[0] != orders[1]));
     let changes = changes(&outcomes[0], &outcomes[1]);
-    if !changes.is_empty() {
-        pair.iter().for_each(describe);
+    if changes.is_empty() {
+        return changes;
     }
-    changes
+    pair.iter().fold(changes, |lines, list| [lines, described(list)].concat())
 }
 
 /// Whether so many pairs of a seed agree.

@@ -1,8 +1,8 @@
 //! Settings that the library composes, held to pictures: of every two settings, drawn one after the other and at once.
+use crate::lent::GUARDS;
 use crate::linked;
-use crate::lists::differences;
+use crate::lists::agreed;
 use independent::compositions::{bits, same_orientation, Drawing, SIDES};
-use independent::play::play;
 use independent::transform::{settings, Setting, Size};
 
 /// Bits that are no part of a setting.
@@ -11,11 +11,10 @@ const OTHERS: u32 = !0xF0;
 /// What is wrong with one drawing of two settings, if anything is.
 fn fault(drawing: &Drawing, composed: u32) -> Option<String> {
     let list = drawing.list(composed);
-    let found = linked::play(&list);
-    if let Some(differs) = differences(&play(&list), found.as_ref()).into_iter().next() {
+    if let Err(differs) = agreed(&list, GUARDS) {
         return Some(differs);
     }
-    let memory = found?.memory;
+    let memory = linked::play(&list, GUARDS)?.memory;
     let expected = drawing.expected(&list.memory);
     let twice = drawing.pixels(drawing.twice(), &memory) == expected;
     let once = drawing.pixels(drawing.once(), &memory) == expected;
@@ -45,7 +44,7 @@ fn square(setting: Setting) -> Vec<Vec<u8>> {
     let drawing = Drawing { first: setting, second: neutral, size: Size { width: 2, height: 2 }, format: 0 };
     let mut list = drawing.list(bits(setting));
     list.memory.iter_mut().enumerate().for_each(|(at, byte)| *byte = at as u8);
-    linked::play(&list).map_or_else(Vec::new, |played| drawing.pixels(drawing.between(), &played.memory))
+    linked::play(&list, GUARDS).map_or_else(Vec::new, |played| drawing.pixels(drawing.between(), &played.memory))
 }
 
 /// Whether exactly settings of one orientation draw the 2 by 2 picture alike.

@@ -31,7 +31,6 @@ impl Fault {
 /// The tasks in order, the fault that ended the reading, if one did, and the registers there. Tasks before a fault are listed too.
 pub struct Reading {
     pub tasks: Vec<Task>,
-    pub banks: Vec<Bank>,
     pub fault: Option<Fault>,
     pub last: Bank,
 }
@@ -88,7 +87,7 @@ fn write(group: &Group, bank: &mut Bank) -> Result<(), Fault> {
 
 /// Reads a batch from a starting bank.
 pub fn read(words: &[u32], bounds: &Bounds, start: &Bank) -> Reading {
-    let mut reading = Reading { tasks: Vec::new(), banks: Vec::new(), fault: None, last: start.clone() };
+    let mut reading = Reading { tasks: Vec::new(), fault: None, last: start.clone() };
     reading.fault = read_into(words, bounds, &mut reading).err();
     reading
 }
@@ -106,7 +105,6 @@ fn read_into(words: &[u32], bounds: &Bounds, reading: &mut Reading) -> Result<()
                 return Err(Fault { number, place: group.place });
             }
             reading.tasks.push(task);
-            reading.banks.push(reading.last.clone());
             open = None;
         }
         at += 1 + group.words.len();
@@ -169,13 +167,9 @@ pub fn judge(task: &Task, bounds: &Bounds) -> Option<u32> {
 #[cfg(test)]
 mod tests {
     use super::*;
+    use crate::writer::WORKED;
 
-    /// The worked words of 01: one task of a desk whose window is 12,288 bytes from 16,384 on.
-    const WORKED: [u32; 20] = [
-        0x00100014, 0x00000005, 0x00010002, 0x00000000, 0x80FF0000, 0x00000000, 0x0050000C, 0, 0, 0, 0x00600004, 0,
-        0x00900004, 0x00001300, 0x0100000C, 0x00000000, 0x00010002, 0x00000008, 0x01100005, 0x00004000,
-    ];
-
+    /// The worked words are one task of a desk with this window.
     fn bounds() -> Bounds {
         Bounds { window: 16384..28672, common: 16384 }
     }

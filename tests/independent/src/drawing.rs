@@ -58,7 +58,7 @@ pub fn drawn_batch(words: &[u32], bounds: &Bounds, memory: &[u8]) -> ([u32; 3], 
 #[cfg(test)]
 mod tests {
     use super::*;
-    use crate::batch_cases::WORKED;
+    use crate::writer::WORKED;
 
     /// The worked words fill two pixels of half-clear red.
     #[test]

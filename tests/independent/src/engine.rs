@@ -23,7 +23,7 @@ pub struct Numbers {
 
 impl Numbers {
     /// 1 and 2.
-    fn refusal(self) -> Option<Refusal> {
+    pub fn refusal(self) -> Option<Refusal> {
         if self.ring == 0 || self.ring > 32768 || self.ring % 128 != 0 {
             return Some(1);
         }
@@ -178,7 +178,8 @@ impl RingBytes {
 #[cfg(test)]
 mod tests {
     use super::*;
-    use crate::batch_cases::{bytes, WORKED};
+    use crate::words::bytes;
+    use crate::writer::WORKED;
 
     fn book() -> Book {
         let numbers = Numbers { ring: 128, memory: 65536, common: 16384 };

@@ -1,10 +1,10 @@
 //! Random batches for a client: of tasks that pass, with one fault made somewhere, of few registers, damaged, or noise.
 use crate::batch::Bounds;
-use crate::batch_cases::bytes;
 use crate::made_tasks::{broken, good, Fields};
 use crate::random::Random;
 use crate::registers::{offsets, Bank, Refusal};
 use crate::ring;
+use crate::words::bytes;
 use crate::writer::{registers, written, GROUPS};
 
 /// Words of a whole task, as the writer writes it.

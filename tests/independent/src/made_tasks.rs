@@ -4,26 +4,13 @@ use crate::batch::{judge, Bounds};
 use crate::pixel::{format, FORMATS, RULES};
 use crate::random::Random;
 use crate::surface::Run;
+use crate::writer::field::{
+    ADDRESS, BLEND, DESTINATION_ENABLE, FORMAT, HEIGHT, SOURCE_ENABLE, SOURCE_MODE, STRIDE, TURNS, WIDTH,
+};
+pub use crate::writer::field::{DESTINATION, OUTPUT, SOURCE};
 use crate::writer::{registers, reset_with};
 
 pub type Fields = [u32; 29];
-
-/// The first field of each surface: width, height, stride, address and format stand in this order from there on.
-pub const SOURCE: usize = 0;
-pub const DESTINATION: usize = 13;
-pub const OUTPUT: usize = 21;
-
-const WIDTH: usize = 0;
-const HEIGHT: usize = 1;
-const STRIDE: usize = 2;
-const ADDRESS: usize = 3;
-const FORMAT: usize = 4;
-
-const SOURCE_MODE: usize = 7;
-const SOURCE_ENABLE: usize = 9;
-const TURNS: usize = 12;
-const DESTINATION_ENABLE: usize = 20;
-const BLEND: usize = 28;
 
 /// Width and height.
 type Sides = (u32, u32);

@@ -53,11 +53,8 @@ fn widened(value: u8, width: u32) -> u8 {
     value << (8 - width) | value >> (2 * width - 8)
 }
 
-/// The greatest sum of two products of bytes.
-pub const GREATEST_SUM: u32 = 2 * 255 * 255;
-
 /// The whole part of (n + 127) / 255: one more than that of n / 255 where the remainder is above 127.
-pub fn near(n: u32) -> u32 {
+fn near(n: u32) -> u32 {
     n / 255 + u32::from(n % 255 > 127)
 }
 
@@ -101,7 +98,7 @@ pub fn rule(name: &str) -> u8 {
 }
 
 /// One channel of a source and a destination under two factors.
-pub fn blend_channel(s: u8, fs: u8, d: u8, fd: u8) -> u8 {
+fn blend_channel(s: u8, fs: u8, d: u8, fd: u8) -> u8 {
     let sum = u32::from(s) * u32::from(fs) + u32::from(d) * u32::from(fd);
     u8::try_from(near(sum)).unwrap_or(255)
 }
@@ -151,6 +148,6 @@ mod tests {
     fn formulas() {
         assert!((0..32u8).all(|r| u32::from(widened(r, 5)) == u32::from(r) * 8 + u32::from(r) / 4));
         assert!((0..64u8).all(|g| u32::from(widened(g, 6)) == u32::from(g) * 4 + u32::from(g) / 16));
-        assert!((0..=GREATEST_SUM).all(|n| near(n) == (n + 127) / 255));
+        assert!((0..=2 * 255 * 255).all(|n| near(n) == (n + 127) / 255));
     }
 }

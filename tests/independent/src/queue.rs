@@ -1,19 +1,15 @@
-//! The engine record and the calls that don't draw (01, "Engine, desks, queue").
+//! The engine record, its rules, and the calls on it (01, "Engine, desks, queue").
+use crate::batch::Bounds;
+use crate::drawing;
+use crate::engine::{Completion, Numbers, Refusal};
 use crate::ring;
 use crate::surface::{run, shares, Run};
 
-pub const PLACES: usize = 4;
+const PLACES: usize = 4;
 pub const SLOTS: usize = 8;
 
-#[derive(Clone, Copy, Debug, PartialEq)]
-pub struct Setup {
-    pub ring: u64,
-    pub memory: u64,
-    pub common: u64,
-}
-
 #[derive(Clone, Copy, Debug, Default, PartialEq)]
-pub struct Desk {
+pub struct Client {
     pub start: u32,
     pub length: u32,
     pub pending: u32,
@@ -21,7 +17,7 @@ pub struct Desk {
 
 #[derive(Clone, Copy, Debug, PartialEq)]
 pub struct Ready {
-    pub desk: u32,
+    pub client: u32,
     pub ticket: u32,
     pub offset: u64,
     pub length: u64,
@@ -29,59 +25,48 @@ pub struct Ready {
 
 #[derive(Clone, Debug, PartialEq)]
 pub struct Record {
-    pub setup: Setup,
-    pub desks: [Desk; PLACES],
+    pub numbers: Numbers,
+    pub clients: [Client; PLACES],
     pub open: u64,
     pub slots: [Option<Ready>; SLOTS],
     pub read: u64,
     pub next: u32,
 }
 
-/// A refusal's number.
-pub type Refusal = u32;
-
 /// The record of an accepted set up.
-pub fn set_up(setup: Setup) -> Result<Record, Refusal> {
-    if let Some(number) = bad_numbers(setup) {
+pub fn set_up(numbers: Numbers) -> Result<Record, Refusal> {
+    if let Some(number) = numbers.refusal() {
         return Err(number);
     }
-    let desks = [Desk::default(); PLACES];
-    Ok(Record { setup, desks, open: 0, slots: [None; SLOTS], read: 0, next: 0 })
-}
-
-/// 1 and 2.
-fn bad_numbers(setup: Setup) -> Option<Refusal> {
-    if setup.ring == 0 || setup.ring > 32768 || setup.ring % 128 != 0 {
-        return Some(1);
-    }
-    (setup.memory > 16777216 || setup.common > setup.memory).then_some(2)
+    let clients = [Client::default(); PLACES];
+    Ok(Record { numbers, clients, open: 0, slots: [None; SLOTS], read: 0, next: 0 })
 }
 
 /// 6.
-fn bad_length(setup: Setup, length: u64) -> bool {
-    length == 0 || length % 4 != 0 || length > setup.ring
+fn bad_length(numbers: Numbers, length: u64) -> bool {
+    length == 0 || length % 4 != 0 || length > numbers.ring
 }
 
 impl Record {
-    fn window(&self, desk: usize) -> Run {
-        run(self.desks[desk].start, self.desks[desk].length)
+    fn window(&self, client: usize) -> Run {
+        run(self.clients[client].start, self.clients[client].length)
     }
 
-    fn open_desks(&self) -> usize {
-        usize::try_from(self.open).expect("a small number of desks")
+    fn open_clients(&self) -> usize {
+        usize::try_from(self.open).expect("a small number of clients")
     }
 
-    /// 4, beside the windows of the desks below `before`.
+    /// 4, beside the windows of the clients below `before`.
     fn bad_window(&self, window: Run, before: usize) -> bool {
         window.is_empty()
-            || window.end > self.setup.memory
-            || shares(&window, &(0..self.setup.common))
-            || (0..before).any(|desk| shares(&window, &self.window(desk)))
+            || window.end > self.numbers.memory
+            || shares(&window, &(0..self.numbers.common))
+            || (0..before).any(|client| shares(&window, &self.window(client)))
     }
 
     /// The ready batches from the oldest, as the tickets below the next one number them; none if some ticket is missing or
     /// out of line.
-    pub fn waiting(&self) -> Option<Vec<Ready>> {
+    fn waiting(&self) -> Option<Vec<Ready>> {
         let count = self.slots.iter().flatten().count() as u32;
         (0..count)
             .map(|i| {
@@ -94,98 +79,113 @@ impl Record {
     /// Whether ready batches lie end to end from the read offset, with allowed lengths, in total at most the ring.
     fn lies_end_to_end(&self, waiting: &[Ready]) -> bool {
         let mut place = self.read;
-        let mut room = self.setup.ring;
+        let mut room = self.numbers.ring;
         for ready in waiting {
-            if bad_length(self.setup, ready.length) || ready.offset != place || ready.length > room {
+            if bad_length(self.numbers, ready.length) || ready.offset != place || ready.length > room {
                 return false;
             }
-            place = (place + ready.length) % self.setup.ring;
+            place = (place + ready.length) % self.numbers.ring;
             room -= ready.length;
         }
         true
     }
 
-    fn count_of(&self, desk: u32) -> u32 {
-        self.slots.iter().flatten().filter(|ready| ready.desk == desk).count() as u32
+    fn count_of(&self, client: u32) -> u32 {
+        self.slots.iter().flatten().filter(|ready| ready.client == client).count() as u32
     }
 
     /// The record rules.
-    pub fn is_valid(&self) -> bool {
-        if bad_numbers(self.setup).is_some() || self.open > PLACES as u64 {
+    fn is_valid(&self) -> bool {
+        if self.numbers.refusal().is_some() || self.open > PLACES as u64 {
             return false;
         }
-        let desks = self.open_desks();
-        let windows = (0..desks).all(|desk| !self.bad_window(self.window(desk), desk));
-        let read = self.read % 4 == 0 && self.read < self.setup.ring;
+        let clients = self.open_clients();
+        let windows = (0..clients).all(|client| !self.bad_window(self.window(client), client));
+        let read = self.read % 4 == 0 && self.read < self.numbers.ring;
         let Some(waiting) = self.waiting() else { return false };
-        let owned = waiting.iter().all(|ready| u64::from(ready.desk) < self.open);
-        let counted = (0..desks).all(|desk| self.desks[desk].pending == self.count_of(desk as u32));
+        let owned = waiting.iter().all(|ready| u64::from(ready.client) < self.open);
+        let counted = (0..clients).all(|client| self.clients[client].pending == self.count_of(client as u32));
         windows && read && owned && counted && self.lies_end_to_end(&waiting)
     }
 
-    /// The desk's id.
+    /// The client's id.
     pub fn open(&mut self, start: u32, length: u32) -> Result<u32, Refusal> {
         if !self.is_valid() {
             return Err(11);
         }
-        let desk = self.open_desks();
-        if desk == PLACES {
+        let client = self.open_clients();
+        if client == PLACES {
             return Err(3);
         }
-        if self.bad_window(run(start, length), desk) {
+        if self.bad_window(run(start, length), client) {
             return Err(4);
         }
-        self.desks[desk] = Desk { start, length, pending: 0 };
+        self.clients[client] = Client { start, length, pending: 0 };
         self.open += 1;
-        Ok(desk as u32)
+        Ok(client as u32)
     }
 
     /// The ticket. The batch is copied into the ring after the newest one.
-    pub fn submit(&mut self, lent: &mut Vec<u8>, desk: u32, batch: &[u8]) -> Result<u32, Refusal> {
+    pub fn submit(&mut self, lent: &mut Vec<u8>, client: u32, batch: &[u8]) -> Result<u32, Refusal> {
         if !self.is_valid() {
             return Err(11);
         }
-        if lent.len() as u64 != self.setup.ring {
+        if lent.len() as u64 != self.numbers.ring {
             return Err(10);
         }
-        if u64::from(desk) >= self.open {
+        if u64::from(client) >= self.open {
             return Err(5);
         }
         let length = batch.len() as u64;
-        if bad_length(self.setup, length) {
+        if bad_length(self.numbers, length) {
             return Err(6);
         }
         let slot = self.slots.iter().position(Option::is_none).ok_or(7u32)?;
         let taken: u64 = self.slots.iter().flatten().map(|ready| ready.length).sum();
-        if self.setup.ring - taken < length {
+        if self.numbers.ring - taken < length {
             return Err(8);
         }
-        let offset = (self.read + taken) % self.setup.ring;
+        let offset = (self.read + taken) % self.numbers.ring;
         *lent = ring::copied(lent, offset, batch).expect("a batch in the ring");
         let ticket = self.next;
-        self.slots[slot] = Some(Ready { desk, ticket, offset, length });
+        self.slots[slot] = Some(Ready { client, ticket, offset, length });
         self.next = ticket.wrapping_add(1);
-        self.desks[desk as usize].pending += 1;
+        self.clients[client as usize].pending += 1;
         Ok(ticket)
     }
 
-    pub fn pending(&self, desk: u32) -> Result<u32, Refusal> {
+    pub fn pending(&self, client: u32) -> Result<u32, Refusal> {
         if !self.is_valid() {
             return Err(11);
         }
-        if u64::from(desk) >= self.open {
+        if u64::from(client) >= self.open {
             return Err(5);
         }
-        Ok(self.desks[desk as usize].pending)
+        Ok(self.clients[client as usize].pending)
     }
 
-    /// Takes the oldest batch out of a valid record, as run does.
-    pub fn take_oldest(&mut self) -> Option<Ready> {
+    /// The oldest batch is judged, drawn and taken out.
+    pub fn run(&mut self, lent: &[u8], memory: &mut Vec<u8>) -> Result<Completion, Refusal> {
+        if !self.is_valid() {
+            return Err(11);
+        }
+        if lent.len() as u64 != self.numbers.ring || memory.len() as u64 != self.numbers.memory {
+            return Err(10);
+        }
+        let Ready { client, ticket, offset, length } = self.take_oldest().ok_or(9u32)?;
+        let bounds = Bounds { window: self.window(client as usize), common: self.numbers.common };
+        let ([status, fault, place], after) = drawing::drawn_batch(&ring::words(lent, offset, length), &bounds, memory);
+        *memory = after;
+        Ok(Completion { client, ticket, status, fault, place })
+    }
+
+    /// Takes the oldest batch out of a valid record.
+    fn take_oldest(&mut self) -> Option<Ready> {
         let oldest = *self.waiting()?.first()?;
         let slot = self.slots.iter().position(|slot| *slot == Some(oldest))?;
         self.slots[slot] = None;
-        self.desks[oldest.desk as usize].pending -= 1;
-        self.read = (self.read + oldest.length) % self.setup.ring;
+        self.clients[oldest.client as usize].pending -= 1;
+        self.read = (self.read + oldest.length) % self.numbers.ring;
         Some(oldest)
     }
 }
@@ -195,7 +195,7 @@ mod tests {
     use super::*;
 
     fn record() -> Record {
-        let mut record = set_up(Setup { ring: 128, memory: 1024, common: 256 }).unwrap();
+        let mut record = set_up(Numbers { ring: 128, memory: 1024, common: 256 }).unwrap();
         assert_eq!(record.open(256, 256), Ok(0));
         assert_eq!(record.open(512, 512), Ok(1));
         record
@@ -207,8 +207,8 @@ mod tests {
         assert_eq!(record.open(255, 1), Err(4));
         assert_eq!(record.open(1024, 1), Err(4));
         assert_eq!(record.open(1000, 0), Err(4));
-        assert_eq!(set_up(Setup { ring: 100, memory: 0, common: 1 }), Err(1));
-        assert_eq!(set_up(Setup { ring: 128, memory: 0, common: 1 }), Err(2));
+        assert_eq!(set_up(Numbers { ring: 100, memory: 0, common: 1 }), Err(1));
+        assert_eq!(set_up(Numbers { ring: 128, memory: 0, common: 1 }), Err(2));
     }
 
     #[test]

@@ -47,8 +47,4 @@ impl Random {
     pub fn bytes(&mut self, count: usize) -> Vec<u8> {
         (0..count).map(|_| self.byte()).collect()
     }
-
-    pub fn colour(&mut self) -> [u8; 4] {
-        self.word().to_be_bytes()
-    }
 }

@@ -67,18 +67,8 @@ impl Bank {
         Bank(BTreeMap::from([(0x090, 0x0000_1300)]))
     }
 
-    /// A bank of any words, writable by a batch or not, in the order of `offsets`.
-    pub fn of(words: &[u32]) -> Self {
-        Bank(offsets().into_iter().zip(words.iter().copied()).collect())
-    }
-
     pub fn word(&self, offset: u32) -> u32 {
         self.0.get(&offset).copied().unwrap_or(0)
-    }
-
-    /// All registers' words, from the lowest offset.
-    pub fn words(&self) -> Vec<u32> {
-        offsets().into_iter().map(|offset| self.word(offset)).collect()
     }
 
     pub fn write(&mut self, offset: u32, word: u32) -> Result<(), Refusal> {

@@ -2,7 +2,7 @@
 use crate::engine::{Book, Numbers};
 use crate::words::read_be32;
 
-const RING: u64 = 32768;
+pub const RING: u64 = 32768;
 pub const MEMORY: u32 = 65536;
 pub const COMMON: u32 = 16384;
 pub const WINDOW: u32 = 12288;
@@ -82,7 +82,8 @@ pub fn record(client: u8, batch: &[u8]) -> Vec<u8> {
 #[cfg(test)]
 mod tests {
     use super::*;
-    use crate::batch_cases::{bytes, WORKED};
+    use crate::words::bytes;
+    use crate::writer::WORKED;
 
     fn lines(parts: &[&[u8]]) -> String {
         replayed(&parts.concat()).0

@@ -1,12 +1,12 @@
 //! The replay files of the samples, one function each.
-use crate::batch_cases::{bytes, WORKED};
 use crate::made_batches::difference;
 use crate::made_tasks::Fields;
 use crate::pixel::RULES;
 use crate::registers::Bank;
 use crate::replay::{record, window_start};
 use crate::sample_tasks::{batch, blended, copy, file, fill, Place, ARGB8888, RGB565, RGB888};
-use crate::writer::registers;
+use crate::words::bytes;
+use crate::writer::{registers, WORKED};
 
 fn worked_with(changes: &[(usize, u32)]) -> Vec<u32> {
     let mut words = WORKED.to_vec();

@@ -1,6 +1,5 @@
 //! Runs of bytes, and rectangles of pixels in memory (01, "Faults of a taken batch" and "Pixels"; 02, request 7).
 use crate::pixel::{Colour, Format};
-use crate::words;
 use std::ops::Range;
 
 /// A run of bytes, as the first and the one past the last.
@@ -40,7 +39,7 @@ impl Surface {
     }
 
     /// The first byte of a row, reached row by row.
-    pub fn row_start(&self, y: u16) -> u64 {
+    fn row_start(&self, y: u16) -> u64 {
         (0..y).fold(u64::from(self.address), |at, _| at + u64::from(self.stride))
     }
 
@@ -85,7 +84,7 @@ impl Surface {
 }
 
 /// The stored pixel at an address, if it lies in memory.
-pub fn fetch(memory: &[u8], at: u64, format: &Format) -> Option<u32> {
+fn fetch(memory: &[u8], at: u64, format: &Format) -> Option<u32> {
     let at = usize::try_from(at).ok()?;
     let bytes = memory.get(at..at.checked_add(format.bytes)?)?;
     let mut four = [0; 4];
@@ -96,12 +95,6 @@ pub fn fetch(memory: &[u8], at: u64, format: &Format) -> Option<u32> {
 /// The colour of the pixel at an address.
 pub fn load(memory: &[u8], at: u64, format: &Format) -> Option<Colour> {
     fetch(memory, at, format).map(|pixel| format.unpack(pixel))
-}
-
-/// Memory after a colour was stored as the pixel at an address.
-pub fn stored(memory: &[u8], at: u64, format: &Format, colour: Colour) -> Option<Vec<u8>> {
-    let bytes = format.pack(colour).to_le_bytes();
-    words::replaced(memory, usize::try_from(at).ok()?, &bytes[..format.bytes])
 }
 
 #[cfg(test)]
@@ -165,10 +158,8 @@ mod tests {
     /// Bytes B, G, R, A; B, G, R; and 565 low byte first.
     #[test]
     fn bytes_in_memory() {
-        let colour = [1, 2, 3, 4];
-        assert_eq!(stored(&[9; 5], 1, format(0x00).unwrap(), colour), Some(vec![9, 4, 3, 2, 1]));
-        assert_eq!(stored(&[9; 5], 1, format(0x08).unwrap(), colour), Some(vec![9, 4, 3, 2, 9]));
-        assert_eq!(stored(&[9; 5], 1, format(0x0E).unwrap(), [255, 16, 69, 165]), Some(vec![9, 0x34, 0x12, 9, 9]));
+        assert_eq!(load(&[9, 4, 3, 2, 1], 1, format(0x00).unwrap()), Some([1, 2, 3, 4]));
+        assert_eq!(load(&[9, 4, 3, 2, 1], 1, format(0x08).unwrap()), Some([255, 2, 3, 4]));
         assert_eq!(load(&[9, 0x34, 0x12], 1, format(0x0E).unwrap()), Some([255, 16, 69, 165]));
         assert_eq!(load(&[9, 0x34], 1, format(0x0E).unwrap()), None);
     }

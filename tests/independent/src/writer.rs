@@ -19,8 +19,43 @@ pub const FIELDS: [(u32, u32, u32); 29] = [
     (0x090, 11, 3), (0x090, 8, 3), (0x090, 0, 1),
 ];
 
+/// Places in that order.
+pub mod field {
+    /// The first field of each surface: width, height, stride, address and format stand in this order from there on.
+    pub const SOURCE: usize = 0;
+    pub const DESTINATION: usize = 13;
+    pub const OUTPUT: usize = 21;
+
+    pub const WIDTH: usize = 0;
+    pub const HEIGHT: usize = 1;
+    pub const STRIDE: usize = 2;
+    pub const ADDRESS: usize = 3;
+    pub const FORMAT: usize = 4;
+
+    pub const SOURCE_ALPHA_MODE: usize = 5;
+    pub const SOURCE_GLOBAL_ALPHA: usize = 6;
+    pub const SOURCE_MODE: usize = 7;
+    pub const COLOUR: usize = 8;
+    pub const SOURCE_ENABLE: usize = 9;
+    pub const FLIP_H: usize = 10;
+    pub const FLIP_V: usize = 11;
+    pub const TURNS: usize = 12;
+    pub const DESTINATION_ALPHA_MODE: usize = 18;
+    pub const DESTINATION_GLOBAL_ALPHA: usize = 19;
+    pub const DESTINATION_ENABLE: usize = 20;
+    pub const SOURCE_FACTOR: usize = 26;
+    pub const DESTINATION_FACTOR: usize = 27;
+    pub const BLEND: usize = 28;
+}
+
 /// The groups of a task: the first register's offset and how many follow. The last one ends the task.
 pub const GROUPS: [(u32, u32); 6] = [(0x010, 5), (0x050, 3), (0x060, 1), (0x090, 1), (0x100, 3), (0x110, 1)];
+
+/// The worked words of 01: colour 0x80FF0000, 2 by 1, at 16384, stride 8, rest at reset.
+pub const WORKED: [u32; 20] = [
+    0x00100014, 0x00000005, 0x00010002, 0x00000000, 0x80FF0000, 0x00000000, 0x0050000C, 0x00000000, 0x00000000, 0x00000000,
+    0x00600004, 0x00000000, 0x00900004, 0x00001300, 0x0100000C, 0x00000000, 0x00010002, 0x00000008, 0x01100005, 0x00004000,
+];
 
 /// What a task's registers hold, if every field fits its bits and its register's rule.
 pub fn registers(fields: &[u32; 29]) -> Option<Bank> {
@@ -73,9 +108,8 @@ pub fn reset_with(changes: &[(usize, u32)]) -> [u32; 29] {
 #[cfg(test)]
 mod tests {
     use super::*;
-    use crate::batch_cases::{bytes, WORKED};
+    use crate::words::bytes;
 
-    /// Colour 0x80FF0000, 2 by 1, at 16384, stride 8, rest at reset.
     #[test]
     fn worked_words() {
         let fields = reset_with(&[(0, 2), (1, 1), (7, 1), (8, 0x80FF0000), (9, 1), (21, 2), (22, 1), (23, 8), (24, 16384)]);

@@ -1,7 +1,7 @@
 use Prim.Native.Nat.{_≤_}
 use native.Mathlib.Omega.{arith}
 use lib.ListN.{length}
-use Rattle.session.proofs.Numbers.{run-small}
+use Rattle.answers.proofs.Numbers.{run-small}
 use Rattle.session.proofs.Turns.{batch-lies, open-plays, submit-plays, run-plays, pending-plays}
 use borrow.Author.Needs.{needs}
 use Rattle.session.proofs.play_call.Statement.{statement}

@@ -1,0 +1,206 @@
+//! What calls answer: refusals by name, and run's completion with its fault by name.
+use crate::library::CompletionFields;
+use std::fmt;
+
+/// Why a call was refused. A refused call changes nothing.
+#[derive(Clone, Copy, Debug, PartialEq, Eq, Hash)]
+#[non_exhaustive]
+pub enum Refusal {
+    /// 1, by set up: the ring length is 0, over 32,768, or no multiple of 128.
+    RingLength,
+    /// 2, by set up: the memory length is over 16,777,216, or the common length over the memory length.
+    MemoryLength,
+    /// 3, by open: four clients are open.
+    FourClients,
+    /// 4, by open: the window is empty, past memory's end, or shares a byte with common or another window.
+    BadWindow,
+    /// 5, by submit and pending: there is no such client.
+    NoClient,
+    /// 6, by submit: the batch's length is 0, no multiple of 4, or over the ring length.
+    BatchLength,
+    /// 7, by submit: no slot is free, eight batches are ready.
+    NoSlot,
+    /// 8, by submit: the ring has fewer free bytes than the batch.
+    NoRoom,
+    /// 9, by run: no batch is ready.
+    NothingReady,
+    /// 10, by [`Engine::from_parts`](crate::Engine::from_parts): ring or memory is not of the length that was set up.
+    OtherLength,
+    /// 11, by [`Engine::from_parts`](crate::Engine::from_parts): the bytes are no engine record, or one that breaks a rule.
+    BadEngine,
+    /// 12, by the library's encoder: a buffer under 80 bytes. [`Task::encode`](crate::Task::encode) never lends one.
+    ShortBuffer,
+    /// 24, by [`Task::encode`](crate::Task::encode): a field that its register's rule forbids.
+    ForbiddenField,
+    /// A number that this version of the package has no name for.
+    Other(u32),
+}
+
+/// Every refusal that has a name, by its number.
+const REFUSALS: [(u32, Refusal); 13] = [
+    (1, Refusal::RingLength),
+    (2, Refusal::MemoryLength),
+    (3, Refusal::FourClients),
+    (4, Refusal::BadWindow),
+    (5, Refusal::NoClient),
+    (6, Refusal::BatchLength),
+    (7, Refusal::NoSlot),
+    (8, Refusal::NoRoom),
+    (9, Refusal::NothingReady),
+    (10, Refusal::OtherLength),
+    (11, Refusal::BadEngine),
+    (12, Refusal::ShortBuffer),
+    (24, Refusal::ForbiddenField),
+];
+
+impl Refusal {
+    /// The number that the library returns.
+    ///
+    /// ```
+    /// assert_eq!(wenditsal::Refusal::NothingReady.number(), 9);
+    /// ```
+    pub fn number(self) -> u32 {
+        match self {
+            Refusal::Other(number) => number,
+            named => REFUSALS.iter().find(|row| row.1 == named).map_or(0, |row| row.0),
+        }
+    }
+
+    /// What the library returned: 0 if the call was accepted.
+    pub(crate) fn check(number: u32) -> Result<(), Refusal> {
+        if number == 0 {
+            return Ok(());
+        }
+        let named = REFUSALS.iter().find(|row| row.0 == number);
+        Err(named.map_or(Refusal::Other(number), |row| row.1))
+    }
+
+    fn reason(self) -> &'static str {
+        match self {
+            Refusal::RingLength => "the ring length is 0, over 32,768, or no multiple of 128",
+            Refusal::MemoryLength => "the memory length is over 16,777,216, or the common length over it",
+            Refusal::FourClients => "four clients are open",
+            Refusal::BadWindow => "the window is empty, past memory's end, or shares a byte with common or another window",
+            Refusal::NoClient => "no such client",
+            Refusal::BatchLength => "the batch's length is 0, no multiple of 4, or over the ring length",
+            Refusal::NoSlot => "no free slot: eight batches are ready",
+            Refusal::NoRoom => "fewer free bytes in the ring than the batch has",
+            Refusal::NothingReady => "no batch is ready",
+            Refusal::OtherLength => "ring or memory is not of the length that was set up",
+            Refusal::BadEngine => "no engine record, or one that breaks a rule",
+            Refusal::ShortBuffer => "a buffer under 80 bytes",
+            Refusal::ForbiddenField => "a field that its register's rule forbids",
+            Refusal::Other(_) => "a reason without a name here",
+        }
+    }
+}
+
+impl fmt::Display for Refusal {
+    fn fmt(&self, f: &mut fmt::Formatter<'_>) -> fmt::Result {
+        write!(f, "refused with {}: {}", self.number(), self.reason())
+    }
+}
+
+impl std::error::Error for Refusal {}
+
+/// Why a batch that was run drew nothing.
+#[derive(Clone, Copy, Debug, PartialEq, Eq, Hash)]
+#[non_exhaustive]
+pub enum Fault {
+    /// 20: header bit 1, 16 or 17 is set.
+    HeaderBits,
+    /// 21: a group's length is 0, or reaches past the batch's end.
+    GroupLength,
+    /// 22: the last group does not end a task.
+    NoTaskEnd,
+    /// 23: the offset is not that of a writable register.
+    NotWritable,
+    /// 24: a bit or a code that the register does not allow.
+    NotAllowed,
+    /// 25: a surface's side or stride is wrong, or a surface that is needed is disabled.
+    BadSurface,
+    /// 26: sizes do not go together, or a turn in colour mode.
+    BadSizes,
+    /// 27: a span not wholly in the client's window, or, for what is read, wholly in common.
+    OutOfReach,
+    /// 28: the output meets what is read.
+    Meets,
+    /// A number that this version of the package has no name for.
+    Other(u32),
+}
+
+/// Every fault that has a name, by its number.
+const FAULTS: [(u32, Fault); 9] = [
+    (20, Fault::HeaderBits),
+    (21, Fault::GroupLength),
+    (22, Fault::NoTaskEnd),
+    (23, Fault::NotWritable),
+    (24, Fault::NotAllowed),
+    (25, Fault::BadSurface),
+    (26, Fault::BadSizes),
+    (27, Fault::OutOfReach),
+    (28, Fault::Meets),
+];
+
+impl Fault {
+    /// The number that the library tells.
+    ///
+    /// ```
+    /// assert_eq!(wenditsal::Fault::OutOfReach.number(), 27);
+    /// ```
+    pub fn number(self) -> u32 {
+        match self {
+            Fault::Other(number) => number,
+            named => FAULTS.iter().find(|row| row.1 == named).map_or(0, |row| row.0),
+        }
+    }
+
+    fn of(number: u32) -> Option<Fault> {
+        if number == 0 {
+            return None;
+        }
+        let named = FAULTS.iter().find(|row| row.0 == number);
+        Some(named.map_or(Fault::Other(number), |row| row.1))
+    }
+}
+
+impl fmt::Display for Fault {
+    fn fmt(&self, f: &mut fmt::Formatter<'_>) -> fmt::Result {
+        write!(f, "fault {}", self.number())
+    }
+}
+
+/// A batch that was run.
+#[derive(Clone, Copy, Debug, PartialEq, Eq, Hash)]
+pub struct Completion {
+    /// Whose batch it was.
+    pub client: u32,
+    /// The ticket that submit answered.
+    pub ticket: u32,
+    /// The status word: tasks x 65,536 + 1 for a faultless batch.
+    pub status: u32,
+    /// Nothing for a batch that was drawn.
+    pub fault: Option<Fault>,
+    /// Where in the batch the fault lies, in bytes; 0 without a fault.
+    pub place: u32,
+}
+
+impl Completion {
+    /// How many tasks the status word counts.
+    ///
+    /// ```
+    /// # use wenditsal::Completion;
+    /// let done = Completion { client: 0, ticket: 5, status: 0x0003_0001, fault: None, place: 0 };
+    /// assert_eq!(done.tasks(), 3);
+    /// ```
+    pub fn tasks(&self) -> u32 {
+        self.status >> 16
+    }
+}
+
+impl From<CompletionFields> for Completion {
+    fn from(told: CompletionFields) -> Self {
+        let CompletionFields { client, ticket, status, fault, place } = told;
+        Completion { client, ticket, status, fault: Fault::of(fault), place }
+    }
+}

@@ -1,0 +1,206 @@
+//! An engine with its record, ring and memory.
+use crate::answer::{Completion, Refusal};
+use crate::library::{self, CompletionFields};
+
+/// How many bytes an engine record has.
+pub const ENGINE_SIZE: usize = 272;
+
+/// The lengths that an engine is set up with, in bytes.
+#[derive(Clone, Copy, Debug, PartialEq, Eq, Hash)]
+pub struct Setup {
+    /// The ring, through which batches go: a multiple of 128, up to 32,768.
+    pub ring: usize,
+    /// The memory that is drawn into, up to 16,777,216.
+    pub memory: usize,
+    /// The first part of memory, which every client may read and none may draw in.
+    pub common: usize,
+}
+
+/// An engine, with all that it works on. It may be sent to another thread, cloned, and saved by its parts.
+///
+/// No call panics, whatever it is handed: what cannot be done is refused, and then nothing has changed.
+#[derive(Clone, Debug, PartialEq, Eq)]
+pub struct Engine {
+    // A valid record, and ring and memory of its lengths: every call that is accepted leaves it so.
+    record: [u8; ENGINE_SIZE],
+    ring: Vec<u8>,
+    memory: Vec<u8>,
+}
+
+impl Engine {
+    /// Sets up an engine whose ring and memory are zeros.
+    ///
+    /// ```
+    /// use wenditsal::{Engine, Refusal, Setup};
+    ///
+    /// let engine = Engine::new(Setup { ring: 128, memory: 1024, common: 0 })?;
+    /// assert_eq!(engine.memory(), [0; 1024]);
+    ///
+    /// let odd = Engine::new(Setup { ring: 100, memory: 1024, common: 0 });
+    /// assert_eq!(odd, Err(Refusal::RingLength));
+    /// let huge = Engine::new(Setup { ring: 128, memory: usize::MAX, common: 0 });
+    /// assert_eq!(huge, Err(Refusal::MemoryLength));
+    /// # Ok::<(), Refusal>(())
+    /// ```
+    ///
+    /// # Errors
+    /// [`Refusal::RingLength`], [`Refusal::MemoryLength`].
+    pub fn new(setup: Setup) -> Result<Engine, Refusal> {
+        let mut record = [0; ENGINE_SIZE];
+        // Refused before anything is allocated, so that no length is too large to ask for.
+        Refusal::check(library::set_up(&mut record, setup.ring, setup.memory, setup.common))?;
+        Ok(Engine { record, ring: vec![0; setup.ring], memory: vec![0; setup.memory] })
+    }
+
+    /// Opens a client with a window in memory: `length` bytes from `start` on. Answers its id.
+    ///
+    /// ```
+    /// # use wenditsal::{Engine, Refusal, Setup};
+    /// # let mut engine = Engine::new(Setup { ring: 128, memory: 1024, common: 256 })?;
+    /// assert_eq!(engine.open(256, 512), Ok(0));
+    /// assert_eq!(engine.open(700, 100), Err(Refusal::BadWindow));
+    /// assert_eq!(engine.open(768, 256), Ok(1));
+    /// # Ok::<(), Refusal>(())
+    /// ```
+    ///
+    /// # Errors
+    /// [`Refusal::FourClients`], [`Refusal::BadWindow`].
+    pub fn open(&mut self, start: u32, length: u32) -> Result<u32, Refusal> {
+        let mut client = 0;
+        Refusal::check(library::open(&mut self.record, start, length, &mut client))?;
+        Ok(client)
+    }
+
+    /// Copies a client's batch into the ring and makes it ready. Answers its ticket. What the batch says is looked at only when
+    /// it is run.
+    ///
+    /// ```
+    /// # use wenditsal::{Engine, Refusal, Setup};
+    /// # let mut engine = Engine::new(Setup { ring: 128, memory: 1024, common: 0 })?;
+    /// let client = engine.open(0, 1024)?;
+    /// assert_eq!(engine.submit(client, &[0; 80]), Ok(0));
+    /// assert_eq!(engine.submit(client, &[0; 80]), Err(Refusal::NoRoom));
+    /// assert_eq!(engine.submit(client, &[0; 48]), Ok(1));
+    /// assert_eq!(engine.submit(client, &[]), Err(Refusal::BatchLength));
+    /// assert_eq!(engine.submit(7, &[0; 4]), Err(Refusal::NoClient));
+    /// # Ok::<(), Refusal>(())
+    /// ```
+    ///
+    /// # Errors
+    /// [`Refusal::NoClient`], [`Refusal::BatchLength`], [`Refusal::NoSlot`], [`Refusal::NoRoom`]. The last two pass when
+    /// batches are run.
+    pub fn submit(&mut self, client: u32, batch: &[u8]) -> Result<u32, Refusal> {
+        let mut ticket = 0;
+        Refusal::check(library::submit(&mut self.record, &mut self.ring, client, batch, &mut ticket))?;
+        Ok(ticket)
+    }
+
+    /// Takes the oldest batch, judges it and, if it is faultless, draws it. A faulty batch is no refusal.
+    ///
+    /// ```
+    /// # use wenditsal::{Engine, Fault, Refusal, Setup};
+    /// # let mut engine = Engine::new(Setup { ring: 128, memory: 1024, common: 0 })?;
+    /// let client = engine.open(0, 1024)?;
+    /// let ticket = engine.submit(client, &[0; 8])?;
+    /// let done = engine.run()?;
+    /// assert_eq!((done.client, done.ticket), (client, ticket));
+    /// assert_eq!((done.fault, done.place), (Some(Fault::GroupLength), 0));
+    /// assert_eq!(engine.run(), Err(Refusal::NothingReady));
+    /// # Ok::<(), Refusal>(())
+    /// ```
+    ///
+    /// # Errors
+    /// [`Refusal::NothingReady`].
+    pub fn run(&mut self) -> Result<Completion, Refusal> {
+        let mut told = CompletionFields::default();
+        Refusal::check(library::run(&mut self.record, &self.ring, &mut self.memory, &mut told))?;
+        Ok(told.into())
+    }
+
+    /// How many batches of a client are ready.
+    ///
+    /// ```
+    /// # use wenditsal::{Engine, Refusal, Setup};
+    /// # let mut engine = Engine::new(Setup { ring: 128, memory: 1024, common: 0 })?;
+    /// let client = engine.open(0, 1024)?;
+    /// assert_eq!(engine.pending(client), Ok(0));
+    /// engine.submit(client, &[0; 8])?;
+    /// assert_eq!(engine.pending(client), Ok(1));
+    /// assert_eq!(engine.pending(client + 1), Err(Refusal::NoClient));
+    /// # Ok::<(), Refusal>(())
+    /// ```
+    ///
+    /// # Errors
+    /// [`Refusal::NoClient`].
+    pub fn pending(&self, client: u32) -> Result<u32, Refusal> {
+        let mut count = 0;
+        Refusal::check(library::pending(&self.record, client, &mut count))?;
+        Ok(count)
+    }
+
+    /// The memory that is drawn into.
+    pub fn memory(&self) -> &[u8] {
+        &self.memory
+    }
+
+    /// The memory, to be written by the server itself: its common part above all. No engine rule looks at it.
+    ///
+    /// ```
+    /// # use wenditsal::{Engine, Refusal, Setup};
+    /// # let mut engine = Engine::new(Setup { ring: 128, memory: 1024, common: 256 })?;
+    /// engine.memory_mut()[..256].fill(0xFF);
+    /// # Ok::<(), Refusal>(())
+    /// ```
+    pub fn memory_mut(&mut self) -> &mut [u8] {
+        &mut self.memory
+    }
+
+    /// The ring's bytes.
+    pub fn ring(&self) -> &[u8] {
+        &self.ring
+    }
+
+    /// The engine record's bytes, in the layout that the header gives.
+    pub fn record(&self) -> &[u8; ENGINE_SIZE] {
+        &self.record
+    }
+
+    /// The engine's record, ring and memory, to be saved.
+    pub fn into_parts(self) -> ([u8; ENGINE_SIZE], Vec<u8>, Vec<u8>) {
+        (self.record, self.ring, self.memory)
+    }
+
+    /// An engine from what was saved. Any bytes may be handed in.
+    ///
+    /// ```
+    /// # use wenditsal::{Engine, Refusal, Setup, ENGINE_SIZE};
+    /// # let mut engine = Engine::new(Setup { ring: 128, memory: 1024, common: 0 })?;
+    /// let client = engine.open(0, 1024)?;
+    /// engine.submit(client, &[0; 8])?;
+    /// let (record, ring, memory) = engine.clone().into_parts();
+    ///
+    /// let again = Engine::from_parts(record, ring.clone(), memory.clone())?;
+    /// assert_eq!(again, engine);
+    ///
+    /// assert_eq!(Engine::from_parts([0xA5; ENGINE_SIZE], ring, memory.clone()), Err(Refusal::BadEngine));
+    /// assert_eq!(Engine::from_parts(record, vec![0; 256], memory), Err(Refusal::OtherLength));
+    /// # Ok::<(), Refusal>(())
+    /// ```
+    ///
+    /// # Errors
+    /// [`Refusal::BadEngine`], [`Refusal::OtherLength`].
+    pub fn from_parts(record: [u8; ENGINE_SIZE], ring: Vec<u8>, memory: Vec<u8>) -> Result<Engine, Refusal> {
+        let mut count = 0;
+        let number = library::pending(&record, 0, &mut count);
+        // A record without clients is a good one.
+        if number != 0 && number != Refusal::NoClient.number() {
+            Refusal::check(number)?;
+        }
+        let [r0, r1, r2, r3, m0, m1, m2, m3, ..] = record;
+        let lengths = [u32::from_le_bytes([r0, r1, r2, r3]), u32::from_le_bytes([m0, m1, m2, m3])];
+        if lengths.map(|length| length as usize) != [ring.len(), memory.len()] {
+            return Err(Refusal::OtherLength);
+        }
+        Ok(Engine { record, ring, memory })
+    }
+}

@@ -1,0 +1,48 @@
+use mathlib.Core.Path.{_∙_}
+use Prim.Native.Nat.{_≤_}
+use native.Mathlib.Omega.{arith}
+use Rattle.batch.specs.Batch.{statusOf, offsetOf}
+use Rattle.answers.proofs.Numbers.{completed-words, completed-small, word-whole}
+use borrow.Author.Needs.{needs}
+use Rattle.answers.proofs.outcome_words.Statement.{statement}
+use Rattle.answers.proofs.outcome_words.Tie as tie
+
+small : (c : tie.After-offset) → (statusOf (c .before .before .outcome2 .given .0 .0 .verdict) ≤ 4294967295) × (offsetOf (c .before .before .outcome2 .given .0 .0 .verdict) ≤ 4294967295)
+small c = completed-small _ _ (c .before .before .outcome2 .given .1) (c .before .before .before .before .pre)
+
+enum-known-outcome : tie.Need-enum-known-outcome
+enum-known-outcome c = search needs
+
+enum-known-outcome-2 : tie.Need-enum-known-outcome-2
+enum-known-outcome-2 c = search needs
+
+offset-requires : tie.Need-offset-requires
+offset-requires c κs = search needs
+
+cast-offset : tie.Need-cast-offset
+cast-offset c = omega (arith, c .offset .ensures, small c .1)
+
+status-requires : tie.Need-status-requires
+status-requires c κs = search needs
+
+number-requires : tie.Need-number-requires
+number-requires c κs = search needs
+
+returns : tie.Need-returns
+returns c = rw (c .before .outcome .given .1)
+
+returns-2 : tie.Need-returns-2
+returns-2 c = completed-words _ _ _ _ _ (c .before .before .before .before .outcome2 .given .1) (c .before .status .ensures ∙ word-whole (statusOf (c .before .before .before .before .outcome2 .given .0 .0 .verdict)) (small (c .before .before) .0)) (c .number .ensures) (c .before .before .offset .ensures)
+
+pub outcome-words-spec : {M : Type 1} → statement M
+outcome-words-spec =
+    tie.close
+    (tie.spec
+    enum-known-outcome
+    enum-known-outcome-2
+    offset-requires
+    cast-offset
+    status-requires
+    number-requires
+    returns
+    returns-2)

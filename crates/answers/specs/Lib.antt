@@ -1,0 +1,2 @@
+-- What the calls answer, as words.
+pub mod Answers

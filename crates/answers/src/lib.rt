@@ -1,0 +1,41 @@
+// What the calls answer, as six words: for callers that are not Rattle.
+ghost use mathlib.Core.Path.{_≡_};
+ghost use Rattle.queue.specs.Answers.{numberOf, valueOf};
+ghost use Rattle.answers.specs.Answers.{twoWords, outcomeWords, Small};
+use engine::Outcome;
+use queue::Answer;
+
+// The words of set up, open, submit and pending.
+pub fn answer_words(answer: Answer) -> [u32; 6]
+    ensures { λ r. ⌜ r ≡ twoWords (numberOf answer) (valueOf answer) ⌝ }
+{
+    match answer {
+        Answer::Refused(number) => [number, 0, 0, 0, 0, 0],
+        Answer::Set => [0, 0, 0, 0, 0, 0],
+        Answer::Opened(client) => [0, client, 0, 0, 0, 0],
+        Answer::Accepted(ticket) => [0, ticket, 0, 0, 0, 0],
+        Answer::Ready(count) => [0, count, 0, 0, 0, 0],
+    }
+}
+
+// The words of run.
+pub fn outcome_words(outcome: Outcome) -> [u32; 6]
+    requires { ⌜ Small outcome ⌝ }
+    ensures { λ r. ⌜ r ≡ outcomeWords outcome ⌝ }
+{
+    match outcome {
+        Outcome::Refused(number) => [number, 0, 0, 0, 0, 0],
+        Outcome::Completed(done) => {
+            let verdict = done.verdict;
+            let offset = verdict.offset() as u32;
+            [
+                0,
+                done.client,
+                done.ticket,
+                verdict.status(),
+                verdict.number(),
+                offset,
+            ]
+        }
+    }
+}

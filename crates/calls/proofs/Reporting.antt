@@ -1,0 +1,59 @@
+-- Run.
+use mathlib.Core.Path.{_≡_, sym, ap, subst, _∙_}
+use mathlib.Core.List.{List, [], _∷_}
+use Prim.Native.Nat.{ℕ}
+use lib.ListN.{length, getD}
+use Rattle.record.specs.declared.Record.{Record}
+use Rattle.queue.specs.Calls.{unless}
+use Rattle.engine.specs.declared.Outcome.{Outcome}
+use Rattle.engine.specs.declared.Ran.{Ran}
+use Rattle.engine.specs.Outcome.{numberOf as refusalOf}
+use Rattle.engine.specs.Run.{runOf, runMemory}
+use Rattle.engine.proofs.Refusals.{run-allowed}
+use Rattle.engine.proofs.Stays.{run-number}
+use Rattle.answers.specs.Answers.{outcomeWords, Small}
+use Rattle.answers.proofs.Numbers.{run-small}
+use Rattle.record_bytes.specs.Read.{recordOf}
+use Rattle.record_bytes.specs.Written.{bytesOf, written}
+use Rattle.calls.specs.Calls.{Reports, Runs}
+use Rattle.calls.proofs.Telling.{unless-not, unless-zero, whole, fits}
+
+abbrev rest : List ℕ → List ℕ
+rest words = getD words 1 0 ∷ getD words 2 0 ∷ getD words 3 0 ∷ getD words 4 0 ∷ getD words 5 0 ∷ []
+
+module _ (bytes after words : List ℕ) (o : Outcome) (are : words ≡ outcomeWords o) where
+  pub reported-done : (bytesNow : List ℕ) → getD words 0 0 ≡ 0 → bytesNow ≡ after → Reports bytes after o (getD words 0 0) (rest words) bytesNow
+  reported-done bytesNow z e = record {
+    number-is = rw are;
+    five-are = rw are;
+    record-is = e ∙ sym (unless-zero bytes after (refusalOf o) (rw are at z));
+  }
+
+  pub reported-refused : (getD words 0 0 ≡ 0 → ⊥) → Reports bytes after o (getD words 0 0) (rest words) bytes
+  reported-refused z = record {
+    number-is = rw are;
+    five-are = rw are;
+    record-is = sym (unless-not bytes after (refusalOf o) (rw are at z));
+  }
+
+pub ran-small : (engine : Record) (ring memory : List ℕ) (ran : Ran) → ran ≡ runOf engine ring memory → Small (ran .outcome)
+ran-small engine ring memory ran e = rw e (run-small engine ring memory)
+
+pub run-told : (bytes ring memory : List ℕ) (engine : Record) (ran : Ran) (number : ℕ) (five bytesNow memoryNow : List ℕ) → engine ≡ recordOf bytes → ran ≡ runOf engine ring memory →
+    memoryNow ≡ runMemory engine ring memory → Reports bytes (written (ran .engine) bytes) (ran .outcome) number five bytesNow →
+    Runs bytes ring memory number five bytesNow memoryNow
+run-told bytes ring memory engine ran number five bytesNow memoryNow is e q t =
+    let r : Record = recordOf bytes in
+    let both : ran ≡ runOf r ring memory = e ∙ ap (λ (x : Record). runOf x ring memory) is in
+    let s = subst (λ (x : Ran). Reports bytes (written (x .engine) bytes) (x .outcome) number five bytesNow) both t in
+    record {
+      reports = record {
+        number-is = s .number-is;
+        five-are = s .five-are;
+        record-is =
+            s .record-is
+            ∙ whole bytes (runOf r ring memory .engine) (refusalOf (runOf r ring memory .outcome))
+            (λ z. fits bytes (run-allowed r (length ring) (length memory) (sym (run-number r ring memory) ∙ z) .ok));
+      };
+      memory-is = q ∙ ap (λ (x : Record). runMemory x ring memory) is;
+    }

@@ -1,2 +1,0 @@
--- Laws that this crate's proofs and those of the crates above cite.
-pub mod Bytes

@@ -1,0 +1,43 @@
+use mathlib.Core.Bool.{true, false, _&&_}
+use borrow.Author.Tests.{not-true, not-false}
+use Rattle.record_bytes.proofs.Cases.{judged, judged-short, is-none, is-some}
+use borrow.Author.Needs.{needs}
+use Rattle.record_bytes.proofs.read.decode.Statement.{statement}
+use Rattle.record_bytes.proofs.read.decode.Tie as tie
+
+no-record-requires : tie.Need-no-record-requires
+no-record-requires c κs = search needs
+
+returns : tie.Need-returns
+returns c = is-none _ _ (judged-short _ (c .before .if1 .taken)) (c .no-record .ensures)
+
+spare-right-requires : tie.Need-spare-right-requires
+spare-right-requires c κs = search needs
+
+slots-right-requires : tie.Need-slots-right-requires
+slots-right-requires c κs = search needs
+
+no-record-requires-2 : tie.Need-no-record-requires-2
+no-record-requires-2 c κs = search needs
+
+returns-2 : tie.Need-returns-2
+returns-2 c = is-none _ _ (judged _ (c .before .before .before .spare-right .result) (c .before .before .slots-right .result) false (c .before .before .before .before .if1 .left) (c .before .before .before .spare-right .ensures) (c .before .before .slots-right .ensures) (not-true (c .before .before .before .spare-right .result && c .before .before .slots-right .result) (c .before .if2 .taken))) (c .no-record2 .ensures)
+
+record-in-requires : tie.Need-record-in-requires
+record-in-requires c κs = search needs
+
+returns-3 : tie.Need-returns-3
+returns-3 c = is-some _ _ (judged _ (c .before .before .before .spare-right .result) (c .before .before .slots-right .result) true (c .before .before .before .before .if1 .left) (c .before .before .before .spare-right .ensures) (c .before .before .slots-right .ensures) (not-false (c .before .before .before .spare-right .result && c .before .before .slots-right .result) (c .before .if2 .left))) (c .record-in .ensures)
+
+pub decode-spec : {M : Type 1} → statement M
+decode-spec =
+    tie.close
+    (tie.spec
+    no-record-requires
+    returns
+    spare-right-requires
+    slots-right-requires
+    no-record-requires-2
+    returns-2
+    record-in-requires
+    returns-3)

@@ -1,0 +1,115 @@
+use Rattle.record_bytes.proofs.Cases.{rows-are}
+use Rattle.record_bytes.specs.Written.{wordsWith}
+use borrow.Author.Needs.{needs}
+use Rattle.record_bytes.proofs.write.words_of.Statement.{statement}
+use Rattle.record_bytes.proofs.write.words_of.Tie as tie
+
+array-copy-out-c0 : tie.Need-array-copy-out-c0
+array-copy-out-c0 c = search needs
+
+array-copy-out-c1 : tie.Need-array-copy-out-c1
+array-copy-out-c1 c = search needs
+
+array-copy-out-c2 : tie.Need-array-copy-out-c2
+array-copy-out-c2 c = search needs
+
+array-copy-out-c3 : tie.Need-array-copy-out-c3
+array-copy-out-c3 c = search needs
+
+array-copy-out-row-of : tie.Need-array-copy-out-row-of
+array-copy-out-row-of c = search needs
+
+row-of-requires : tie.Need-row-of-requires
+row-of-requires c κs = search needs
+
+array-copy-out-row-of-2 : tie.Need-array-copy-out-row-of-2
+array-copy-out-row-of-2 c = search needs
+
+row-of-requires-2 : tie.Need-row-of-requires-2
+row-of-requires-2 c κs = search needs
+
+array-copy-out-row-of-3 : tie.Need-array-copy-out-row-of-3
+array-copy-out-row-of-3 c = search needs
+
+row-of-requires-3 : tie.Need-row-of-requires-3
+row-of-requires-3 c κs = search needs
+
+array-copy-out-row-of-4 : tie.Need-array-copy-out-row-of-4
+array-copy-out-row-of-4 c = search needs
+
+row-of-requires-4 : tie.Need-row-of-requires-4
+row-of-requires-4 c κs = search needs
+
+array-copy-out-row-of-5 : tie.Need-array-copy-out-row-of-5
+array-copy-out-row-of-5 c = search needs
+
+row-of-requires-5 : tie.Need-row-of-requires-5
+row-of-requires-5 c κs = search needs
+
+array-copy-out-row-of-6 : tie.Need-array-copy-out-row-of-6
+array-copy-out-row-of-6 c = search needs
+
+row-of-requires-6 : tie.Need-row-of-requires-6
+row-of-requires-6 c κs = search needs
+
+array-copy-out-row-of-7 : tie.Need-array-copy-out-row-of-7
+array-copy-out-row-of-7 c = search needs
+
+row-of-requires-7 : tie.Need-row-of-requires-7
+row-of-requires-7 c κs = search needs
+
+array-copy-out-row-of-8 : tie.Need-array-copy-out-row-of-8
+array-copy-out-row-of-8 c = search needs
+
+row-of-requires-8 : tie.Need-row-of-requires-8
+row-of-requires-8 c κs = search needs
+
+cast-t48 : tie.Need-cast-t48
+cast-t48 c = search needs
+
+cast-t50 : tie.Need-cast-t50
+cast-t50 c = search needs
+
+cast-t52 : tie.Need-cast-t52
+cast-t52 c = search needs
+
+cast-t54 : tie.Need-cast-t54
+cast-t54 c = search needs
+
+cast-t56 : tie.Need-cast-t56
+cast-t56 c = search needs
+
+returns : tie.Need-returns
+unfolding wordsWith
+returns c = rows-are (c .before .before .before .before .before .before .before .before .before .before .before .before .before .before .before .before .before .before .before .before .before .before .before .before .before .before .before .before .before .before .before .before .args .engine) (c .before .before .before .before .before .before .before .before .before .before .before .before .before .before .before .before .before .before .before .row-of .ensures) (c .before .before .before .before .before .before .before .before .before .before .before .before .before .before .before .before .before .row-of2 .ensures) (c .before .before .before .before .before .before .before .before .before .before .before .before .before .before .before .row-of3 .ensures) (c .before .before .before .before .before .before .before .before .before .before .before .before .before .row-of4 .ensures) (c .before .before .before .before .before .before .before .before .before .before .before .row-of5 .ensures) (c .before .before .before .before .before .before .before .before .before .row-of6 .ensures) (c .before .before .before .before .before .before .before .row-of7 .ensures) (c .before .before .before .before .before .row-of8 .ensures)
+
+pub words-of-spec : {M : Type 1} → statement M
+words-of-spec =
+    tie.close
+    (tie.spec
+    array-copy-out-c0
+    array-copy-out-c1
+    array-copy-out-c2
+    array-copy-out-c3
+    array-copy-out-row-of
+    row-of-requires
+    array-copy-out-row-of-2
+    row-of-requires-2
+    array-copy-out-row-of-3
+    row-of-requires-3
+    array-copy-out-row-of-4
+    row-of-requires-4
+    array-copy-out-row-of-5
+    row-of-requires-5
+    array-copy-out-row-of-6
+    row-of-requires-6
+    array-copy-out-row-of-7
+    row-of-requires-7
+    array-copy-out-row-of-8
+    row-of-requires-8
+    cast-t48
+    cast-t50
+    cast-t52
+    cast-t54
+    cast-t56
+    returns)

@@ -1,0 +1,16 @@
+-- Where the numbers of a record stand in its 272 bytes: 68 little-endian words of 32 bits.
+--    0 ring, 1 memory, 2 common, 3 zero, 4 opened, 5 read, 6 next, 7 zero
+--    8, 12, 16, 20 a client: start, length, pending, zero
+--    24, 29, 34, 39, 44, 49, 54, 59 a slot: 0 if it is free and 1 if it is ready, client, ticket, offset, length; of a free one all five are zero
+--    64 to 67 zero
+use Prim.Native.Nat.{ℕ, _%_}
+use mathlib.Core.List.{List}
+use lib.ListN.{getD}
+
+-- word k of a list of words
+abbrev pub wordAt : List ℕ → ℕ → ℕ
+wordAt ws k = getD ws k 0
+
+-- what of a number is written; of a valid record's numbers that is all
+abbrev pub low : ℕ → ℕ
+low n = n % 4294967296

@@ -1,0 +1,5 @@
+-- An engine record as bytes.
+pub mod Layout
+pub mod Written
+pub mod Read
+pub mod RoundTrip

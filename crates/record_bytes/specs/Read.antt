@@ -1,0 +1,84 @@
+-- The record that bytes stand for. What is no record at all stands for one that breaks the first rule, so that every call refuses it with 11.
+use mathlib.Core.Bool.{Bool, cond, _&&_, _||_}
+use mathlib.Core.List.{List, [], _∷_}
+use Prim.Native.Nat.{ℕ, _+_}
+use lib.ListN.{length}
+use lib.Dec.{eqb}
+use Rattle.word.specs.Word.{words}
+use Rattle.record.specs.declared.Setup.{Setup}
+use Rattle.record.specs.declared.Client.{Client}
+use Rattle.record.specs.declared.Batch.{Batch}
+use Rattle.record.specs.declared.Slot.{Slot}
+use Rattle.record.specs.declared.Record.{Record}
+use Rattle.record.specs.Slots.{free, readyWith}
+use Rattle.record.specs.Clients.{noClient}
+use Rattle.record_bytes.specs.Layout.{wordAt}
+
+-- ---- which bytes are a record
+
+-- a slot's words: ready, or free and all zero
+abbrev pub slotRight : List ℕ → ℕ → Bool
+slotRight ws k =
+    eqb (wordAt ws k) 1
+    || (eqb (wordAt ws k) 0 && eqb (wordAt ws (k + 1)) 0 && eqb (wordAt ws (k + 2)) 0 && eqb (wordAt ws (k + 3)) 0 && eqb (wordAt ws (k + 4)) 0)
+
+unfoldable pub slotsRight : List ℕ → Bool
+slotsRight ws =
+    slotRight ws 24 && slotRight ws 29 && slotRight ws 34 && slotRight ws 39
+    && slotRight ws 44 && slotRight ws 49 && slotRight ws 54 && slotRight ws 59
+
+-- the words that are kept for later
+unfoldable pub spareRight : List ℕ → Bool
+spareRight ws =
+    eqb (wordAt ws 3) 0 && eqb (wordAt ws 7) 0
+    && eqb (wordAt ws 11) 0 && eqb (wordAt ws 15) 0 && eqb (wordAt ws 19) 0 && eqb (wordAt ws 23) 0
+    && eqb (wordAt ws 64) 0 && eqb (wordAt ws 65) 0 && eqb (wordAt ws 66) 0 && eqb (wordAt ws 67) 0
+
+unfoldable pub isRecord : (bytes : List ℕ) → Bool
+isRecord bytes = eqb (length bytes) 272 && (spareRight (words bytes) && slotsRight (words bytes))
+
+-- ---- what they stand for
+
+abbrev pub setupIn : List ℕ → Setup
+setupIn ws = record { ring = wordAt ws 0; memory = wordAt ws 1; common = wordAt ws 2 }
+
+abbrev pub clientIn : List ℕ → ℕ → Client
+clientIn ws k = record { window = record { start = wordAt ws k; length = wordAt ws (k + 1) }; pending = wordAt ws (k + 2) }
+
+abbrev pub batchIn : List ℕ → ℕ → Batch
+batchIn ws k = record { client = wordAt ws (k + 1); ticket = wordAt ws (k + 2); offset = wordAt ws (k + 3); length = wordAt ws (k + 4) }
+
+unfoldable pub slotIn : List ℕ → ℕ → Slot
+slotIn ws k = cond (eqb (wordAt ws k) 0) free (readyWith (batchIn ws k))
+
+unfoldable pub clientsIn : List ℕ → List Client
+clientsIn ws = clientIn ws 8 ∷ clientIn ws 12 ∷ clientIn ws 16 ∷ clientIn ws 20 ∷ []
+
+unfoldable pub slotsIn : List ℕ → List Slot
+slotsIn ws =
+    slotIn ws 24 ∷ slotIn ws 29 ∷ slotIn ws 34 ∷ slotIn ws 39
+    ∷ slotIn ws 44 ∷ slotIn ws 49 ∷ slotIn ws 54 ∷ slotIn ws 59 ∷ []
+
+unfoldable pub recordIn : List ℕ → Record
+recordIn ws = record {
+  setup = setupIn ws;
+  clients = clientsIn ws;
+  opened = wordAt ws 4;
+  slots = slotsIn ws;
+  read = wordAt ws 5;
+  next = wordAt ws 6;
+}
+
+-- a record of no engine
+unfoldable pub noRecord : Record
+noRecord = record {
+  setup = record { ring = 0; memory = 0; common = 0 };
+  clients = noClient ∷ noClient ∷ noClient ∷ noClient ∷ [];
+  opened = 0;
+  slots = free ∷ free ∷ free ∷ free ∷ free ∷ free ∷ free ∷ free ∷ [];
+  read = 0;
+  next = 0;
+}
+
+unfoldable pub recordOf : (bytes : List ℕ) → Record
+recordOf bytes = cond (isRecord bytes) (recordIn (words bytes)) noRecord

@@ -1,0 +1,3 @@
+-- The promise holds.
+pub mod Typed
+pub mod Served

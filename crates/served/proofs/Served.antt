@@ -1,0 +1,219 @@
+-- Every call of a server's loop is the call of crate claims on the record that the bytes stand for.
+use mathlib.Core.Path.{_≡_, refl, sym, ap, subst, _∙_}
+use mathlib.Core.Bool.{Bool, true, false, cond}
+use mathlib.Core.List.{List, [], _∷_}
+use Prim.Native.Nat.{ℕ, zero, suc, _<_, _^_}
+use native.Mathlib.Omega.{arith}
+use lib.ListN.{length, getD}
+use lib.Dec.{eqb}
+use Rattle.record.specs.declared.Setup.{Setup as Numbers}
+use Rattle.record.specs.declared.Window.{Window as Place}
+use Rattle.record.specs.declared.Record.{Record}
+use Rattle.record.specs.Rules.{valid}
+use Rattle.queue.specs.declared.Reply.{Reply}
+use Rattle.queue.specs.Answers.{numberOf, valueOf}
+use Rattle.queue.specs.Refusals.{firstOf, openTable, setUpTable}
+use Rattle.queue.specs.Calls.{unless, fresh, withClient, newBatch, withBatch, setUp, openOf, submitOf, submitNumber, submitRing, pendingOf}
+use Rattle.queue.proofs.Stays.{unless-keeps, set-up-number, open-number, submit-number, set-up-stays, open-stays, submit-stays}
+use Rattle.engine.specs.declared.Ran.{Ran}
+use Rattle.engine.specs.Outcome.{numberOf as refusalOf, valuesOf}
+use Rattle.engine.specs.Run.{runNumber, withoutOldest, runOf, runMemory}
+use Rattle.engine.proofs.Stays.{run-number, run-stays}
+use Rattle.model.specs.Windows.{Window}
+use Rattle.model.specs.Calls.{Setup, Call, opens, submit, run, pending, Answer}
+use Rattle.claims.specs.Engine.{State, state, called, answersOf, stateAfter, told, begin, Accepted}
+use Rattle.claims.proofs.Follows.{like-model}
+use Rattle.record_bytes.specs.Read.{recordOf}
+use Rattle.record_bytes.specs.Written.{bytesOf}
+use Rattle.record_bytes.specs.RoundTrip.{Typed}
+use Rattle.record_bytes.proofs.RoundTrip.{back}
+use Rattle.record_bytes.proofs.Fitting.{fits}
+use Rattle.calls.specs.Calls.{setUpNumber, SetsUp, Told, Opens, Submits, Reports, Runs}
+use Rattle.calls.proofs.Telling.{unless-zero}
+use Rattle.served.specs.Served.{Lent, ServesOpen, ServesSubmit, ServesRun, ServesPending, Serves, ServesAll, none, first, Plain, AllPlain, Promise}
+use Rattle.served.proofs.Typed.{sized, fresh-typed, open-typed, submit-typed, run-typed}
+
+-- the bytes are those of a record that keeps its rules
+record Holds (bytes : List ℕ) (e : Record) : Type 0 where
+  are : bytes ≡ bytesOf e
+  ok : valid e ≡ true
+  right : Typed e
+
+stands : {bytes : List ℕ} {e : Record} → Holds bytes e → recordOf bytes ≡ e
+stands {e = e} h = ap recordOf (h .are) ∙ back e (h .right) (fits e (h .right) (h .ok))
+
+-- a refused call leaves the bytes and the record
+keeps : (n : ℕ) (bytes : List ℕ) (e x : Record) → bytes ≡ bytesOf e → unless n bytes (bytesOf (unless n e x)) ≡ bytesOf (unless n e x)
+unfolding unless
+keeps zero bytes e x h = refl
+keeps (suc n) bytes e x h = h
+
+-- what is lent holds the engine's state
+record Agrees (s : Lent) (x : State) : Type 0 where
+  holds : Holds (s .bytes) (x .engine)
+  rings : s .ring ≡ x .ring
+  memories : s .memory ≡ x .memory
+
+record Steps (c : Call) (x : State) (a : Answer) (t : Lent) : Type 0 where
+  says : a ≡ called c x .answer
+  after : Agrees t (called c x .after)
+
+-- ---- each call
+
+module _ (s : Lent) (x : State) (g : Agrees s x) where
+  abbrev e : Record
+  e = x .engine
+
+  z : recordOf (s .bytes) ≡ e
+  z = stands (g .holds)
+
+  open-step : (w : Window) (a : Answer) (t : Lent) → Plain (opens w) → ServesOpen w s a t → Steps (opens w) x a t
+  unfolding called Opens openOf
+  open-step w a t p q =
+      let place : Place = record { start = w .start; length = w .length } in
+      let k : Told (s .bytes) (bytesOf (openOf e place .engine)) (openOf e place .answer) (q .number) (q .value) (t .bytes) =
+      subst (λ (y : Record). Told (s .bytes) (bytesOf (openOf y place .engine)) (openOf y place .answer) (q .number) (q .value) (t .bytes)) z (q .says)
+      in
+      record {
+        says = q .answer ∙ rw (k .number-is, k .value-is);
+        after = record {
+          holds = record {
+            are =
+                k .record-is
+                ∙ ap (λ (n : ℕ). unless n (s .bytes) (bytesOf (openOf e place .engine))) (open-number e place)
+                ∙ keeps (firstOf (openTable e place)) (s .bytes) e (withClient e place) (g .holds .are);
+            ok = open-stays e (sized (g .holds .right)) (g .holds .ok) place .0;
+            right = open-typed e (g .holds .right) place p;
+          };
+          rings = q .ring ∙ g .rings;
+          memories = q .memory ∙ g .memories;
+        };
+      }
+
+  submit-step : (client : ℕ) (batch : List ℕ) (a : Answer) (t : Lent) → client < 2 ^ 32 → ServesSubmit client batch s a t → Steps (submit client batch) x a t
+  unfolding called submitOf
+  submit-step client batch a t p q =
+      let b : Submits (s .bytes) (x .ring) client batch (q .number) (q .value) (t .bytes) (t .ring) =
+      subst (λ (l : List ℕ). Submits (s .bytes) l client batch (q .number) (q .value) (t .bytes) (t .ring)) (g .rings) (q .says)
+      in
+      let k : Told (s .bytes) (bytesOf (submitOf e (x .ring) client batch .engine)) (submitOf e (x .ring) client batch .answer) (q .number) (q .value) (t .bytes) =
+      subst (λ (y : Record). Told (s .bytes) (bytesOf (submitOf y (x .ring) client batch .engine)) (submitOf y (x .ring) client batch .answer) (q .number) (q .value) (t .bytes)) z (b .told)
+      in
+      record {
+        says = q .answer ∙ rw (k .number-is, k .value-is);
+        after = record {
+          holds = record {
+            are =
+                k .record-is
+                ∙ ap (λ (n : ℕ). unless n (s .bytes) (bytesOf (submitOf e (x .ring) client batch .engine))) (submit-number e (x .ring) client batch)
+                ∙ keeps (submitNumber e (x .ring) client batch) (s .bytes) e (withBatch e (newBatch e client (length batch))) (g .holds .are);
+            ok = submit-stays e (sized (g .holds .right)) (g .holds .ok) (x .ring) client batch .0;
+            right = submit-typed e (g .holds .right) (x .ring) client batch p;
+          };
+          rings = b .ring-is ∙ ap (λ (y : Record). submitRing y (x .ring) client batch) z;
+          memories = q .memory ∙ g .memories;
+        };
+      }
+
+  run-step : (a : Answer) (t : Lent) → ServesRun s a t → Steps run x a t
+  unfolding called runOf
+  run-step a t q =
+      let five : List ℕ = q .client ∷ q .ticket ∷ q .status ∷ q .fault ∷ q .place ∷ [] in
+      let b : Runs (s .bytes) (x .ring) (x .memory) (q .number) five (t .bytes) (t .memory) =
+      subst (λ (m : List ℕ). Runs (s .bytes) (x .ring) m (q .number) five (t .bytes) (t .memory)) (g .memories)
+      (subst (λ (l : List ℕ). Runs (s .bytes) l (s .memory) (q .number) five (t .bytes) (t .memory)) (g .rings) (q .says))
+      in
+      let k : Reports (s .bytes) (bytesOf (runOf e (x .ring) (x .memory) .engine)) (runOf e (x .ring) (x .memory) .outcome) (q .number) five (t .bytes) =
+      subst (λ (y : Record). Reports (s .bytes) (bytesOf (runOf y (x .ring) (x .memory) .engine)) (runOf y (x .ring) (x .memory) .outcome) (q .number) five (t .bytes)) z (b .reports)
+      in
+      let e0 = ap (λ (l : List ℕ). getD l 0 0) (k .five-are) in
+      let e1 = ap (λ (l : List ℕ). getD l 1 0) (k .five-are) in
+      let e2 = ap (λ (l : List ℕ). getD l 2 0) (k .five-are) in
+      let e3 = ap (λ (l : List ℕ). getD l 3 0) (k .five-are) in
+      let e4 = ap (λ (l : List ℕ). getD l 4 0) (k .five-are) in
+      record {
+        says = q .answer ∙ rw (k .number-is, e0, e1, e2, e3, e4);
+        after = record {
+          holds = record {
+            are =
+                k .record-is
+                ∙ ap (λ (n : ℕ). unless n (s .bytes) (bytesOf (runOf e (x .ring) (x .memory) .engine))) (run-number e (x .ring) (x .memory))
+                ∙ keeps (runNumber e (x .ring) (x .memory)) (s .bytes) e (withoutOldest e) (g .holds .are);
+            ok = run-stays e (sized (g .holds .right)) (g .holds .ok) (x .ring) (x .memory) .0;
+            right = run-typed e (g .holds .right) (x .ring) (x .memory);
+          };
+          rings = q .ring ∙ g .rings;
+          memories = b .memory-is ∙ ap (λ (y : Record). runMemory y (x .ring) (x .memory)) z;
+        };
+      }
+
+  pending-step : (client : ℕ) (a : Answer) (t : Lent) → ServesPending client s a t → Steps (pending client) x a t
+  unfolding called
+  pending-step client a t q = record {
+    says = q .answer ∙ rw (q .says .number-is, q .says .value-is, z);
+    after = subst (λ (l : Lent). Agrees l x) (sym (q .same)) g;
+  }
+
+  step : (c : Call) (a : Answer) (t : Lent) → Plain c → Serves c s a t → Steps c x a t
+  step (opens w) a t p q = open-step w a t p q
+  step (submit client batch) a t p q = submit-step client batch a t p q
+  step run a t p q = run-step a t q
+  step (pending client) a t p q = pending-step client a t q
+
+-- ---- a list of calls
+
+record Ends (cs : List Call) (x : State) (said : List Answer) (last : Lent) : Type 0 where
+  all : said ≡ answersOf cs x
+  end : Agrees last (stateAfter cs x)
+
+list : (cs : List Call) (s : Lent) (x : State) (said : List Answer) (last : Lent) → AllPlain cs → Agrees s x → ServesAll cs s said last → Ends cs x said last
+unfolding answersOf stateAfter
+list [] s x said last p g none = record { all = refl; end = g }
+list (c ∷ cs) s x said last p g (first {t = t} {a = a} {said = rest} q qs) =
+    let one = step s x g c a t (p .0) q in
+    let more = list cs t (called c x .after) rest last (p .1) (one .after) qs in
+    record { all = rw (one .says, more .all); end = more .end }
+
+-- ---- from an accepted set up
+
+-- a cond with a number that is not 0 as its other case
+both-zero : (t : Bool) (n : ℕ) → 0 ≡ cond t n 11 → n ≡ 0
+both-zero true n e = sym e
+both-zero false n e = absurd (omega arith)
+
+module _ (setup : Setup) (before bytes ring memory : List ℕ) (u : SetsUp before (setup .ring) (setup .memory) (setup .common) 0 bytes) where
+  abbrev made : Record
+  made = setUp (setup .ring) (setup .memory) (setup .common) .engine
+
+  abbrev numbers : Numbers
+  numbers = record { ring = setup .ring; memory = setup .memory; common = setup .common }
+
+  taken : Accepted setup
+  taken = both-zero (eqb (length before) 272) (numberOf (setUp (setup .ring) (setup .memory) (setup .common) .answer)) (u .number-is)
+
+  typed-made : Typed made
+  unfolding setUp
+  typed-made =
+      unless-keeps Typed (firstOf (setUpTable numbers)) (fresh (record { ring = 0; memory = 0; common = 0 })) (fresh numbers)
+      (fresh-typed (record { ring = 0; memory = 0; common = 0 })) (λ q. fresh-typed numbers)
+
+  begins : Agrees (record { bytes = bytes; ring = ring; memory = memory }) (begin setup ring memory)
+  begins = record {
+    holds = record {
+      are = u .record-is ∙ unless-zero before (bytesOf made) (setUpNumber before (setup .ring) (setup .memory) (setup .common)) (sym (u .number-is));
+      ok = set-up-stays numbers (sym (set-up-number numbers) ∙ taken);
+      right = typed-made;
+    };
+    rings = refl;
+    memories = refl;
+  }
+
+pub promise : Promise
+promise setup before bytes ring memory calls said last u p q =
+    let e = list calls (record { bytes = bytes; ring = ring; memory = memory }) (begin setup ring memory) said last p (begins setup before bytes ring memory u) q in
+    let m = like-model setup ring (taken setup before bytes ring memory u) calls memory in
+    record {
+      every-answer = e .all ∙ m .every-answer;
+      every-byte = e .end .memories ∙ m .every-byte;
+      ring-end = e .end .rings;
+    }

@@ -1,0 +1,2 @@
+-- Calls on bytes, one after the other.
+pub mod Served

@@ -1,0 +1,91 @@
+-- A server's loop: set up, and then any calls one at a time, each given the record's bytes, the ring and the memory as the call before it left
+-- them, and each as its contract (crate calls) says. proofs/Served.antt proves the promise.
+use mathlib.Core.Path.{_≡_}
+use mathlib.Core.List.{List, [], _∷_}
+use Prim.Native.Nat.{ℕ, _<_, _^_}
+use lib.ListN.{length}
+use Rattle.model.specs.Windows.{Window}
+use Rattle.model.specs.Calls.{Setup, Call, opens, submit, run, pending, Answer, opened, accepted, completed, ready}
+use Rattle.model.specs.State.{fresh}
+use Rattle.model.specs.Model.{answers, end}
+use Rattle.claims.specs.OfModel.{real}
+use Rattle.claims.specs.Engine.{told, stateAfter, begin}
+use Rattle.calls.specs.Calls.{SetsUp, Opens, Submits, Pends, Runs}
+
+-- what the caller lends
+pub record Lent : Type 0 where
+  pub bytes : List ℕ
+  pub ring : List ℕ
+  pub memory : List ℕ
+
+-- ---- one call: what is lent before it, its answer, and what is lent after it
+
+pub record ServesOpen (w : Window) (s : Lent) (a : Answer) (t : Lent) : Type 0 where
+  pub number : ℕ
+  pub value : ℕ
+  pub says : Opens (s .bytes) (record { start = w .start; length = w .length }) number value (t .bytes)
+  pub answer : a ≡ told number (opened value)
+  pub ring : t .ring ≡ s .ring
+  pub memory : t .memory ≡ s .memory
+
+pub record ServesSubmit (client : ℕ) (batch : List ℕ) (s : Lent) (a : Answer) (t : Lent) : Type 0 where
+  pub number : ℕ
+  pub value : ℕ
+  pub says : Submits (s .bytes) (s .ring) client batch number value (t .bytes) (t .ring)
+  pub answer : a ≡ told number (accepted value)
+  pub memory : t .memory ≡ s .memory
+
+pub record ServesRun (s : Lent) (a : Answer) (t : Lent) : Type 0 where
+  pub number : ℕ
+  pub client : ℕ
+  pub ticket : ℕ
+  pub status : ℕ
+  pub fault : ℕ
+  pub place : ℕ
+  pub says : Runs (s .bytes) (s .ring) (s .memory) number (client ∷ ticket ∷ status ∷ fault ∷ place ∷ []) (t .bytes) (t .memory)
+  pub answer : a ≡ told number (completed client ticket (record { status = status; fault = fault; offset = place }))
+  pub ring : t .ring ≡ s .ring
+
+pub record ServesPending (client : ℕ) (s : Lent) (a : Answer) (t : Lent) : Type 0 where
+  pub number : ℕ
+  pub value : ℕ
+  pub says : Pends (s .bytes) client number value
+  pub answer : a ≡ told number (ready value)
+  pub same : t ≡ s
+
+abbrev pub Serves : Call → Lent → Answer → Lent → Type 0
+Serves (opens w) = ServesOpen w
+Serves (submit client batch) = ServesSubmit client batch
+Serves run = ServesRun
+Serves (pending client) = ServesPending client
+
+-- ---- a list of calls
+
+pub data ServesAll : List Call → Lent → List Answer → Lent → Type 0 where
+  none : {s : Lent} → ServesAll [] s [] s
+  first : {c : Call} {cs : List Call} {s t u : Lent} {a : Answer} {said : List Answer} → Serves c s a t → ServesAll cs t said u → ServesAll (c ∷ cs) s (a ∷ said) u
+
+-- arguments are 32-bit numbers, as those that the code is handed are
+abbrev pub Plain : Call → Type 0
+Plain (opens w) = (w .start < 2 ^ 32) × (w .length < 2 ^ 32)
+Plain (submit client batch) = client < 2 ^ 32
+Plain run = Unit {0}
+Plain (pending client) = Unit {0}
+
+abbrev pub AllPlain : List Call → Type 0
+AllPlain [] = Unit {0}
+AllPlain (c ∷ cs) = Plain c × AllPlain cs
+
+-- ---- the promise: every answer and every byte of memory is the reference model's, every byte of the ring the engine's
+
+pub record Served (setup : Setup) (ring memory : List ℕ) (calls : List Call) (said : List Answer) (last : Lent) : Type 0 where
+  pub every-answer : said ≡ answers real setup (length ring) calls (fresh memory)
+  pub every-byte : last .memory ≡ end real setup (length ring) calls memory .memory
+  pub ring-end : last .ring ≡ stateAfter calls (begin setup ring memory) .ring
+
+abbrev pub Promise : Type 0
+Promise = (setup : Setup) (before bytes ring memory : List ℕ) (calls : List Call) (said : List Answer) (last : Lent) →
+    SetsUp before (setup .ring) (setup .memory) (setup .common) 0 bytes →
+    AllPlain calls →
+    ServesAll calls (record { bytes = bytes; ring = ring; memory = memory }) said last →
+    Served setup ring memory calls said last

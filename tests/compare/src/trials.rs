@@ -1,0 +1,119 @@
+//! Calls made by the engine and by the independent program on the same buffers, counted until the first difference.
+use crate::linked;
+use independent::calls::{self, Answer, Buffers, Call};
+use independent::made_tasks::Fields;
+use independent::tally::Tally;
+use independent::writer;
+
+/// What is left of a comparison: nothing to say, or what differs.
+pub type Agreed<T = ()> = Result<T, String>;
+
+pub const OUTSIDE: &str = "bytes outside the lent buffers were changed";
+
+pub struct Trials {
+    /// As `Lent` takes it.
+    pub guards: usize,
+    pub count: u64,
+    tally: Tally,
+}
+
+/// The first byte in which two buffers of one length differ.
+pub fn difference(name: &str, expected: &[u8], found: &[u8]) -> Option<String> {
+    let at = expected.iter().zip(found).position(|(a, b)| a != b)?;
+    Some(format!("{name} byte {at}: {} expected, {} found", expected[at], found[at]))
+}
+
+impl Trials {
+    pub fn new(guards: usize) -> Self {
+        Trials { guards, count: 0, tally: Tally::default() }
+    }
+
+    fn counted(&mut self, what: &str, number: u32, fault: u32) {
+        self.count += 1;
+        self.tally.add(
+            match (number, fault) {
+                (0, 0) => format!("{what}: done"),
+                (0, _) => format!("{what}: fault {fault}"),
+                _ => format!("{what}: refusal {number:2}"),
+            },
+            1,
+        );
+    }
+
+    /// Makes a call on buffers, which are then as it leaves them.
+    pub fn call(&mut self, asked: &Call, buffers: &mut Buffers) -> Agreed<Answer> {
+        let mut found_buffers = buffers.clone();
+        let found = linked::call(asked, &mut found_buffers, self.guards);
+        let before = buffers.engine.clone();
+        let expected = calls::call(asked, buffers);
+        if found != Some(expected) || found_buffers != *buffers {
+            let parts = [
+                Some(format!("{asked:02X?}\n  on the record {before:02X?}")),
+                found.map_or(Some(OUTSIDE.into()), |found| {
+                    (found != expected).then(|| format!("{expected:08X?} expected, {found:08X?} found"))
+                }),
+                difference("record", &buffers.engine, &found_buffers.engine),
+                difference("ring", &buffers.ring, &found_buffers.ring),
+                difference("memory", &buffers.memory, &found_buffers.memory),
+            ];
+            return Err(parts.into_iter().flatten().collect::<Vec<String>>().join("\n  "));
+        }
+        self.counted(name(asked), expected.number, expected.values[3]);
+        Ok(expected)
+    }
+
+    /// Makes a call on buffers that stay as they are.
+    pub fn try_call(&mut self, asked: &Call, buffers: &Buffers) -> Agreed<Answer> {
+        self.call(asked, &mut buffers.clone())
+    }
+
+    /// Submits a batch for client 0 and runs it, on buffers that stay as they are. Answers the buffers after it.
+    pub fn batch(&mut self, buffers: &Buffers, batch: &[u8]) -> Agreed<Buffers> {
+        let mut after = buffers.clone();
+        self.call(&Call::Submit { client: 0, batch }, &mut after)?;
+        self.call(&Call::Run, &mut after)?;
+        Ok(after)
+    }
+
+    pub fn words(&mut self, buffers: &Buffers, words: &[u32]) -> Agreed<Buffers> {
+        self.batch(buffers, &words.iter().flat_map(|word| word.to_le_bytes()).collect::<Vec<u8>>())
+    }
+
+    /// Encodes a task by both, and answers its bytes if it is not refused.
+    pub fn encode(&mut self, fields: &Fields, buffer: &[u8]) -> Agreed<Option<Vec<u8>>> {
+        let told = writer::written(fields, buffer.len());
+        let number = *told.as_ref().err().unwrap_or(&0);
+        let mut after = buffer.to_vec();
+        if let Ok(bytes) = &told {
+            after[..bytes.len()].copy_from_slice(bytes);
+        }
+        let found = linked::encode(fields, buffer, self.guards);
+        if found.as_ref() != Some(&(number, after)) {
+            let found = found.map_or(OUTSIDE.into(), |(number, _)| format!("{number} found"));
+            return Err(format!("encode {fields:?} in {} bytes: {number} expected, {found}, or other bytes", buffer.len()));
+        }
+        self.counted("encode", number, 0);
+        Ok(told.ok())
+    }
+
+    /// Encodes a task and draws it, on buffers that stay as they are.
+    pub fn task(&mut self, buffers: &Buffers, fields: &Fields) -> Agreed<Buffers> {
+        let batch = self.encode(fields, &[0; 80])?.ok_or_else(|| format!("{fields:?} are no allowed fields"))?;
+        self.batch(buffers, &batch)
+    }
+
+    /// Prints what came how often.
+    pub fn print(&self) {
+        self.tally.print();
+    }
+}
+
+fn name(call: &Call) -> &'static str {
+    match call {
+        Call::SetUp(_) => "set up",
+        Call::Open { .. } => "open",
+        Call::Submit { .. } => "submit",
+        Call::Run => "run",
+        Call::Pending { .. } => "pending",
+    }
+}

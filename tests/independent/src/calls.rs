@@ -1,0 +1,108 @@
+//! The engine's calls one at a time, as the header words them: the engine record is bytes that the caller lends, and so are
+//! the ring and the memory. A refused call changes none of them.
+use crate::engine::{Completion, Numbers, Refusal};
+use crate::queue::{self, Record};
+use crate::record_bytes;
+
+/// The buffers that a caller keeps between calls.
+#[derive(Clone, Debug, PartialEq)]
+pub struct Buffers {
+    pub engine: Vec<u8>,
+    pub ring: Vec<u8>,
+    pub memory: Vec<u8>,
+}
+
+#[derive(Clone, Copy, Debug)]
+pub enum Call<'a> {
+    SetUp(Numbers),
+    Open { start: u32, length: u32 },
+    Submit { client: u32, batch: &'a [u8] },
+    Run,
+    Pending { client: u32 },
+}
+
+/// The refusal's number or 0, and what else is handed out: zeros behind what the call answers, and by a refused one.
+#[derive(Clone, Copy, Debug, PartialEq)]
+pub struct Answer {
+    pub number: u32,
+    pub values: [u32; 5],
+}
+
+impl Answer {
+    fn of(told: Result<[u32; 5], Refusal>) -> Self {
+        match told {
+            Ok(values) => Answer { number: 0, values },
+            Err(number) => Answer { number, values: [0; 5] },
+        }
+    }
+
+    /// Of a call that answers one number.
+    fn of_one(told: Result<u32, Refusal>) -> Self {
+        Answer::of(told.map(|value| [value, 0, 0, 0, 0]))
+    }
+}
+
+/// One call on lent buffers.
+pub fn call(call: &Call, buffers: &mut Buffers) -> Answer {
+    if let Call::SetUp(numbers) = call {
+        return Answer::of_one(set_up(*numbers, &mut buffers.engine));
+    }
+    let Some(mut record) = record_bytes::read(&buffers.engine) else { return Answer::of(Err(11)) };
+    let answer = on_record(call, &mut record, buffers);
+    if answer.number == 0 {
+        buffers.engine = record_bytes::written(&record);
+    }
+    answer
+}
+
+/// A buffer that no record fits in is refused first.
+fn set_up(numbers: Numbers, engine: &mut Vec<u8>) -> Result<u32, Refusal> {
+    if engine.len() != record_bytes::LENGTH {
+        return Err(11);
+    }
+    *engine = record_bytes::written(&queue::set_up(numbers)?);
+    Ok(0)
+}
+
+fn on_record(call: &Call, record: &mut Record, buffers: &mut Buffers) -> Answer {
+    match *call {
+        Call::SetUp(_) => unreachable!("set up reads no record"),
+        Call::Open { start, length } => Answer::of_one(record.open(start, length)),
+        Call::Submit { client, batch } => Answer::of_one(record.submit(&mut buffers.ring, client, batch)),
+        Call::Pending { client } => Answer::of_one(record.pending(client)),
+        Call::Run => {
+            let told = record.run(&buffers.ring, &mut buffers.memory);
+            Answer::of(
+                told.map(|Completion { client, ticket, status, fault, place }| [client, ticket, status, fault, place]),
+            )
+        }
+    }
+}
+
+#[cfg(test)]
+mod tests {
+    use super::*;
+
+    #[test]
+    fn every_call() {
+        let mut buffers = Buffers { engine: vec![7; 272], ring: vec![1; 128], memory: vec![2; 256] };
+        let numbers = Numbers { ring: 128, memory: 256, common: 64 };
+        let mut told = |asked: &Call| call(asked, &mut buffers);
+        assert_eq!(told(&Call::Pending { client: 0 }).number, 11);
+        assert_eq!(told(&Call::SetUp(numbers)).number, 0);
+        assert_eq!(told(&Call::Open { start: 64, length: 64 }), Answer { number: 0, values: [0; 5] });
+        assert_eq!(told(&Call::Submit { client: 0, batch: &[9; 4] }).number, 0);
+        assert_eq!(told(&Call::Pending { client: 0 }).values, [1, 0, 0, 0, 0]);
+        assert_eq!(told(&Call::Run).values, [0, 0, 2, 20, 0]);
+        assert_eq!(told(&Call::Run), Answer { number: 9, values: [0; 5] });
+        assert_eq!(buffers.ring[..5], [9, 9, 9, 9, 1]);
+    }
+
+    #[test]
+    fn lengths() {
+        let mut short = Buffers { engine: vec![0; 271], ring: vec![], memory: vec![] };
+        let numbers = Numbers { ring: 0, memory: 0, common: 0 };
+        assert_eq!(call(&Call::SetUp(numbers), &mut short).number, 11);
+        assert_eq!(short.engine, vec![0; 271]);
+    }
+}

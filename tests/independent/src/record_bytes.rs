@@ -1,0 +1,101 @@
+//! The engine record as bytes, from the header's words: 68 words of 32 bits, low byte first.
+use crate::engine::Numbers;
+use crate::queue::{Client, Ready, Record};
+use crate::words::read_le32;
+
+/// Bytes of a record.
+pub const LENGTH: usize = 272;
+
+/// The first word of the four clients, and how many each takes.
+const CLIENTS: usize = 8;
+const CLIENT: usize = 4;
+
+/// The first word of the eight slots, and how many each takes.
+const SLOTS: usize = 24;
+const SLOT: usize = 5;
+
+/// Words that must be zero: in the head, at the end of each client, and after the slots.
+const ZERO: [usize; 10] = [3, 7, 11, 15, 19, 23, 64, 65, 66, 67];
+
+/// The record that bytes stand for, if they are one, valid or not.
+pub fn read(bytes: &[u8]) -> Option<Record> {
+    if bytes.len() != LENGTH {
+        return None;
+    }
+    let word = |at: usize| read_le32(bytes, 4 * at).expect("one of the 68 words");
+    if ZERO.iter().any(|at| word(*at) != 0) {
+        return None;
+    }
+    let mut slots = [None; 8];
+    for (i, slot) in slots.iter_mut().enumerate() {
+        *slot = read_slot(std::array::from_fn(|k| word(SLOTS + SLOT * i + k)))?;
+    }
+    let client = |i: usize| {
+        let at = CLIENTS + CLIENT * i;
+        Client { start: word(at), length: word(at + 1), pending: word(at + 2) }
+    };
+    let [ring, memory, common, open, read] = [0, 1, 2, 4, 5].map(|at| u64::from(word(at)));
+    let numbers = Numbers { ring, memory, common };
+    Some(Record { numbers, clients: std::array::from_fn(client), open, slots, read, next: word(6) })
+}
+
+/// A slot of its five words: 1 and its batch if it is ready, all zero if it is free. Nothing if they are neither.
+fn read_slot(words: [u32; SLOT]) -> Option<Option<Ready>> {
+    match words {
+        [1, client, ticket, offset, length] => {
+            Some(Some(Ready { client, ticket, offset: offset.into(), length: length.into() }))
+        }
+        [0, 0, 0, 0, 0] => Some(None),
+        _ => None,
+    }
+}
+
+/// The bytes of a record whose numbers fit in words, as those of every valid record do.
+pub fn written(record: &Record) -> Vec<u8> {
+    let word = |n: u64| u32::try_from(n).expect("a number of 32 bits");
+    let Numbers { ring, memory, common } = record.numbers;
+    let mut words = vec![word(ring), word(memory), word(common), 0, word(record.open), word(record.read), record.next, 0];
+    words.extend(record.clients.iter().flat_map(|client| [client.start, client.length, client.pending, 0]));
+    for slot in &record.slots {
+        words.extend(
+            slot.map_or([0; SLOT], |Ready { client, ticket, offset, length }| {
+                [1, client, ticket, word(offset), word(length)]
+            }),
+        );
+    }
+    words.extend([0; 4]);
+    words.iter().flat_map(|word| word.to_le_bytes()).collect()
+}
+
+#[cfg(test)]
+mod tests {
+    use super::*;
+    use crate::queue::set_up;
+
+    fn record() -> Record {
+        let mut record = set_up(Numbers { ring: 256, memory: 4096, common: 1024 }).unwrap();
+        record.open(1024, 100).unwrap();
+        record.open(2000, 8).unwrap();
+        record.submit(&mut vec![0; 256], 1, &[1; 12]).unwrap();
+        record
+    }
+
+    #[test]
+    fn there_and_back() {
+        let bytes = written(&record());
+        assert_eq!(bytes.len(), LENGTH);
+        assert_eq!(read(&bytes), Some(record()));
+        assert_eq!((bytes[1], bytes[4 * 12], bytes[4 * 24], bytes[4 * 28]), (1, 208, 1, 12));
+    }
+
+    /// Words that must be zero, a tag that is none, a number in a free slot, another length.
+    #[test]
+    fn no_record() {
+        for at in ZERO.into_iter().chain([29, 30, 33]) {
+            let mut bytes = written(&record());
+            bytes[4 * at] = 2;
+            assert_eq!(read(&bytes), None);
+        }
+        assert_eq!(read(&written(&record())[..271]), None);
+    }
+}
