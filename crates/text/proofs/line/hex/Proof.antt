@@ -21,7 +21,7 @@ same-length c = search needs
 
 returns : tie.Need-returns
 unfolding typed hexByte
-returns c = cc
+returns c = simp (c .before .before .push2 .ensures, c .before .before .before .digit2 .ensures, c .before .before .before .before .before .before .before .push .ensures, c .before .before .before .before .before .before .before .before .digit .ensures)
 
 pub hex-spec : {M : Type 1} → statement M
 hex-spec =

@@ -21,7 +21,7 @@ add-result-2 c = omega (arith, fits (c .before .before .before .before .before))
 
 returns : tie.Need-returns
 unfolding destinationControl
-returns c = cc
+returns c = simp (c .before .before .bits .ensures)
 
 pub control-spec : {M : Type 1} → statement M
 control-spec = tie.close (tie.spec bits-requires mul-result add-result add-result-2 returns)

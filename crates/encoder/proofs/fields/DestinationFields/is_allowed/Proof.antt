@@ -11,7 +11,7 @@ is-allowed-requires-2 c κs = search needs
 
 returns : tie.Need-returns
 unfolding destinationAllowed
-returns c = cc
+returns c = simp (c .before .is-allowed2 .ensures, c .before .before .is-allowed .ensures)
 
 pub is-allowed-spec : {M : Type 1} → statement M
 is-allowed-spec = tie.close (tie.spec is-allowed-requires is-allowed-requires-2 returns)

@@ -17,7 +17,7 @@ is-allowed-requires-4 c κs = search needs
 
 returns : tie.Need-returns
 unfolding allowed
-returns c = cc
+returns c = simp (c .is-allowed4 .ensures, c .before .is-allowed3 .ensures, c .before .before .is-allowed2 .ensures, c .before .before .before .is-allowed .ensures)
 
 pub is-allowed-spec : {M : Type 1} → statement M
 is-allowed-spec =

@@ -38,7 +38,7 @@ word-requires c κs =
 
 returns : tie.Need-returns
 unfolding bankOf
-returns c = cc
+returns c = simp (c .word .ensures, c .before .registers3 .ensures, c .before .before .before .registers2 .ensures, c .before .before .before .before .control2 .ensures, c .before .before .before .before .before .registers .ensures, c .before .before .before .before .before .before .control .ensures)
 
 pub registers-spec : {M : Type 1} → statement M
 registers-spec =

@@ -33,7 +33,7 @@ add-result-4 c = omega (arith, fits (c .before .before .before .before .before .
 
 returns : tie.Need-returns
 unfolding sourceControl
-returns c = cc
+returns c = simp (c .before .before .bits2 .ensures, c .before .before .before .before .bits .ensures)
 
 pub control-spec : {M : Type 1} → statement M
 control-spec =

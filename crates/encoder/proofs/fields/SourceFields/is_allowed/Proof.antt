@@ -14,7 +14,7 @@ is-allowed-requires-3 c κs = search needs
 
 returns : tie.Need-returns
 unfolding sourceAllowed
-returns c = cc
+returns c = simp (c .before .before .is-allowed3 .ensures, c .before .before .before .is-allowed2 .ensures, c .before .before .before .before .is-allowed .ensures)
 
 pub is-allowed-spec : {M : Type 1} → statement M
 is-allowed-spec =

@@ -8,7 +8,7 @@ is-code-requires c κs = search needs
 
 returns : tie.Need-returns
 unfolding surfaceAllowed
-returns c = cc
+returns c = simp (c .is-code .ensures)
 
 pub is-allowed-spec : {M : Type 1} → statement M
 is-allowed-spec = tie.close (tie.spec is-code-requires returns)

@@ -6,7 +6,7 @@ alpha-requires : tie.Need-alpha-requires
 alpha-requires c κs = search needs
 
 returns : tie.Need-returns
-returns c = cc
+returns c = simp (c .alpha .ensures)
 
 pub apply-spec : {M : Type 1} → statement M
 apply-spec = tie.close (tie.spec alpha-requires returns)

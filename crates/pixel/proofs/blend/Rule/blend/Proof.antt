@@ -23,7 +23,7 @@ blend-channel-requires-4 c κs = search needs
 
 returns : tie.Need-returns
 unfolding blended
-returns c = cc
+returns c = simp (c .blend-channel4 .ensures, c .before .blend-channel3 .ensures, c .before .before .blend-channel2 .ensures, c .before .before .before .blend-channel .ensures, c .before .before .before .before .value2 .ensures, c .before .before .before .before .before .value .ensures)
 
 pub blend-spec : {M : Type 1} → statement M
 blend-spec =

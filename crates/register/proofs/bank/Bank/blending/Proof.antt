@@ -20,7 +20,7 @@ from-code-requires-2 c κs = search needs
 
 returns : tie.Need-returns
 unfolding blendingOf
-returns c = cc
+returns c = simp (c .from-code2 .ensures, c .before .bits3 .ensures, c .before .before .from-code .ensures, c .before .before .before .bits2 .ensures, c .before .before .before .before .bits .ensures)
 
 pub blending-spec : {M : Type 1} → statement M
 blending-spec =

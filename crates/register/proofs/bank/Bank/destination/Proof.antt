@@ -14,7 +14,7 @@ is-enabled-requires c κs = search needs
 
 returns : tie.Need-returns
 unfolding destinationOf
-returns c = cc
+returns c = simp (c .is-enabled .ensures, c .before .alpha .ensures, c .before .before .surface .ensures)
 
 pub destination-spec : {M : Type 1} → statement M
 destination-spec = tie.close (tie.spec surface-requires alpha-requires is-enabled-requires returns)

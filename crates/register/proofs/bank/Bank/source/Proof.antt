@@ -26,7 +26,7 @@ is-enabled-requires c κs = search needs
 
 returns : tie.Need-returns
 unfolding sourceOf
-returns c = cc
+returns c = simp (c .is-enabled .ensures, c .before .alpha .ensures, c .before .before .transform .ensures, c .before .before .before .unpack .ensures, c .before .before .before .before .from-code .ensures, c .before .before .before .before .before .bits .ensures, c .before .before .before .before .before .before .surface .ensures)
 
 pub source-spec : {M : Type 1} → statement M
 source-spec =

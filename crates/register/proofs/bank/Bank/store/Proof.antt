@@ -20,7 +20,7 @@ hold-requires-2 c κs = search needs
 
 returns : tie.Need-returns
 unfolding stored
-returns c = cc
+returns c = simp (c .hold2 .ensures, c .before .hold .ensures, c .before .before .store3 .ensures, c .before .before .before .store2 .ensures, c .before .before .before .before .store .ensures)
 
 pub store-spec : {M : Type 1} → statement M
 store-spec =

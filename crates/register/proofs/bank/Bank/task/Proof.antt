@@ -17,7 +17,7 @@ blending-requires c κs = search needs
 
 returns : tie.Need-returns
 unfolding taskOf
-returns c = cc
+returns c = simp (c .blending .ensures, c .before .surface .ensures, c .before .before .destination .ensures, c .before .before .before .source .ensures)
 
 pub task-spec : {M : Type 1} → statement M
 task-spec =

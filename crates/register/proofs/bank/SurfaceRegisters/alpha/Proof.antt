@@ -17,7 +17,7 @@ cast-t5 c = search needs
 
 returns : tie.Need-returns
 unfolding alphaOf
-returns c = cc
+returns c = simp (c .bits2 .ensures, c .before .from-code .ensures, c .before .before .bits .ensures)
 
 pub alpha-spec : {M : Type 1} → statement M
 alpha-spec = tie.close (tie.spec bits-requires from-code-requires bits-requires-2 cast-t5 returns)

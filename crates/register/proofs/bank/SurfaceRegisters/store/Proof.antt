@@ -26,7 +26,7 @@ hold-requires-4 c κs = search needs
 
 returns : tie.Need-returns
 unfolding storedSurface
-returns c = cc
+returns c = simp (c .hold4 .ensures, c .before .hold3 .ensures, c .before .before .hold2 .ensures, c .before .before .before .hold .ensures)
 
 pub store-spec : {M : Type 1} → statement M
 store-spec =

@@ -29,7 +29,7 @@ from-code-requires c κs = search needs
 
 returns : tie.Need-returns
 unfolding surfaceOf
-returns c = cc
+returns c = simp (c .from-code .ensures, c .before .bits4 .ensures, c .before .before .bits3 .ensures, c .before .before .before .bits2 .ensures, c .before .before .before .before .bits .ensures)
 
 pub surface-spec : {M : Type 1} → statement M
 surface-spec =

@@ -17,7 +17,7 @@ rotation-requires c κs = search needs
 
 returns : tie.Need-returns
 unfolding transformOf
-returns c = cc
+returns c = simp (c .rotation .ensures, c .before .bits3 .ensures, c .before .before .bits2 .ensures, c .before .before .before .bits .ensures)
 
 pub transform-spec : {M : Type 1} → statement M
 transform-spec =
