@@ -4,6 +4,7 @@ use Prim.Native.Nat.{ℕ, _+_, _-_, _*_, _/_, _%_, _^_, _≤_, _<_, min}
 use native.Mathlib.Nat.{mul-le-mul, add-mul, min-le-left}
 use native.Mathlib.Omega.{arith}
 use Rattle.pixel.specs.Alpha.{near}
+use Rattle.pixel.specs.Division.{shifted}
 use Rattle.pixel.specs.Blending.{blendedChannel, blended}
 use Rattle.pixel.specs.Colours.{packed, unpacked}
 use Rattle.pixel.specs.Formats.{layoutOf}
@@ -12,6 +13,7 @@ use Rattle.pixel.specs.declared.colour.Colour.{Colour}
 use Rattle.pixel.specs.declared.blend.RuleName.the-variants.{SrcOver}
 use Rattle.pixel.specs.declared.format.Format.the-variants.{Argb8888}
 use Rattle.pixel.proofs.Channels.{widened-byte, narrowed-byte}
+use Rattle.pixel.proofs.Division.{division}
 use Rattle.pixel.proofs.Stored.{Bytes}
 use Rattle.over.specs.Pair.{paired, lowOf, highOf}
 use Rattle.over.proofs.Kept.{word-colour}
@@ -27,9 +29,8 @@ halves : (a b : ℕ) → a < 65536 → b < 65536 → paired (lowOf (paired a b /
 halves a b u v = omega arith
 
 -- division by 255 of one of them
-nearest : (p : ℕ) → p ≤ 65025 → (p + 128 + (p + 128) / 256) / 256 ≡ near p
-unfolding near
-nearest p u = omega arith
+nearest : (p : ℕ) → p ≤ 65025 → shifted p ≡ near p
+nearest p u = division .exact p (omega arith)
 
 sum-both : (a b c d : ℕ) → paired a b + paired c d ≡ paired (a + c) (b + d)
 sum-both a b c d = omega arith

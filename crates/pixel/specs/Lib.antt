@@ -2,5 +2,6 @@
 pub mod Formats
 pub mod Colours
 pub mod Alpha
+pub mod Division
 pub mod Blending
 pub mod Rules

@@ -1,7 +1,8 @@
 // Blending of two colours: alpha modes, factors, rules.
 ghost use mathlib.Core.Path.{_≡_};
 ghost use Prim.Native.Nat.{_*_, _≤_};
-ghost use Rattle.pixel.specs.Alpha.{near as nearest, isAlphaMode, alphaModeOf, alphaBy, withAlpha};
+ghost use Rattle.pixel.specs.Alpha.{isAlphaMode, alphaModeOf, alphaBy, withAlpha};
+ghost use Rattle.pixel.specs.Division.{shifted};
 ghost use Rattle.pixel.specs.Blending.{isFactor, factorOf, factorValue, blendedChannel, blended};
 ghost use Rattle.pixel.specs.Rules.{ruleOf};
 use crate::colour::Colour;
@@ -45,12 +46,14 @@ pub enum RuleName {
     Add,
 }
 
-// The nearest whole number to n / 255. The sums of two products of bytes stay below 130,051.
+// The nearest whole number to n / 255, by shifts and adds. From 65,663 on it may be one too small, but it is never below 255, where
+// sums are held (specs/Division). The sums of two products of bytes stay below 130,051.
 pub fn near(n: u32) -> u32
     requires { ⌜ n ≤ 130050 ⌝ }
-    ensures { λ r. ⌜ r ≡ nearest n ⌝ }
+    ensures { λ r. ⌜ r ≡ shifted n ⌝ }
 {
-    (n + 127) / 255
+    let t = n + 128;
+    (t + (t >> 8)) >> 8
 }
 
 // The product of two bytes.

@@ -1,8 +1,9 @@
 use mathlib.Core.Path.{_≡_, ap, _∙_}
-use Prim.Native.Nat.{_+_, _*_}
+use Prim.Native.Nat.{min}
 use native.Mathlib.Omega.{arith}
 use Rattle.pixel.specs.Blending.{blendedChannel}
 use Rattle.pixel.specs.Alpha.{near}
+use Rattle.pixel.proofs.Division.{division}
 use borrow.Author.Needs.{needs}
 use Rattle.pixel.proofs.blend.blend_channel.Statement.{statement}
 use Rattle.pixel.proofs.blend.blend_channel.Tie as tie
@@ -22,16 +23,15 @@ near-requires c κs = search needs
 cast-result : tie.Need-cast-result
 cast-result c = search needs
 
--- what `near` was asked
-quotient : (c : tie.After-near) → c .near .result ≡ near (c .before .before .before .args .s * c .before .before .before .args .fs + c .before .before .before .args .d * c .before .before .before .args .fd)
-quotient c = c .near .ensures ∙ ap near (cc)
+-- what `near` was asked, held
+quotient : (c : tie.After-near) → min 255 (c .near .result) ≡ blendedChannel (c .before .before .before .args .s) (c .before .before .before .args .fs) (c .before .before .before .args .d) (c .before .before .before .args .fd)
+unfolding blendedChannel
+quotient c = ap (min 255) (c .near .ensures) ∙ division .held _ ∙ ap (λ n. min 255 (near n)) (cc)
 
 returns : tie.Need-returns
-unfolding blendedChannel
 returns c = omega (arith, quotient (c .before))
 
 returns-2 : tie.Need-returns-2
-unfolding blendedChannel
 returns-2 c = omega (arith, quotient (c .before))
 
 pub blend-channel-spec : {M : Type 1} → statement M
