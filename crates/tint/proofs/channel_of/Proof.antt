@@ -19,7 +19,7 @@ near-requires c κs = omega (arith, small c)
 
 -- a product of two bytes is divided exactly
 quotient : (c : tie.After-near) → c .near .result ≡ near (c .before .args .channel * c .before .args .coverage)
-quotient c = c .near .ensures ∙ division .exact (c .before .args .channel * c .before .args .coverage) (small (c .before))
+quotient c = c .near .ensures ∙ division .exact (c .before .args .channel * c .before .args .coverage) (omega (arith, small (c .before)))
 
 cast-result : tie.Need-cast-result
 unfolding near
