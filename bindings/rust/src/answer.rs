@@ -30,6 +30,8 @@ pub enum Refusal {
     BadEngine,
     /// 12, by the library's encoder: a buffer under 80 bytes. [`Task::encode`](crate::Task::encode) never lends one.
     ShortBuffer,
+    /// 15, by [`encode_tint`](crate::encode_tint): the score is NaN or outside 0 to 1.
+    BadScore,
     /// 24, by [`Task::encode`](crate::Task::encode): a field that its register's rule forbids.
     ForbiddenField,
     /// A number that this version of the package has no name for.
@@ -37,7 +39,7 @@ pub enum Refusal {
 }
 
 /// Every refusal that has a name, by its number.
-const REFUSALS: [(u32, Refusal); 13] = [
+const REFUSALS: [(u32, Refusal); 14] = [
     (1, Refusal::RingLength),
     (2, Refusal::MemoryLength),
     (3, Refusal::FourClients),
@@ -50,6 +52,7 @@ const REFUSALS: [(u32, Refusal); 13] = [
     (10, Refusal::OtherLength),
     (11, Refusal::BadEngine),
     (12, Refusal::ShortBuffer),
+    (15, Refusal::BadScore),
     (24, Refusal::ForbiddenField),
 ];
 
@@ -89,6 +92,7 @@ impl Refusal {
             Refusal::OtherLength => "ring or memory is not of the length that was set up",
             Refusal::BadEngine => "no engine record, or one that breaks a rule",
             Refusal::ShortBuffer => "a buffer under 80 bytes",
+            Refusal::BadScore => "the score is NaN or outside 0 to 1",
             Refusal::ForbiddenField => "a field that its register's rule forbids",
             Refusal::Other(_) => "a reason without a name here",
         }

@@ -82,6 +82,15 @@ extern "C" {
     ) -> u32;
     fn wenditsal_pending(engine: *const u8, engine_size: usize, client: u32, count: *mut u32) -> u32;
     fn wenditsal_encode(fields: Fields, buffer: *mut u8, buffer_size: usize) -> u32;
+    fn wenditsal_encode_tint(
+        score: f32,
+        red: u8,
+        green: u8,
+        blue: u8,
+        output: SurfaceFields,
+        buffer: *mut u8,
+        buffer_size: usize,
+    ) -> u32;
     fn wenditsal_compose(first: u32, second: u32) -> u32;
     fn wenditsal_inverse(setting: u32) -> u32;
 }
@@ -132,6 +141,10 @@ pub fn pending(engine: &[u8], client: u32, count: &mut u32) -> u32 {
 
 pub fn encode(fields: Fields, buffer: &mut [u8]) -> u32 {
     unsafe { wenditsal_encode(fields, buffer.as_mut_ptr(), buffer.len()) }
+}
+
+pub fn encode_tint(score: f32, [red, green, blue]: [u8; 3], output: SurfaceFields, buffer: &mut [u8]) -> u32 {
+    unsafe { wenditsal_encode_tint(score, red, green, blue, output, buffer.as_mut_ptr(), buffer.len()) }
 }
 
 // Numbers in, a number out.

@@ -403,6 +403,34 @@ impl Task {
     }
 }
 
+/// The 80 bytes of the batch of one task that lays a tint, red, green and blue, over a rectangle: the less sure the score, from
+/// 0 to 1, the stronger.
+///
+/// ```
+/// use wenditsal::{encode_tint, Engine, Refusal, Setup, Surface};
+///
+/// let mut engine = Engine::new(Setup { ring: 128, memory: 64, common: 0 })?;
+/// let client = engine.open(0, 64)?;
+/// engine.memory_mut()[..4].copy_from_slice(&[255, 255, 255, 255]);
+///
+/// // A score of 0.5 covers with 128 of 255.
+/// let word = Surface { width: 1, height: 1, stride: 8, ..Surface::default() };
+/// engine.submit(client, &encode_tint(0.5, [255, 0, 0], word)?)?;
+/// assert_eq!(engine.run()?.fault, None);
+/// assert_eq!(engine.memory()[..4], [127, 127, 255, 255]);
+///
+/// assert_eq!(encode_tint(f32::NAN, [255, 0, 0], word), Err(Refusal::BadScore));
+/// # Ok::<(), Refusal>(())
+/// ```
+///
+/// # Errors
+/// [`Refusal::BadScore`]: the score is NaN or outside 0 to 1. [`Refusal::ForbiddenField`]: as by [`Task::encode`].
+pub fn encode_tint(score: f32, tint: [u8; 3], output: Surface) -> Result<[u8; TASK_SIZE], Refusal> {
+    let mut bytes = [0; TASK_SIZE];
+    Refusal::check(library::encode_tint(score, tint, output.fields(), &mut bytes))?;
+    Ok(bytes)
+}
+
 impl Surface {
     fn fields(self) -> SurfaceFields {
         let Surface { width, height, stride, address, format } = self;

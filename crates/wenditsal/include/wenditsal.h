@@ -56,8 +56,11 @@ extern "C" {
  *    7  submit           no free slot: eight batches are ready
  *    8  submit           fewer free bytes in the ring than the batch has
  *    9  run              no batch is ready
- *   24  encode           a field that its register's rule forbids
- *   12  encode           buffer under WENDITSAL_TASK_SIZE bytes
+ *   15  encode tint      score NaN or outside 0 to 1
+ *   24  encode, encode tint
+ *                        a field that its register's rule forbids
+ *   12  encode, encode tint
+ *                        buffer under WENDITSAL_TASK_SIZE bytes
  */
 #define WENDITSAL_RING_LENGTH 1
 #define WENDITSAL_MEMORY_LENGTH 2
@@ -71,6 +74,7 @@ extern "C" {
 #define WENDITSAL_OTHER_LENGTH 10
 #define WENDITSAL_BAD_ENGINE 11
 #define WENDITSAL_SHORT_BUFFER 12
+#define WENDITSAL_BAD_SCORE 15
 #define WENDITSAL_FORBIDDEN_FIELD 24
 
 /*
@@ -250,6 +254,27 @@ struct wenditsal_fields {
  * Refusals: 24, 12.
  */
 uint32_t wenditsal_encode(struct wenditsal_fields fields, uint8_t *buffer, size_t buffer_size);
+
+/*
+ * Writes the batch of one task that tints a rectangle by a score to the first WENDITSAL_TASK_SIZE bytes of buffer; the others stay. The score says how sure a reader is,
+ * from 0 to 1; the surer, the fainter the tint. Its coverage is 255 - a, with a the greatest whole number from 0 to 255 that isn't above
+ * score x 255 in float: 0.5 has coverage 128, 1 has 0.
+ *
+ * The task is in colour mode, by SRC_OVER over what the rectangle holds. Its colour has the coverage for alpha, and each of red, green and
+ * blue as (channel x coverage + 127) / 255. The source has the rectangle's size, the destination is the rectangle; both are enabled, and
+ * all other fields are 0.
+ *
+ * -0.0 is a score, since it is 0. A NaN of any kind is none.
+ * Refusals: 15, 24, 12.
+ */
+uint32_t wenditsal_encode_tint(
+    float score,
+    uint8_t red,
+    uint8_t green,
+    uint8_t blue,
+    struct wenditsal_surface output,
+    uint8_t *buffer,
+    size_t buffer_size);
 
 /* ---- Flips and turns */
 

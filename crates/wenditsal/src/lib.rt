@@ -6,7 +6,10 @@ ghost use Rattle.transform.specs.Bits.{settingOf, bitsOf};
 ghost use Rattle.encoder.specs.Encoder.{numberOf, answerOf, bufferAfter};
 ghost use Rattle.session.specs.Played.{Played};
 ghost use Rattle.calls.specs.Calls.{SetsUp, Opens, Submits, Pends, Runs};
+ghost use Rattle.tint.specs.Tint.{numberOf as tintNumber, answerOf as tintAnswer, bufferAfter as tintBuffer};
 use encoder::Fields;
+use encoder::SurfaceFields;
+use tint::Tint;
 
 // Sets up an engine and plays a script on the lent ring and memory. Returns how many bytes of answers it wrote.
 #[no_mangle]
@@ -109,6 +112,25 @@ pub extern "C" fn wenditsal_encode(fields: Fields, buffer: &mut [u8]) -> u32
         ⌝ }
 {
     let answer = encoder::encode(fields, buffer);
+    answer.number()
+}
+
+// Writes the 80 bytes of the batch of the one task that tints a rectangle by a score to a buffer.
+#[no_mangle]
+pub extern "C" fn wenditsal_encode_tint(
+    score: f32,
+    red: u8,
+    green: u8,
+    blue: u8,
+    output: SurfaceFields,
+    buffer: &mut [u8],
+) -> u32
+    ensures { λ r. ⌜
+        (r ≡ tintNumber (tintAnswer score (record { red = red; green = green; blue = blue }) output (length (now (buffer .entry)))))
+        × (now (buffer .exit) ≡ tintBuffer score (record { red = red; green = green; blue = blue }) output (now (buffer .entry)))
+        ⌝ }
+{
+    let answer = tint::encode_tint(score, Tint { red, green, blue }, output, buffer);
     answer.number()
 }
 

@@ -1,5 +1,6 @@
 //! The engine as the static library has it. A slice is handed over as a pointer and a length.
 use crate::lent::Lent;
+use crate::tints::Case;
 use independent::calls::{Answer, Buffers, Call};
 use independent::engine::Numbers;
 use independent::made_tasks::Fields;
@@ -37,9 +38,13 @@ impl HeaderFields {
     }
 }
 
+/// A rectangle in the order of the header's struct: width, height, stride, address, format.
+#[repr(C)]
+struct HeaderSurface([u32; 5]);
+
 #[cfg(linked)]
 mod library {
-    use super::HeaderFields;
+    use super::{HeaderFields, HeaderSurface};
 
     extern "C" {
         pub fn wenditsal_play(
@@ -85,6 +90,16 @@ mod library {
 
         pub fn wenditsal_encode(fields: HeaderFields, buffer: *mut u8, size: usize) -> u32;
 
+        pub fn wenditsal_encode_tint(
+            score: f32,
+            red: u8,
+            green: u8,
+            blue: u8,
+            output: HeaderSurface,
+            buffer: *mut u8,
+            size: usize,
+        ) -> u32;
+
         pub fn wenditsal_compose(first: u32, second: u32) -> u32;
 
         pub fn wenditsal_inverse(setting: u32) -> u32;
@@ -95,7 +110,7 @@ mod library {
 #[cfg(not(linked))]
 #[allow(clippy::too_many_arguments)]
 mod library {
-    use super::HeaderFields;
+    use super::{HeaderFields, HeaderSurface};
 
     macro_rules! missing {
         ($($name:ident($($parameter:ty),*) -> $answer:ty;)*) => {
@@ -113,6 +128,7 @@ mod library {
         wenditsal_run(*mut u8, usize, *const u8, usize, *mut u8, usize, *mut u32) -> u32;
         wenditsal_pending(*const u8, usize, u32, *mut u32) -> u32;
         wenditsal_encode(HeaderFields, *mut u8, usize) -> u32;
+        wenditsal_encode_tint(f32, u8, u8, u8, HeaderSurface, *mut u8, usize) -> u32;
         wenditsal_compose(u32, u32) -> u32;
         wenditsal_inverse(u32) -> u32;
     }
@@ -207,4 +223,14 @@ pub fn compose(first: u32, second: u32) -> u32 {
 pub fn inverse(setting: u32) -> u32 {
     // Numbers in, a number out.
     unsafe { library::wenditsal_inverse(setting) }
+}
+
+/// A tint encoded by the engine: its answer and the buffer after it. Nothing if it wrote outside what it was lent.
+pub fn encode_tint(case: &Case, guards: usize) -> Option<(u32, Vec<u8>)> {
+    let mut lent = Lent::new(&case.buffer, guards);
+    let ([red, green, blue], output) = (case.tint, HeaderSurface(case.output));
+    let score = f32::from_bits(case.score);
+    // The pointer is followed by the number of bytes that lie there.
+    let number = unsafe { library::wenditsal_encode_tint(score, red, green, blue, output, lent.pointer(), lent.length) };
+    Some((number, lent.returned()?))
 }

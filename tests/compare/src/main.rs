@@ -5,6 +5,7 @@
 //! compare orders COUNT SEED                      random pairs of orders of the same batches, likewise
 //! compare pages                                  two surfaces at every place about each other, by the static library
 //! compare settings                               every two settings composed by the static library, held to pictures
+//! compare tints COUNT SEED                       tints at all limits and random ones, encoded by the static library
 //! compare fuzz SECONDS SEED                      random and damaged input of every kind, until the time is over
 //! compare replays COUNT SEED PROGRAM [WORD ..]   random replay files, on PROGRAM's standard input
 //! compare cuts FILE PROGRAM [WORD ..]            a replay file cut at every byte
@@ -17,6 +18,7 @@ mod lists;
 mod orders;
 mod replays;
 mod settings;
+mod tints;
 mod trials;
 
 use std::io::{Error, Result};
@@ -34,11 +36,12 @@ fn compared(words: &[&str]) -> Result<bool> {
         ["orders", count, seed] => Ok(orders::compare(number(count)?, number(seed)?)),
         ["pages"] => Ok(lists::pages()),
         ["settings"] => Ok(settings::compare()),
+        ["tints", count, seed] => Ok(tints::compare(number(count)?, number(seed)?)),
         ["fuzz", seconds, seed] => Ok(fuzz::compare(number(seconds)?, number(seed)?)),
         ["replays", count, seed, program @ ..] => replays::compare(number(count)?, number(seed)?, program),
         ["cuts", file, program @ ..] => replays::cuts(file, program),
         _ => Err(Error::other(
-            "usage: calls | lists COUNT SEED | orders COUNT SEED | pages | settings | fuzz SECONDS SEED \
+            "usage: calls | lists COUNT SEED | orders COUNT SEED | pages | settings | tints COUNT SEED | fuzz SECONDS SEED \
              | replays COUNT SEED PROGRAM | cuts FILE PROGRAM",
         )),
     }

@@ -54,7 +54,7 @@ fn widened(value: u8, width: u32) -> u8 {
 }
 
 /// The whole part of (n + 127) / 255: one more than that of n / 255 where the remainder is above 127.
-fn near(n: u32) -> u32 {
+pub fn near(n: u32) -> u32 {
     n / 255 + u32::from(n % 255 > 127)
 }
 

@@ -25,7 +25,8 @@ impl Place {
         Place { address: self.address + self.stride * y + bytes * x, width, height, ..self }
     }
 
-    fn fields(self) -> [u32; 5] {
+    /// Its fields, in the writer's order.
+    pub fn fields(self) -> [u32; 5] {
         [self.width, self.height, self.stride, self.address, self.format]
     }
 }

@@ -1,0 +1,32 @@
+use mathlib.Core.Path.{_≡_, _∙_}
+use Prim.Native.Nat.{_*_, _≤_}
+use native.Mathlib.Omega.{arith}
+use borrow.Author.Needs.{needs}
+use Rattle.pixel.specs.Alpha.{near}
+use Rattle.pixel.proofs.Division.{division}
+use Rattle.over.proofs.Pairs.{product-small}
+use Rattle.tint.proofs.channel_of.Statement.{statement}
+use Rattle.tint.proofs.channel_of.Tie as tie
+
+small : (c : tie.Start) → c .args .channel * c .args .coverage ≤ 65025
+small c = product-small (c .args .channel) (c .args .coverage) (omega arith) (omega arith)
+
+mul-near : tie.Need-mul-near
+mul-near c = omega (arith, small c)
+
+near-requires : tie.Need-near-requires
+near-requires c κs = omega (arith, small c)
+
+-- a product of two bytes is divided exactly
+quotient : (c : tie.After-near) → c .near .result ≡ near (c .before .args .channel * c .before .args .coverage)
+quotient c = c .near .ensures ∙ division .exact (c .before .args .channel * c .before .args .coverage) (omega (arith, small (c .before)))
+
+cast-result : tie.Need-cast-result
+unfolding near
+cast-result c = omega (arith, small (c .before), quotient c)
+
+returns : tie.Need-returns
+returns c = quotient c
+
+pub channel-of-spec : {M : Type 1} → statement M
+channel-of-spec = tie.close (tie.spec mul-near near-requires cast-result returns)

@@ -1,0 +1,49 @@
+use mathlib.Core.Path.{sym, ap, _∙_}
+use Prim.Native.Nat.{ℕ}
+use lib.ListN.{length}
+use borrow.Author.Tests.{not-true, not-false}
+use borrow.Author.Needs.{needs}
+use Rattle.encoder.specs.declared.fields.Fields.{Fields}
+use Rattle.encoder.specs.Encoder as encoder
+use Rattle.tint.specs.declared.Answer.the-variants.{Encoded}
+use Rattle.tint.specs.Tint.{tintFields}
+use Rattle.tint.proofs.Cases.{bad-score, scored}
+use Rattle.tint.proofs.encode_tint.Statement.{statement}
+use Rattle.tint.proofs.encode_tint.Tie as tie
+
+is-score-requires : tie.Need-is-score-requires
+is-score-requires c κs = search needs
+
+returns : tie.Need-returns
+returns c =
+    let a = c .before .before .before .args in
+    bad-score (a .score) (a .tint) (a .output) (a .buffer .now)
+    (sym (c .before .is-score .ensures) ∙ not-true (c .before .is-score .result) (c .if1 .taken))
+
+coverage-of-requires : tie.Need-coverage-of-requires
+coverage-of-requires c κs = search needs
+
+fields-of-requires : tie.Need-fields-of-requires
+fields-of-requires c κs = search needs
+
+encode-requires : tie.Need-encode-requires
+encode-requires c κs = search needs
+
+same-length : tie.Need-same-length
+same-length c = search needs
+
+returns-2 : tie.Need-returns-2
+returns-2 c =
+    let coverage = c .before .before .before .before .before in
+    let tested = coverage .before in
+    let a = tested .before .before .before .args in
+    let is-score = tested .before .is-score in
+    let fields = c .before .before .before .before .fields-of .ensures ∙ ap (λ (n : ℕ). tintFields (a .tint) n (a .output)) (coverage .coverage-of .ensures) in
+    let done = scored (a .score) (a .tint) (a .output) (a .buffer .now) (sym (is-score .ensures) ∙ not-false (is-score .result) (tested .if1 .left)) in
+    let encode = c .before .before .encode .ensures in (
+      ap Encoded (encode .0 ∙ ap (λ (f : Fields). encoder.answerOf f (length (a .buffer .now))) fields) ∙ done .0,
+      encode .1 ∙ ap (λ (f : Fields). encoder.bufferAfter f (a .buffer .now)) fields ∙ done .1,
+    )
+
+pub encode-tint-spec : {M : Type 1} → statement M
+encode-tint-spec = tie.close (tie.spec is-score-requires returns coverage-of-requires fields-of-requires encode-requires same-length returns-2)
