@@ -5,7 +5,7 @@ use mathlib.Core.Logic.{_⊎_, inl, inr}
 use mathlib.Core.List.{List, [], _∷_, _++_}
 use Prim.Native.Nat.{ℕ, zero, suc, _/_}
 use native.Mathlib.Omega.{arith}
-use lib.ListN.{length, getD, replicate, length-replicate}
+use lib.ListN.{length, getD}
 use lib.Dec.{eqb}
 use borrow.Author.Tests.{eqb-true}
 use Rattle.word.specs.Word.{words}
@@ -19,31 +19,25 @@ use Rattle.rules.specs.declared.fault.Fault.the-variants.{ReservedBits, GroupLe
 use Rattle.rules.specs.Faults.{faultNumber}
 use Rattle.batch.specs.Batch.{Reading, Ending, finished, faulty, verdictOf, statusOf}
 use Rattle.claims.specs.Way.{boundsOf, numbersOf}
-use Rattle.claims.specs.Engine.{told}
 use Rattle.model.specs.Calls.{Verdict, completed}
 use Rattle.records.specs.Records.{Entry}
-use Rattle.replay.specs.Lines.{starting, served}
-use Rattle.replay.specs.Answered.{refusal, windowOf, verdict, ticketAfter, answerAfter, countAfter, acceptedFrom, servedAll}
-use Rattle.replay.proofs.Answered.{promise as answered}
+use Rattle.replay.specs.Answered.{refusal, windowOf, verdict, ticketAfter, countAfter}
 use Rattle.provenance.specs.declared.Detail.{Detail}
 use Rattle.provenance.specs.declared.Detail.the-variants.{Nothing, Register}
-use Rattle.provenance.specs.declared.Explained.{Explained}
+use Rattle.provenance.specs.declared.Explanation.{Explanation}
 use Rattle.provenance.specs.declared.Why.{Why}
 use Rattle.provenance.specs.declared.Why.the-variants.{NoFault, Faulted}
 use Rattle.provenance.specs.Drawn.{readingOf}
 use Rattle.provenance.specs.Faulted.{registerAt, heldIn, detailOf, explainedBy, explained, whyFrom, faultedBy}
 use Rattle.provenance.specs.Reason.{Blamed}
+use Rattle.provenance.proofs.Given.{Accepted, accepted-here, accepted-further, completes}
 use Rattle.provenance.proofs.Forbidden.{forbids}
 
 -- ---- the record that was accepted with a ticket
 
 record Named (count ticket : ℕ) (entries : List Entry) (answer : Why) : Type 0 where
-  before : List Entry
   entry : Entry
-  after : List Entry
-  among : entries ≡ before ++ entry ∷ after
-  taken : refusal entry ≡ 0
-  with : ticketAfter (acceptedFrom count before) ≡ ticket
+  accepted : Accepted count ticket entries entry
   is : answer ≡ explained (words (entry .batch)) (readingOf entry)
 
 abbrev Found : (found : Why) (count ticket : ℕ) (entries : List Entry) (answer : Why) → Type 0
@@ -52,29 +46,15 @@ Found found count ticket entries answer = (answer ≡ found) ⊎ Named count tic
 -- one more in front
 module _ (count ticket : ℕ) (entry : Entry) (entries : List Entry) (answer : Why) where
   further : Named (countAfter count entry) ticket entries answer → Named count ticket (entry ∷ entries) answer
-  unfolding acceptedFrom
-  further n = record {
-    before = entry ∷ n .before;
-    entry = n .entry;
-    after = n .after;
-    among = ap (λ (es : List Entry). entry ∷ es) (n .among);
-    taken = n .taken;
-    with = n .with;
-    is = n .is;
-  }
+  further n = record { entry = n .entry; accepted = accepted-further count ticket entry entries (n .entry) (n .accepted); is = n .is }
 
   hit : eqb (refusal entry) 0 && eqb (ticketAfter count) ticket ≡ true → (found : Why)
       → Found (explained (words (entry .batch)) (readingOf entry)) (countAfter count entry) ticket entries answer → Found found count ticket (entry ∷ entries) answer
-  unfolding acceptedFrom
   hit e found (inl same) =
       let both = and-true (eqb (refusal entry) 0) (eqb (ticketAfter count) ticket) e in
       inr (record {
-        before = [];
         entry = entry;
-        after = entries;
-        among = refl;
-        taken = eqb-true (refusal entry) 0 (both .0);
-        with = eqb-true (ticketAfter count) ticket (both .1);
+        accepted = accepted-here count ticket entry entries (eqb-true (refusal entry) 0 (both .0)) (eqb-true (ticketAfter count) ticket (both .1));
         is = same;
       })
   hit e found (inr n) = inr (further n)
@@ -103,14 +83,14 @@ named found count ticket (entry ∷ entries) =
 
 -- ---- what is said of its fault
 
-record Says (ws : List ℕ) (r : Reading) (answer : Explained) : Type 0 where
+record Says (ws : List ℕ) (r : Reading) (answer : Explanation) : Type 0 where
   fault : Fault
   ends : r .ending ≡ faulty fault (answer .place)
   number : answer .fault ≡ faultNumber fault
   word : answer .word ≡ getD ws (answer .place / 4) 0
   detail : answer .detail ≡ detailOf fault (registerAt ws (answer .place / 4)) (r .bank)
 
-says : (ws : List ℕ) (r : Reading) (answer : Explained) → Faulted answer ≡ explained ws r → Says ws r answer
+says : (ws : List ℕ) (r : Reading) (answer : Explanation) → Faulted answer ≡ explained ws r → Says ws r answer
 unfolding explained
 says ws r answer e = go (r .ending) refl
   where
@@ -137,35 +117,29 @@ register-named Overlap at bank register held e = absurd (let z : _≡_ {A = ℕ}
 
 -- ---- from the start
 
--- what the engine answers of a record after others
-completes : (before : List Entry) (entry : Entry) → refusal entry ≡ 0
-    → served entry (servedAll before starting) .answer ≡ completed (entry .client) (ticketAfter (acceptedFrom 0 before)) (verdict entry)
-unfolding starting told
-completes before entry taken =
-    answered .each (replicate 32768 0) (replicate 65536 0) (length-replicate {A = ℕ} 32768 0) (length-replicate {A = ℕ} 65536 0) before entry .answers ∙ rw taken
-
 verdict-says : (r : Reading) (f : Fault) (place number : ℕ) → r .ending ≡ faulty f place → number ≡ faultNumber f
     → numbersOf (verdictOf r) ≡ record { status = statusOf (verdictOf r); fault = number; offset = place }
 verdict-says r f place number e n = rw (e, n)
 
-pub blames : (entries : List Entry) (ticket : ℕ) (answer : Explained) → faultedBy entries ticket ≡ Faulted answer → Blamed entries ticket answer
+pub blames : (entries : List Entry) (ticket : ℕ) (answer : Explanation) → faultedBy entries ticket ≡ Faulted answer → Blamed entries ticket answer
 unfolding faultedBy
 blames entries ticket answer e = go (named NoFault 0 ticket entries)
   where
     go : Found NoFault 0 ticket entries (whyFrom NoFault 0 ticket entries) → Blamed entries ticket answer
     go (inl none) = absurd (let wrong : NoFault ≡ Faulted answer = sym none ∙ e in let z : _≡_ {A = ℕ} 0 1 = cc in omega arith)
     go (inr n) =
+        let a = n .accepted in
         let ws : List ℕ = words (n .entry .batch) in
         let r : Reading = readingOf (n .entry) in
         let s = says ws r answer (sym e ∙ n .is) in
         record {
-          before = n .before;
+          before = a .before;
           entry = n .entry;
-          after = n .after;
-          among = n .among;
+          after = a .after;
+          among = a .among;
           status = statusOf (verdictOf r);
-          completes = completes (n .before) (n .entry) (n .taken)
-              ∙ ap (λ (t : ℕ). completed (n .entry .client) t (verdict (n .entry))) (n .with)
+          completes = completes (a .before) (n .entry) (a .taken)
+              ∙ ap (λ (t : ℕ). completed (n .entry .client) t (verdict (n .entry))) (a .with)
               ∙ ap (completed (n .entry .client) ticket) (verdict-says r (s .fault) (answer .place) (answer .fault) (s .ends) (s .number));
           word = s .word;
           refuses = λ register held d.

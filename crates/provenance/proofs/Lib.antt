@@ -1,8 +1,7 @@
--- Laws of what was drawn.
+-- Laws of what was drawn, and the proof of specs/Reason.
 pub mod Holds
 pub mod Tasks
-pub mod Reason
+pub mod Given
 pub mod Forbidden
 pub mod Blamed
-pub mod Batch
-pub mod Answering
+pub mod Reason

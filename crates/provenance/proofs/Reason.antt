@@ -28,6 +28,7 @@ use Rattle.provenance.specs.declared.Touched.the-variants.{NotDrawn, By}
 use Rattle.provenance.specs.Drawn.{Drawn, numbered, readingOf, drawnBy, drawnFrom, tasksOf}
 use Rattle.provenance.specs.Touched.{touchOf, lastFrom, touchedBy}
 use Rattle.provenance.specs.Reason.{zeros, memoryAfter, byteAfter, Wrote, Untouched, True, Promise}
+use Rattle.provenance.proofs.Given.{given}
 use Rattle.provenance.proofs.Blamed.{blames}
 use Rattle.provenance.proofs.Tasks.{tasks-append, tasks-numbered, draw-append, AllRows, rows-append, LastOf, Last, last-is, writes, keeps, untouched}
 
@@ -138,6 +139,7 @@ module _ (entries : List Entry) (i : ℕ) (l : i < 65536) where
         after = w .after;
         among = w .among;
         named = refl;
+        batch = given entries (w .before) (w .after) (w .drawn) (w .among);
         row = w .row;
         place = w .place;
         held = w .held;

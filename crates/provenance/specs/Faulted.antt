@@ -18,7 +18,7 @@ use Rattle.replay.specs.Answered.{refusal, ticketAfter, countAfter}
 use Rattle.provenance.specs.declared.Group.{Group}
 use Rattle.provenance.specs.declared.Detail.{Detail}
 use Rattle.provenance.specs.declared.Detail.the-variants.{Nothing, Register}
-use Rattle.provenance.specs.declared.Explained.{Explained}
+use Rattle.provenance.specs.declared.Explanation.{Explanation}
 use Rattle.provenance.specs.declared.Why.{Why}
 use Rattle.provenance.specs.declared.Why.the-variants.{NoFault, Faulted}
 use Rattle.provenance.specs.Drawn.{readingOf}

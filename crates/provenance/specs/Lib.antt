@@ -2,6 +2,5 @@
 pub mod Drawn
 pub mod Touched
 pub mod Faulted
-pub mod Refusals
-pub mod Session
+pub mod Answers
 pub mod Reason

@@ -9,14 +9,16 @@ use Rattle.surface.specs.Surface.{InRow}
 use Rattle.register.specs.Bank.{written}
 use Rattle.register.specs.declared.bank.Write.the-variants.{Refused}
 use Rattle.register.specs.declared.bank.WriteFault.the-variants.{Forbidden as NotTaken}
+use Rattle.register.specs.declared.task.Task.{Task}
+use Rattle.batch.specs.Batch.{tasksDrawn}
 use Rattle.raster.specs.Task.{drawTask, drawTasks}
 use Rattle.raster.specs.Written.{OutsideAll, outputByte}
 use Rattle.records.specs.Records.{Entry}
 use Rattle.model.specs.Calls.{completed}
 use Rattle.replay.specs.Lines.{starting, served}
-use Rattle.replay.specs.Answered.{servedAll}
+use Rattle.replay.specs.Answered.{verdict, servedAll}
 use Rattle.provenance.specs.declared.Detail.the-variants.{Register}
-use Rattle.provenance.specs.declared.Explained.{Explained}
+use Rattle.provenance.specs.declared.Explanation.{Explanation}
 use Rattle.provenance.specs.declared.Why.the-variants.{Faulted}
 use Rattle.provenance.specs.declared.Touch.{Touch}
 use Rattle.provenance.specs.declared.Touched.{Touched}
@@ -37,6 +39,18 @@ memoryAfter ds = drawTasks (tasksOf ds) zeros
 abbrev pub byteAfter : List Entry → ℕ → ℕ
 byteAfter entries i = getD (servedAll entries starting .memory) i 0
 
+-- the batch of a drawn task: the engine completed it with this ticket, and this is the task's number there
+pub record Given (entries : List Entry) (drawn : Drawn) : Type 0 where
+  pub before : List Entry
+  pub entry : Entry
+  pub after : List Entry
+  pub among : entries ≡ before ++ entry ∷ after
+  pub completes : served entry (servedAll before starting) .answer ≡ completed (entry .client) (drawn .ticket) (verdict entry)
+  pub earlier : List Task
+  pub later : List Task
+  pub tasks : tasksDrawn (readingOf entry) ≡ earlier ++ drawn .task ∷ later
+  pub number : drawn .number ≡ length earlier
+
 -- a task of these records that drew byte i last
 pub record Wrote (entries : List Entry) (i : ℕ) (answer : Touch) : Type 0 where
   pub before : List Drawn
@@ -44,6 +58,7 @@ pub record Wrote (entries : List Entry) (i : ℕ) (answer : Touch) : Type 0 wher
   pub after : List Drawn
   pub among : drawnFrom 0 entries ≡ before ++ drawn ∷ after
   pub named : answer ≡ touchOf drawn
+  pub batch : Given entries drawn
   pub row : ℕ
   pub place : ℕ
   pub held : InRow (drawn .task .output) i row place
@@ -54,6 +69,7 @@ pub record Wrote (entries : List Entry) (i : ℕ) (answer : Touch) : Type 0 wher
   -- so the byte at the end is that one
   pub stays : byteAfter entries i ≡ outputByte (drawn .task) (memoryAfter before) row place
 
+-- no task of these records drew byte i: it is as at the start
 pub record Untouched (entries : List Entry) (i : ℕ) : Type 0 where
   pub outside : OutsideAll (tasksOf (drawnFrom 0 entries)) i
   pub zero : byteAfter entries i ≡ 0
@@ -64,7 +80,7 @@ True entries i NotDrawn = Untouched entries i
 True entries i (By answer) = Wrote entries i answer
 
 -- the batch with this ticket, of which this is answered
-pub record Blamed (entries : List Entry) (ticket : ℕ) (answer : Explained) : Type 0 where
+pub record Blamed (entries : List Entry) (ticket : ℕ) (answer : Explanation) : Type 0 where
   pub before : List Entry
   pub entry : Entry
   pub after : List Entry
@@ -82,4 +98,4 @@ pub record Promise : Type 0 where
   pub engine : (entries : List Entry) → servedAll entries starting .memory ≡ memoryAfter (drawnFrom 0 entries)
   -- the reason is true
   pub reason : (entries : List Entry) (i : ℕ) → i < 65536 → True entries i (touchedBy entries i)
-  pub blames : (entries : List Entry) (ticket : ℕ) (answer : Explained) → faultedBy entries ticket ≡ Faulted answer → Blamed entries ticket answer
+  pub blames : (entries : List Entry) (ticket : ℕ) (answer : Explanation) → faultedBy entries ticket ≡ Faulted answer → Blamed entries ticket answer
