@@ -4,61 +4,26 @@ use ppm::Number;
 use ppm::Rectangle;
 use surface::Surface;
 
-// A line on standard error.
-fn complain(text: &[u8]) {
-    io::write_all(libc::STDERR_FILENO, text);
-}
-
-// What is wrong with the arguments, and how to give them.
-fn refuse(what: &[u8], why: &[u8]) {
-    complain(what);
-    complain(why);
-    complain(b"usage: picture FILE ADDRESS STRIDE WIDTH HEIGHT FORMAT\n");
-    complain(b"numbers in decimal; FORMAT is argb8888, rgb888 or rgb565\n");
-}
-
-// An argument that is to be a number. One that is too long for the buffer counts as empty, and so as none.
-fn number_argument(index: usize, name: &[u8]) -> Number {
-    let mut text = io::buffer();
-    let n = os::arg(index, &mut text);
-    let number = ppm::number_of(&text[..n]);
-    if let Number::Wrong = number {
-        refuse(name, b" is not a number from 0 to 4294967295\n");
-    }
-    number
-}
-
-// The argument that is to be a format.
-fn format_argument(index: usize) -> Named {
-    let mut text = io::buffer();
-    let n = os::arg(index, &mut text);
-    let format = ppm::format_named(&text[..n]);
-    if let Named::Unknown = format {
-        refuse(b"FORMAT", b" is not one of the three\n");
-    }
-    format
-}
-
 // The rectangle that the arguments name. What is wrong with them is told.
 fn asked() -> Rectangle {
-    let Number::Value(address) = number_argument(2, b"ADDRESS") else {
+    let Number::Value(address) = command::number_argument(2, b"ADDRESS") else {
         return Rectangle::Outside;
     };
-    let Number::Value(stride) = number_argument(3, b"STRIDE") else {
+    let Number::Value(stride) = command::number_argument(3, b"STRIDE") else {
         return Rectangle::Outside;
     };
-    let Number::Value(width) = number_argument(4, b"WIDTH") else {
+    let Number::Value(width) = command::number_argument(4, b"WIDTH") else {
         return Rectangle::Outside;
     };
-    let Number::Value(height) = number_argument(5, b"HEIGHT") else {
+    let Number::Value(height) = command::number_argument(5, b"HEIGHT") else {
         return Rectangle::Outside;
     };
-    let Named::Known(format) = format_argument(6) else {
+    let Named::Known(format) = command::format_argument(6) else {
         return Rectangle::Outside;
     };
     let rectangle = ppm::rectangle_of(address, stride, width, height, format);
     if let Rectangle::Outside = rectangle {
-        refuse(
+        command::complain(
             b"the rectangle",
             b" does not lie in the 65536 bytes of memory, has a side outside 1 to 4096 or a stride over 65535\n",
         );
@@ -74,7 +39,7 @@ fn write_rows(memory: &[u8], s: Surface) {
     let mut well = true;
     while y < height && well {
         let n = ppm::row(memory, s, y, &mut out);
-        well = replay_io::print(&out, n);
+        well = command::print(&out, n);
         y += 1;
     }
 }
@@ -82,17 +47,27 @@ fn write_rows(memory: &[u8], s: Surface) {
 fn write_picture(memory: &[u8], s: Surface) {
     let mut line = [0u8; 64];
     let n = ppm::header(&mut line, s.width as u32, s.height as u32);
-    if replay_io::print(&line, n) {
+    if command::print(&line, n) {
         write_rows(memory, s);
     }
 }
 
+// How to give the arguments.
+fn usage() {
+    command::complain(
+        b"usage: picture FILE ADDRESS STRIDE WIDTH HEIGHT FORMAT\n",
+        b"numbers in decimal; FORMAT is argb8888, rgb888 or rgb565\n",
+    );
+}
+
 fn main() {
     if os::arg_count() != 7 {
-        refuse(b"picture", b" takes six arguments\n");
+        command::complain(b"picture", b" takes six arguments\n");
+        usage();
         return;
     }
     let Rectangle::Inside(s) = asked() else {
+        usage();
         return;
     };
     let mut memory = io::large_buffer();

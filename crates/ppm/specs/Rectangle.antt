@@ -1,4 +1,4 @@
--- The rectangles that can be shown: sides as 01 allows them in a task, a stride that its register holds, and a span in the memory
+-- A page in memory, named by numbers. The rectangles that can be shown: sides as 01 allows them in a task, a stride that its register holds, and a span in the memory
 -- of a replay (01, "Writer and replay": 65,536 bytes).
 use Prim.Native.Nat.{ℕ}
 use mathlib.Core.Bool.{Bool, cond, _&&_}
@@ -6,9 +6,11 @@ use lib.Dec.{leb, ltb}
 use Rattle.range.specs.Range.{runOf, inside}
 use Rattle.pixel.specs.declared.format.Format.{Format}
 use Rattle.surface.specs.declared.Surface.{Surface}
-use Rattle.surface.specs.Surface.{span}
+use Rattle.surface.specs.Surface.{span, pixelStart}
 use Rattle.ppm.specs.declared.rectangle.Rectangle.{Rectangle}
 use Rattle.ppm.specs.declared.rectangle.Rectangle.the-variants.{Inside, Outside}
+use Rattle.ppm.specs.declared.rectangle.Pixel.{Pixel}
+use Rattle.ppm.specs.declared.rectangle.Pixel.the-variants.{At, TooFar}
 
 -- 1 to 4,096, as fault 25 leaves them
 abbrev pub isSide : ℕ → Bool
@@ -24,3 +26,10 @@ unfoldable pub rectangleOf : (address stride width height : ℕ) → Format → 
 rectangleOf address stride width height format =
     let s : Surface = surfaceOf address stride width height format in
     cond (isShown s) (Inside s) Outside
+
+-- the first byte of pixel (x, y) of a page: sides and stride have the same limits. The byte may lie outside memory
+unfoldable pub pixelOf : (address stride : ℕ) → Format → (x y : ℕ) → Pixel
+pixelOf address stride format x y =
+    cond (ltb stride 65536 && ltb x 4096 && ltb y 4096)
+    (At (pixelStart (surfaceOf address stride 4096 4096 format) x y))
+    TooFar

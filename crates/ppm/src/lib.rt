@@ -5,7 +5,9 @@ pub mod words;
 
 pub use picture::header;
 pub use picture::row;
+pub use rectangle::Pixel;
 pub use rectangle::Rectangle;
+pub use rectangle::pixel_of;
 pub use rectangle::rectangle_of;
 pub use words::Named;
 pub use words::Number;

@@ -1,6 +1,6 @@
 -- Each record of a replay is answered as specs/Answered says. Before it the engine stands for a model with the four windows in which nothing
 -- waits; submit and run, one after the other, lead to such a model again.
-use mathlib.Core.Path.{_≡_, refl, _∙_}
+use mathlib.Core.Path.{_≡_, refl, sym, ap, _∙_}
 use mathlib.Core.Bool.{Bool, true, false, cond, _||_, not}
 use mathlib.Core.Logic.{⊎-elim}
 use mathlib.Core.List.{List, [], _∷_}
@@ -25,9 +25,9 @@ use Rattle.claims.proofs.Confined.{confined}
 use Rattle.claims.proofs.Related.{Related}
 use Rattle.claims.proofs.Steps.{Alike}
 use Rattle.claims.proofs.Follows.{together, at-end}
-use Rattle.replay.specs.Records.{Entry, Ending, File}
+use Rattle.records.specs.Records.{Entry, Ending, File}
 use Rattle.replay.specs.Lines.{setup, opening, started, starting, served, entryLine, endingLine, printedFrom, lines}
-use Rattle.replay.specs.Answered.{refusal, windowOf, verdict, ticketAfter, answerAfter, countAfter, toldAfter, lineFeeds, OneLine, acceptedFrom, servedAll, Answered, Promise}
+use Rattle.replay.specs.Answered.{refusal, windowOf, verdict, ticketAfter, answerAfter, countAfter, drawnAfter, toldAfter, lineFeeds, OneLine, acceptedFrom, servedAll, Answered, Promise}
 use Rattle.replay.proofs.LineFeeds.{feeds-append, one-feed, answer-one}
 
 -- ---- the model between two records
@@ -47,6 +47,9 @@ record Stands (count : ℕ) (s : State) : Type 0 where
   memory : List ℕ
   size : length memory ≡ 65536
   related : Related setup 32768 (resting count memory) s
+
+memory-is : {model : Model} {s : State} → Related setup 32768 model s → model .memory ≡ s .memory
+memory-is r = ap (λ (m : Model). m .memory) (r .is)
 
 -- ---- what the table says of a record
 
@@ -140,11 +143,18 @@ module _ (count : ℕ) (s : State) (S : Stands count s) (entry : Entry) where
         let h : entry .client ≤ 3 = owner entry e in
         rw (window-is count (S .memory) (entry .client) h) (confined resetBank w 16384 (entry .batch) .sized (S .memory) (omega (arith, S .size), omega (arith, S .size)) ∙ S .size)
 
+    drawn-memory : ran .after .memory ≡ real .draw (windowOf (entry .client)) 16384 (entry .batch) (s .memory)
+    drawn-memory =
+        sym (memory-is (run-alike .1))
+        ∙ ap (λ (w : Window). real .draw w 16384 (entry .batch) (S .memory)) (window-is count (S .memory) (entry .client) (owner entry e))
+        ∙ ap (real .draw (windowOf (entry .client)) 16384 (entry .batch)) (memory-is (S .related))
+
   -- what is answered, and where it leads
   record Told : Type 0 where
     submits : submitted .answer ≡ told (refusal entry) (accepted (ticketAfter count))
     runs : (ticket : ℕ) → submitted .answer ≡ accepted ticket → ran .answer ≡ completed (entry .client) ticket (verdict entry)
     answers : served entry s .answer ≡ answerAfter count entry
+    draws : served entry s .after .memory ≡ drawnAfter entry (s .memory)
     onward : Stands (countAfter count entry) (served entry s .after)
 
   one : Told
@@ -159,6 +169,7 @@ module _ (count : ℕ) (s : State) (S : Stands count s) (entry : Entry) where
             submits = rw e yes;
             runs = λ ticket a. let same : ticketAfter count ≡ ticket = cc in rw (← same) (completes e);
             answers = rw (e, served-yes e) (completes e);
+            draws = ap (λ (c : Called). c .after .memory) (served-yes e) ∙ rw e (drawn-memory e);
             onward = rw (next, served-yes e) (record { memory = drawn; size = drawn-size e; related = run-alike e .1 });
           }
       go (suc k) e =
@@ -168,6 +179,7 @@ module _ (count : ℕ) (s : State) (S : Stands count s) (entry : Entry) where
             submits = rw e no;
             runs = λ ticket a. absurd (let z : _≡_ {A = ℕ} 0 1 = cc in omega arith);
             answers = rw (e, served-no k e) no;
+            draws = ap (λ (c : Called). c .after .memory) (served-no k e) ∙ rw (e, eqb·suc-zero k) (sym (memory-is (told-no k e .1)) ∙ memory-is (S .related));
             onward = rw (next, served-no k e) (record { memory = S .memory; size = S .size; related = told-no k e .1 });
           }
 
@@ -224,7 +236,7 @@ each ring memory long size before entry =
     let s : State = servedAll before (started ring memory) in
     let S : Stands count s = stands-on before 0 (started ring memory) (starts ring memory long size) in
     let o = one count s S entry in
-    record { submits = o .submits; runs = o .runs; answers = o .answers; one-line = one-line count s S entry }
+    record { submits = o .submits; runs = o .runs; answers = o .answers; one-line = one-line count s S entry; draws = o .draws }
 
 text : (file : File) → lines file ≡ toldAfter 0 (file .entries) (file .ending)
 unfolding lines

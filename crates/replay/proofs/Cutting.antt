@@ -14,7 +14,7 @@ use Rattle.word.proofs.Tests.{split}
 use Rattle.claims.specs.Engine.{State}
 use Rattle.replay.specs.declared.Stage.{Stage}
 use Rattle.replay.specs.declared.Stage.the-variants.{Version, Records, Ended}
-use Rattle.replay.specs.Records.{Entry, File, badVersion, badRecord, cutRecord, ends, andThen, sizeOf, badSize, entryOf, recordsFrom, records}
+use Rattle.records.specs.Records.{Entry, File, badVersion, badRecord, cutRecord, ends, andThen, sizeOf, badSize, entryOf, recordsFrom, records}
 use Rattle.replay.specs.Lines.{endingLine, printedFrom, linesFrom, lines}
 use Rattle.replay.specs.Step.{Position, position, atStart, missing, decided, Step, stepIn, step, finishText}
 use Rattle.replay.specs.Cutting.{fedFrom, fedAll, printed, joined}

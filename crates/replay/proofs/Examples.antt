@@ -13,7 +13,7 @@ use Rattle.model.specs.Calls.{opened}
 use Rattle.claims.specs.Engine.{told, called, answersOf, begin}
 use Rattle.text.specs.Hex.{hexByte, hexBytes, hexWord}
 use Rattle.text.specs.Decimal.{digitsIn, decimal}
-use Rattle.replay.specs.Records.{whole, badVersion, badRecord, cutRecord, ends, andThen, recordsFrom, records}
+use Rattle.records.specs.Records.{whole, badVersion, badRecord, cutRecord, ends, andThen, recordsFrom, records}
 use Rattle.replay.specs.Lines.{completionLine, refusalLine, setup, opening}
 
 -- `0 0 00010001 0 0`

@@ -21,7 +21,7 @@ use Rattle.replay.specs.declared.Stage.the-variants.{Version, Records, E
 use Rattle.replay.specs.declared.Replay.{Replay}
 use Rattle.replay.specs.declared.Fed.{Fed}
 use Rattle.replay.specs.declared.Decided.{Decided}
-use Rattle.replay.specs.Records.{badVersion, cutRecord, sizeOf, badSize}
+use Rattle.records.specs.Records.{badVersion, cutRecord, sizeOf, badSize}
 use Rattle.replay.specs.Lines.{endingLine}
 use Rattle.replay.specs.Step.{Position, position, missing, Told, decided, Step, idle, stepIn, step, finishText}
 use Rattle.replay.specs.Calls.{positionOf, replayAt, Prints, suffice, fedStep, Feeds, finishedText, Decides, Steps}

@@ -8,3 +8,4 @@ pub mod Playing
 pub mod LineFeeds
 pub mod Answered
 pub mod Examples
+pub mod OnRecords

@@ -11,7 +11,7 @@ use Rattle.word.specs.Splice.{spliced}
 use Rattle.claims.specs.Engine.{State}
 use Rattle.replay.specs.declared.Replay.{Replay}
 use Rattle.replay.specs.declared.Fed.{Fed}
-use Rattle.replay.specs.Records.{records}
+use Rattle.records.specs.Records.{records}
 use Rattle.replay.specs.Lines.{linesFrom, lines}
 use Rattle.replay.specs.Step.{Position, atStart, Step, step, finishText}
 use Rattle.replay.specs.Calls.{positionOf, replayAt, Prints, suffice, fedStep, Feeds, finishedText}

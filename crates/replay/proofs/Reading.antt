@@ -15,7 +15,7 @@ use Rattle.record.specs.declared.Record.{Record}
 use Rattle.replay.specs.declared.Stage.the-variants.{Records, Ended}
 use Rattle.replay.specs.declared.Served.{Served}
 use Rattle.replay.specs.declared.Decided.{Decided}
-use Rattle.replay.specs.Records.{badRecord, sizeOf, badSize, entryOf}
+use Rattle.records.specs.Records.{badRecord, sizeOf, badSize, entryOf}
 use Rattle.replay.specs.Lines.{endingLine, served, entryLine}
 use Rattle.replay.specs.Step.{position, missing, Told, decided}
 use Rattle.replay.specs.Calls.{Prints, Serves, Decides, replayAt}

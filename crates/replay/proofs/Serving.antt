@@ -17,7 +17,7 @@ use Rattle.engine.specs.Run.{oldest, oldestVerdict, runNumber, answered, runOf,
 use Rattle.model.specs.Calls.{run, refused}
 use Rattle.claims.specs.Engine.{state, Called, told, completion, called, stateAfter}
 use Rattle.replay.specs.declared.Served.{Served}
-use Rattle.replay.specs.Records.{Entry}
+use Rattle.records.specs.Records.{Entry}
 use Rattle.replay.specs.Lines.{refusalLine, answerLine, served, started, starting}
 use Rattle.replay.specs.Calls.{Prints, Serves}
 

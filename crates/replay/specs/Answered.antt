@@ -12,7 +12,7 @@ use Rattle.model.specs.Calls.{submit, run, Verdict, Answer, accepted, completed
 use Rattle.model.specs.Refusals.{badLength}
 use Rattle.claims.specs.OfModel.{real}
 use Rattle.claims.specs.Engine.{State, Called, told, called}
-use Rattle.replay.specs.Records.{Entry, Ending, File}
+use Rattle.records.specs.Records.{Entry, Ending, File}
 use Rattle.replay.specs.Lines.{setup, started, served, answerLine, entryLine, endingLine, lines}
 
 -- ---- a record by itself
@@ -47,6 +47,10 @@ countAfter count entry = count + cond (eqb (refusal entry) 0) 1 0
 unfoldable pub toldAfter : (count : ℕ) → List Entry → Ending → List ℕ
 toldAfter count [] ending = endingLine ending
 toldAfter count (entry ∷ entries) ending = answerLine (entry .client) (answerAfter count entry) ++ toldAfter (countAfter count entry) entries ending
+
+-- memory after it: its own batch drawn in its own client's window; a refused record draws nothing
+abbrev pub drawnAfter : Entry → List ℕ → List ℕ
+drawnAfter entry memory = cond (eqb (refusal entry) 0) (real .draw (windowOf (entry .client)) 16384 (entry .batch) memory) memory
 
 -- ---- lines
 
@@ -91,6 +95,8 @@ module _ (ring memory : List ℕ) (before : List Entry) (entry : Entry) where
     -- so this is what its line tells
     pub answers : served entry reached .answer ≡ answerAfter count entry
     pub one-line : OneLine (entryLine entry reached)
+    -- and this is what it does to memory
+    pub draws : served entry reached .after .memory ≡ drawnAfter entry (reached .memory)
 
 pub record Promise : Type 0 where
   pub each : (ring memory : List ℕ) → length ring ≡ 32768 → length memory ≡ 65536 → (before : List Entry) (entry : Entry) → Answered ring memory before entry

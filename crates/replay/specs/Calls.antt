@@ -12,7 +12,7 @@ use Rattle.replay.specs.declared.Replay.{Replay}
 use Rattle.replay.specs.declared.Fed.{Fed}
 use Rattle.replay.specs.declared.Served.{Served}
 use Rattle.replay.specs.declared.Decided.{Decided}
-use Rattle.replay.specs.Records.{Entry}
+use Rattle.records.specs.Records.{Entry}
 use Rattle.replay.specs.Lines.{served, entryLine}
 use Rattle.replay.specs.Step.{Position, position, decided, Step, idle, step, finishText}
 

@@ -6,7 +6,7 @@ use Prim.Native.Nat.{ℕ, zero, suc, _≤_}
 use lib.ListN.{length, take, drop, replicate}
 use Rattle.replay.specs.declared.Replay.{Replay}
 use Rattle.replay.specs.declared.Fed.{Fed}
-use Rattle.replay.specs.Records.{records}
+use Rattle.records.specs.Records.{records}
 use Rattle.replay.specs.Lines.{lines}
 use Rattle.replay.specs.Step.{Position, atStart, Step, step, finishOf}
 use Rattle.replay.specs.Calls.{replayAt, Prints, Feeds, finishedText}

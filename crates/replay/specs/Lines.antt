@@ -7,7 +7,7 @@ use Rattle.model.specs.Calls.{Setup, Call, opens, submit, run, Verdict, Answer,
 use Rattle.claims.specs.Engine.{State, Called, called, stateAfter, begin}
 use Rattle.text.specs.Hex.{hexWord}
 use Rattle.text.specs.Decimal.{decimal}
-use Rattle.replay.specs.Records.{Entry, Ending, whole, badVersion, badRecord, cutRecord, File}
+use Rattle.records.specs.Records.{Entry, Ending, whole, badVersion, badRecord, cutRecord, File}
 
 -- ---- one line
 

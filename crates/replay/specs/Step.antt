@@ -8,7 +8,7 @@ use lib.Dec.{ltb, eqb}
 use Rattle.claims.specs.Engine.{State}
 use Rattle.replay.specs.declared.Stage.{Stage}
 use Rattle.replay.specs.declared.Stage.the-variants.{Version, Records, Ended}
-use Rattle.replay.specs.Records.{whole, badVersion, badRecord, cutRecord, sizeOf, badSize, entryOf}
+use Rattle.records.specs.Records.{whole, badVersion, badRecord, cutRecord, sizeOf, badSize, entryOf}
 use Rattle.replay.specs.Lines.{endingLine, served, entryLine, starting}
 
 -- the stage, the bytes that are there of an unfinished record, and engine, ring and memory

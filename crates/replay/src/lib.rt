@@ -12,7 +12,7 @@ ghost use Rattle.engine.specs.Outcome.{numberOf as refusalOf, valuesOf};
 ghost use Rattle.claims.specs.Engine.{state, told, completion};
 ghost use Rattle.text.specs.Line.{lineOf, typed};
 ghost use Rattle.text.specs.Decimal.{decimal};
-ghost use Rattle.replay.specs.Records.{badSize, badVersion};
+ghost use Rattle.records.specs.Records.{badSize, badVersion};
 ghost use Rattle.replay.specs.Lines.{completionLine, refusalLine, answerLine, endingLine};
 ghost use Rattle.replay.specs.Step.{position, atStart, missing, stepIn};
 ghost use Rattle.replay.specs.Calls.{replayAt, Prints, Serves, Decides, Steps, Feeds, finishedText};

@@ -11,7 +11,7 @@ use Rattle.replay.specs.declared.Stage.{Stage}
 use Rattle.replay.specs.declared.Stage.the-variants.{Version, Records, Ended}
 use Rattle.replay.specs.declared.Replay.{Replay}
 use Rattle.replay.specs.declared.Fed.{Fed}
-use Rattle.replay.specs.Records.{badVersion}
+use Rattle.records.specs.Records.{badVersion}
 use Rattle.replay.specs.Lines.{endingLine}
 use Rattle.replay.specs.Step.{Position, position, Step, stepIn}
 use Rattle.replay.specs.Calls.{positionOf, Prints, suffice, fedStep, Feeds}

@@ -1,17 +1,12 @@
-// Replay files read from a descriptor, and their lines written to standard output: what the programs share. No contract can say
+// Replay files read from a descriptor and replayed, and their lines written to standard output. No contract can say
 // which bytes are read or written; that the memory is what some bytes make of it is proved.
-ghost use mathlib.Core.Path.{_≡_};
-ghost use mathlib.Core.Bool.{false};
 ghost use mathlib.Core.List.{[]};
-ghost use Prim.Native.Nat.{_<_};
-ghost use lib.ListN.{length};
 ghost use Rattle.replay.specs.declared.Stage.the-variants.{Version};
 ghost use Rattle.replay.specs.Lines.{started};
 ghost use Rattle.replay.specs.Step.{position};
 ghost use Rattle.replay.specs.Calls.{positionOf};
 ghost use Rattle.replay_io.specs.Gather.{Gathers};
 ghost use Rattle.replay_io.specs.Reached.{Reaches, Replayed};
-use libc::STDOUT_FILENO;
 use replay::Fed;
 use replay::Replay;
 
@@ -59,27 +54,12 @@ fn feed_lines(
     }
 }
 
-// Writes the first n bytes of `out` to standard output. Answers whether that went well; what did fail is told on standard error.
-// Where there are no n bytes nothing is written, and the answer is no; else it is the system's, and no contract can say which.
-pub fn print(out: &[u8], n: usize) -> bool
-    ensures { λ r. ⌜ (length (now (out .entry)) < n → r ≡ false) ⌝ }
-{
-    if out.len() < n {
-        return false;
-    }
-    let is_written = io::write_all(STDOUT_FILENO, &out[..n]);
-    if !is_written {
-        os::fail(b"standard output");
-    }
-    is_written
-}
-
-// The same, if lines are to be shown.
+// Prints the first n bytes of `out`, if lines are to be shown. Answers whether nothing failed.
 fn show(shows: bool, out: &[u8], n: usize) -> bool {
     if !shows {
         return true;
     }
-    print(out, n)
+    command::print(out, n)
 }
 
 // Feeds a piece of the file, whole.
@@ -132,24 +112,15 @@ fn read_some(
         (positionOf (r .replay) (now (held .exit)) (now (ring .exit)) (now (memory .exit))) ⌝ }
 {
     let mut piece = io::large_buffer();
-    let got = libc::read(fd, &mut piece);
-    if got < 0 {
-        os::fail(name);
+    let got = command::read_piece(fd, name, &mut piece);
+    if got.count == 0 {
         return Progress {
             replay,
             more: false,
-            well: false,
+            well: got.well,
         };
     }
-    if got == 0 {
-        return Progress {
-            replay,
-            more: false,
-            well: true,
-        };
-    }
-    let n = io::count(got, &piece);
-    feed_piece(replay, held, ring, memory, &piece[..n], shows)
+    feed_piece(replay, held, ring, memory, &piece[..got.count], shows)
 }
 
 // A proved loop has to end, and nothing says that a file does. So the turns are counted down, from a number that no run uses up.
@@ -207,17 +178,12 @@ pub fn replay_argument(index: usize, memory: &mut [u8], shows: bool) -> bool
     ensures { λ _. ⌜ Replayed (now (memory .entry)) (now (memory .exit)) ⌝ }
 {
     let mut path = io::buffer();
-    let n = os::arg(index, &mut path);
-    if os::errno() != 0 {
-        os::fail(b"FILE");
-        return false;
-    }
-    let fd = os::open_read(&path[..n]);
+    let opened = command::open_argument(index, &mut path);
+    let fd = opened.fd;
     if fd < 0 {
-        os::fail(&path[..n]);
         return false;
     }
-    let well = replay_from(fd, &path[..n], memory, shows);
+    let well = replay_from(fd, &path[..opened.length], memory, shows);
     libc::close(fd);
     well
 }

@@ -28,7 +28,7 @@ fn digit(value: u8) -> u8
     }
 }
 
-fn hex(line: &mut [u8], n: usize, byte: u8) -> usize
+pub fn hex(line: &mut [u8], n: usize, byte: u8) -> usize
     ensures { λ r. ⌜ lineOf (now (line .exit)) r ≡ typed (lineOf (now (line .entry)) n) (hexByte byte) ⌝ }
 {
     let high = push(line, n, digit(byte / 16));

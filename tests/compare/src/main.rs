@@ -9,6 +9,8 @@
 //! compare fuzz SECONDS SEED                      random and damaged input of every kind, until the time is over
 //! compare replays COUNT SEED PROGRAM [WORD ..]   random replay files, on PROGRAM's standard input
 //! compare cuts FILE PROGRAM [WORD ..]            a replay file cut at every byte
+//! compare provenance COUNT SEED SAMPLES TOUCHED FAULT
+//!                                                who drew a byte and why a batch faulted, asked of two programs
 mod bench;
 mod cases;
 mod fuzz;
@@ -16,6 +18,7 @@ mod lent;
 mod linked;
 mod lists;
 mod orders;
+mod provenance;
 mod replays;
 mod settings;
 mod tints;
@@ -40,9 +43,12 @@ fn compared(words: &[&str]) -> Result<bool> {
         ["fuzz", seconds, seed] => Ok(fuzz::compare(number(seconds)?, number(seed)?)),
         ["replays", count, seed, program @ ..] => replays::compare(number(count)?, number(seed)?, program),
         ["cuts", file, program @ ..] => replays::cuts(file, program),
+        ["provenance", count, seed, samples, touched, fault] => {
+            provenance::compare(number(count)?, number(seed)?, samples, [touched, fault])
+        }
         _ => Err(Error::other(
             "usage: calls | lists COUNT SEED | orders COUNT SEED | pages | settings | tints COUNT SEED | fuzz SECONDS SEED \
-             | replays COUNT SEED PROGRAM | cuts FILE PROGRAM",
+             | replays COUNT SEED PROGRAM | cuts FILE PROGRAM | provenance COUNT SEED SAMPLES TOUCHED FAULT",
         )),
     }
 }

@@ -14,6 +14,7 @@ pub mod picture;
 pub mod pixel;
 pub mod play;
 pub mod programs;
+pub mod provenance;
 pub mod queue;
 pub mod random;
 pub mod record_bytes;

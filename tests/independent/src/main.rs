@@ -7,7 +7,11 @@
 //! independent replay [FILE]          prints the lines of a replay file, or of standard input
 //! independent picture FILE ADDRESS STRIDE WIDTH HEIGHT FORMAT
 //!                                    writes a rectangle of the memory after a replay as a picture (PPM)
-use independent::picture::Rectangle;
+//! independent touched FILE ADDRESS [STRIDE FORMAT X Y]
+//!                                    who drew a byte last, or the first byte of a pixel
+//! independent fault FILE TICKET      why a batch faulted
+use independent::picture::{byte_of_words, number, Rectangle};
+use independent::provenance::Answers;
 use independent::tally::Tally;
 use independent::{play, programs, replay, samples, scripts};
 use std::io::{Error, Read, Result, Write};
@@ -45,15 +49,31 @@ fn picture(file: &String, words: &[String]) -> Result<()> {
     std::io::stdout().write_all(&picture)
 }
 
+fn touched(file: &String, words: &[String]) -> Result<()> {
+    let address = byte_of_words(words).ok_or_else(|| Error::other("not ADDRESS, nor ADDRESS STRIDE FORMAT X Y"))?;
+    println!("{}", Answers::of(&input(Some(file))?).touched(address));
+    Ok(())
+}
+
+fn fault(file: &String, ticket: &str) -> Result<()> {
+    let ticket = number(ticket).and_then(|n| n.try_into().ok()).ok_or_else(|| Error::other("TICKET is no number"))?;
+    println!("{}", Answers::of(&input(Some(file))?).fault(ticket));
+    Ok(())
+}
+
 fn done(words: &[String]) -> Result<()> {
     let plain: Vec<&str> = words.iter().map(String::as_str).collect();
     match plain.as_slice() {
         ["--count", lists, seed] => count(lists, seed),
         ["replay"] | ["replay", _] => std::io::stdout().write_all(replay::replayed(&input(words.get(1))?).0.as_bytes()),
         ["picture", _, ..] => picture(&words[1], &words[2..]),
+        ["touched", _, ..] => touched(&words[1], &words[2..]),
+        ["fault", _, ticket] => fault(&words[1], ticket),
         ["samples", dir] => samples::write(Path::new(dir)),
         ["all", dir] => programs::write(Path::new(dir)),
-        _ => Err(Error::other("usage: all DIR | samples DIR | --count COUNT SEED | replay [FILE] | picture FILE ..")),
+        _ => Err(Error::other(
+            "usage: all DIR | samples DIR | --count COUNT SEED | replay [FILE] | picture FILE .. | touched FILE .. | fault FILE TICKET",
+        )),
     }
 }
 

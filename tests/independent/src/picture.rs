@@ -12,7 +12,7 @@ pub struct Rectangle {
 }
 
 /// A number, in decimal or after 0x in hex.
-fn number(word: &str) -> Option<u64> {
+pub fn number(word: &str) -> Option<u64> {
     match word.strip_prefix("0x") {
         Some(digits) => u64::from_str_radix(digits, 16).ok(),
         None => word.parse().ok(),
@@ -20,7 +20,7 @@ fn number(word: &str) -> Option<u64> {
 }
 
 /// A format by its name or by its code.
-fn format(word: &str) -> Option<&'static Format> {
+pub fn format(word: &str) -> Option<&'static Format> {
     match word.to_ascii_uppercase().as_str() {
         "ARGB8888" => pixel::format(0x00),
         "RGB888" => pixel::format(0x08),
@@ -49,6 +49,18 @@ impl Rectangle {
             }
         }
         Some(bytes)
+    }
+}
+
+/// The address that words name: ADDRESS, or the first byte of a pixel, ADDRESS STRIDE FORMAT X Y.
+pub fn byte_of_words(words: &[String]) -> Option<u64> {
+    match words {
+        [address] => number(address),
+        [address, stride, code, x, y] => {
+            let row = number(address)?.checked_add(number(stride)?.checked_mul(number(y)?)?)?;
+            row.checked_add(number(x)?.checked_mul(format(code)?.bytes as u64)?)
+        }
+        _ => None,
     }
 }
 

@@ -1,6 +1,8 @@
-//! What the programs that people use are run on in the gate: a replay file with its lines, and a picture of another's memory.
-use crate::picture::Rectangle;
-use crate::{replay, sample_files};
+//! What the programs that people use are run on in the gate: a replay file with its lines, a picture of another's memory, and
+//! the two questions of a lost tint.
+use crate::picture::{byte_of_words, Rectangle};
+use crate::provenance::Answers;
+use crate::{replay, sample_files, sample_page};
 use std::io::{Error, Result};
 use std::path::Path;
 
@@ -32,19 +34,45 @@ fn write_replay(dir: &Path) -> Result<()> {
     std::fs::write(dir.join("stdout"), replay::replayed(&file).0)
 }
 
-fn write_picture(dir: &Path) -> Result<()> {
+/// The arguments of `touched`: the file, address, stride and format of the page, and a pixel of it.
+const TOUCHED: [&str; 6] = ["lost_tint.replay", "16384", "256", "argb8888", "10", "4"];
+
+/// The arguments of `fault`: the file, and a ticket.
+const FAULT: [&str; 2] = ["lost_tint.replay", "3"];
+
+/// Writes what a program is run with: its arguments, the file that the first of them names, and what it is to print.
+fn write_program(dir: &Path, words: &[&str], file: &[u8], printed: &[u8]) -> Result<()> {
     std::fs::create_dir_all(dir.join("data"))?;
+    std::fs::write(dir.join("args"), words.join("\n") + "\n")?;
+    std::fs::write(dir.join("data").join(words[0]), file)?;
+    std::fs::write(dir.join("stdout"), printed)
+}
+
+fn write_picture(dir: &Path) -> Result<()> {
     let file = sample_files::formats();
     let words = PICTURED.map(String::from);
     let rectangle = Rectangle::of_words(&words[1..]).ok_or_else(|| Error::other("no rectangle"))?;
     let picture = rectangle.picture(&replay::replayed(&file).1).ok_or_else(|| Error::other("outside memory"))?;
-    std::fs::write(dir.join("args"), PICTURED.join("\n") + "\n")?;
-    std::fs::write(dir.join("data").join(PICTURED[0]), &file)?;
-    std::fs::write(dir.join("stdout"), picture)
+    write_program(dir, &PICTURED, &file, &picture)
 }
 
-/// Writes the files of both program crates below a folder.
+fn write_touched(dir: &Path) -> Result<()> {
+    let file = sample_page::lost_tint();
+    let words = TOUCHED.map(String::from);
+    let address = byte_of_words(&words[1..]).ok_or_else(|| Error::other("no pixel"))?;
+    write_program(dir, &TOUCHED, &file, format!("{}\n", Answers::of(&file).touched(address)).as_bytes())
+}
+
+fn write_fault(dir: &Path) -> Result<()> {
+    let file = sample_page::lost_tint();
+    let ticket = FAULT[1].parse().map_err(Error::other)?;
+    write_program(dir, &FAULT, &file, format!("{}\n", Answers::of(&file).fault(ticket)).as_bytes())
+}
+
+/// Writes the files of these program crates below a folder.
 pub fn write(dir: &Path) -> Result<()> {
     write_replay(&dir.join("replay_main"))?;
-    write_picture(&dir.join("picture"))
+    write_picture(&dir.join("picture"))?;
+    write_touched(&dir.join("touched"))?;
+    write_fault(&dir.join("fault"))
 }

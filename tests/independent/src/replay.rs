@@ -35,7 +35,7 @@ pub fn records(file: &[u8]) -> (Vec<Record<'_>>, Option<&'static str>) {
 }
 
 /// The engine that a file is played on.
-fn opened() -> Book {
+pub fn opened() -> Book {
     let numbers = Numbers { ring: RING, memory: MEMORY.into(), common: COMMON.into() };
     let mut book = Book::set_up(numbers, RING as usize, &[0; MEMORY as usize]).ok().expect("allowed numbers");
     for client in 0..4 {

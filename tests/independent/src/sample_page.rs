@@ -1,7 +1,9 @@
-//! The sample `page`: a page of 64 by 48 pixels, which fills the first client's window.
+//! The samples `page`, a page of 64 by 48 pixels, which fills the first client's window, and `lost_tint`, an entry of it.
 use crate::made_tasks::Fields;
 use crate::replay::window_start;
+use crate::ring;
 use crate::sample_tasks::{batch, blended, copy, file, fill, Place, ARGB8888};
+use crate::words::bytes;
 
 const PAPER: u32 = 0xFFFA_F6EC;
 const INK: u32 = 0xFF3A_3A44;
@@ -68,4 +70,19 @@ fn tints() -> Vec<Fields> {
 
 pub fn replay() -> Vec<u8> {
     file(&[(0, batch(&top())), (0, batch(&text())), (0, batch(&picture())), (0, batch(&tints()))])
+}
+
+/// An entry of the page is written and tinted. It is then written anew, without its tint. The batch that was to tint it again
+/// faults: 0x090 was to be 0x00000B01, SRC_OVER, and is given a code that no factor has.
+pub fn lost_tint() -> Vec<u8> {
+    let entry = page().part(2, 4, 28, 4);
+    let written = |words: &[(u32, u32)]| -> Vec<Fields> {
+        let word = |(x, length): &(u32, u32)| fill(page().part(*x, 5, *length, 2), INK);
+        std::iter::once(fill(entry, PAPER)).chain(words.iter().map(word)).collect()
+    };
+    let tint = batch(&[blended(fill(entry, 0x8080_7000), "SRC_OVER")]);
+    let mut spoilt = ring::words(&tint, 0, tint.len() as u64);
+    spoilt[13] = 0x0000_3B01;
+    let first = [vec![fill(page().part(0, 0, 64, 12), PAPER)], written(WORDS[0])].concat();
+    file(&[(0, batch(&first)), (0, tint), (0, batch(&written(WORDS[1]))), (0, bytes(&spoilt))])
 }

@@ -21,7 +21,7 @@ const fn sample(
 }
 
 /// The samples in the order in which to look at them.
-pub const SAMPLES: [Sample; 18] = [
+pub const SAMPLES: [Sample; 19] = [
     sample("hello", &["16384 8 2 1 ARGB8888"], files::hello, "01's worked words: two pixels of one colour by client 0"),
     sample("outside", &[], files::outside, "the same with address 64: fault 27 at byte 72, and nothing is drawn"),
     sample("blend", &["16384 64 16 8 ARGB8888"], files::blend, "a half-clear colour by SRC_OVER over a fill"),
@@ -84,6 +84,12 @@ pub const SAMPLES: [Sample; 18] = [
         &["16384 256 64 48 ARGB8888"],
         sample_scores::replay,
         "a page whose words carry the reader's scores: the less sure of a word, the stronger its tint; at the foot the scores from 0 to 1",
+    ),
+    sample(
+        "lost_tint",
+        &["16384 256 64 12 ARGB8888"],
+        sample_page::lost_tint,
+        "an entry tinted, then written anew; the batch that was to tint it again faults",
     ),
 ];
 

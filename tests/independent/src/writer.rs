@@ -4,19 +4,41 @@ use crate::registers::Bank;
 /// Each field's register, its lowest bit and its width, in the order in which fields are given.
 pub const FIELDS: [(u32, u32, u32); 29] = [
     // source: width, height, stride, address, format
-    (0x014, 0, 13), (0x014, 16, 13), (0x018, 0, 16), (0x020, 0, 32), (0x010, 8, 7),
+    (0x014, 0, 13),
+    (0x014, 16, 13),
+    (0x018, 0, 16),
+    (0x020, 0, 32),
+    (0x010, 8, 7),
     // source: alpha mode, global alpha, mode, colour, enable
-    (0x010, 22, 2), (0x010, 24, 8), (0x010, 2, 2), (0x01C, 0, 32), (0x010, 0, 1),
+    (0x010, 22, 2),
+    (0x010, 24, 8),
+    (0x010, 2, 2),
+    (0x01C, 0, 32),
+    (0x010, 0, 1),
     // source: H flip, V flip, quarter turns
-    (0x010, 6, 1), (0x010, 7, 1), (0x010, 4, 2),
+    (0x010, 6, 1),
+    (0x010, 7, 1),
+    (0x010, 4, 2),
     // destination: width, height, stride, address, format
-    (0x054, 0, 13), (0x054, 16, 13), (0x058, 0, 16), (0x060, 0, 32), (0x050, 8, 7),
+    (0x054, 0, 13),
+    (0x054, 16, 13),
+    (0x058, 0, 16),
+    (0x060, 0, 32),
+    (0x050, 8, 7),
     // destination: alpha mode, global alpha, enable
-    (0x050, 22, 2), (0x050, 24, 8), (0x050, 0, 1),
+    (0x050, 22, 2),
+    (0x050, 24, 8),
+    (0x050, 0, 1),
     // output: width, height, stride, address, format
-    (0x104, 0, 13), (0x104, 16, 13), (0x108, 0, 16), (0x110, 0, 32), (0x100, 8, 7),
+    (0x104, 0, 13),
+    (0x104, 16, 13),
+    (0x108, 0, 16),
+    (0x110, 0, 32),
+    (0x100, 8, 7),
     // blending: source factor, destination factor, on
-    (0x090, 11, 3), (0x090, 8, 3), (0x090, 0, 1),
+    (0x090, 11, 3),
+    (0x090, 8, 3),
+    (0x090, 0, 1),
 ];
 
 /// Places in that order.

@@ -1,6 +1,6 @@
 use mathlib.Core.Path.{refl, sym, _∙_}
 use native.Mathlib.Omega.{arith}
-use Rattle.replay.specs.Records.{badRecord}
+use Rattle.records.specs.Records.{badRecord}
 use Rattle.replay.specs.Lines.{endingLine}
 use Rattle.replay.proofs.Printing.{prints-typed}
 use Rattle.replay.proofs.Reading.{good-size, decides-short, decides-bad, decides-part, decides-whole}

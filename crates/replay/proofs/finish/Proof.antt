@@ -1,5 +1,5 @@
 use native.Mathlib.Omega.{arith}
-use Rattle.replay.specs.Records.{badVersion, cutRecord}
+use Rattle.records.specs.Records.{badVersion, cutRecord}
 use Rattle.replay.specs.Lines.{endingLine}
 use Rattle.replay.proofs.Printing.{prints-none, prints-typed}
 use Rattle.replay.proofs.Feeding.{finishes-short, finishes-version, finishes-whole, finishes-cut, finishes-ended}

@@ -2,7 +2,7 @@ use mathlib.Core.Path.{ap}
 use native.Mathlib.Omega.{arith}
 use borrow.Author.Tests.{eq-eqb, ne-eqb}
 use Rattle.replay.specs.declared.Decided.{Decided}
-use Rattle.replay.specs.Records.{badVersion}
+use Rattle.records.specs.Records.{badVersion}
 use Rattle.replay.specs.Lines.{endingLine}
 use Rattle.replay.proofs.Printing.{prints-none, prints-typed}
 use borrow.Author.Needs.{needs}

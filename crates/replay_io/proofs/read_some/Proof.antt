@@ -2,30 +2,23 @@ use Rattle.replay_io.specs.Reached.{here}
 use borrow.Author.Needs.{needs}
 use Rattle.replay_io.proofs.read_some.Statement.{statement}
 use Rattle.replay_io.proofs.read_some.Tie as tie
+use Rattle.replay_io.proofs.read_some.Reads as reads
+use Rattle.replay_io.proofs.read_some.Lts as lts
+use Rattle.command.proofs.read_piece.Reads as read-piece-reads
+use Rattle.io.proofs.large_buffer.Reads as large-buffer-reads
+use Rattle.replay_io.proofs.feed_piece.Reads as feed-piece-reads
 
 large-buffer-requires : tie.Need-large-buffer-requires
 large-buffer-requires c κs = search needs
 
-slice-aggregate-read : tie.Need-slice-aggregate-read
-slice-aggregate-read c = search needs
+slice-aggregate-read-piece : tie.Need-slice-aggregate-read-piece
+slice-aggregate-read-piece c = search needs
 
-read-requires : tie.Need-read-requires
-read-requires c κs = search needs
-
-fail-requires : tie.Need-fail-requires
-fail-requires c κs = search needs
+read-piece-requires : tie.Need-read-piece-requires
+read-piece-requires c κs = search needs
 
 returns : tie.Need-returns
 returns c = here
-
-returns-2 : tie.Need-returns-2
-returns-2 c = here
-
-slice-aggregate-count : tie.Need-slice-aggregate-count
-slice-aggregate-count c = search needs
-
-count-requires : tie.Need-count-requires
-count-requires c κs = search needs
 
 array-share-prefix-piece : tie.Need-array-share-prefix-piece
 array-share-prefix-piece c = search needs
@@ -45,25 +38,21 @@ same-length-2 c = search needs
 same-length-3 : tie.Need-same-length-3
 same-length-3 c = search needs
 
-returns-3 : tie.Need-returns-3
-returns-3 c = search needs
+returns-2 : tie.Need-returns-2
+returns-2 c = search needs
 
 pub read-some-spec : {M : Type 1} → statement M
 read-some-spec =
     tie.close
     (tie.spec
     large-buffer-requires
-    slice-aggregate-read
-    read-requires
-    fail-requires
+    slice-aggregate-read-piece
+    read-piece-requires
     returns
-    returns-2
-    slice-aggregate-count
-    count-requires
     array-share-prefix-piece
     slice-aggregate-feed-piece
     feed-piece-requires
     same-length
     same-length-2
     same-length-3
-    returns-3)
+    returns-2)

@@ -2,51 +2,27 @@ use Rattle.replay_io.proofs.Reaching.{unread}
 use borrow.Author.Needs.{needs}
 use Rattle.replay_io.proofs.replay_argument.Statement.{statement}
 use Rattle.replay_io.proofs.replay_argument.Tie as tie
+use Rattle.replay_io.proofs.replay_argument.Reads as reads
+use Rattle.replay_io.proofs.replay_argument.Lts as lts
+use Rattle.command.proofs.open_argument.Reads as open-argument-reads
+use Rattle.io.proofs.buffer.Reads as buffer-reads
+use Rattle.libc.proofs.close.Reads as close-reads
+use Rattle.replay_io.proofs.replay_from.Reads as replay-from-reads
 
 buffer-requires : tie.Need-buffer-requires
 buffer-requires c κs = search needs
 
-slice-aggregate-arg : tie.Need-slice-aggregate-arg
-slice-aggregate-arg c = search needs
+slice-aggregate-open-argument : tie.Need-slice-aggregate-open-argument
+slice-aggregate-open-argument c = search needs
 
-arg-requires : tie.Need-arg-requires
-arg-requires c κs = search needs
-
-errno-requires : tie.Need-errno-requires
-errno-requires c κs = search needs
-
-slice-aggregate-fail : tie.Need-slice-aggregate-fail
-slice-aggregate-fail c = search needs
-
-fail-requires : tie.Need-fail-requires
-fail-requires c κs = search needs
+open-argument-requires : tie.Need-open-argument-requires
+open-argument-requires c κs = search needs
 
 returns : tie.Need-returns
 returns c = unread _
 
 array-share-prefix-path : tie.Need-array-share-prefix-path
 array-share-prefix-path c = search needs
-
-slice-aggregate-open-read : tie.Need-slice-aggregate-open-read
-slice-aggregate-open-read c = search needs
-
-open-read-requires : tie.Need-open-read-requires
-open-read-requires c κs = search needs
-
-array-share-prefix-path-2 : tie.Need-array-share-prefix-path-2
-array-share-prefix-path-2 c = search needs
-
-slice-aggregate-fail-2 : tie.Need-slice-aggregate-fail-2
-slice-aggregate-fail-2 c = search needs
-
-fail-requires-2 : tie.Need-fail-requires-2
-fail-requires-2 c κs = search needs
-
-returns-2 : tie.Need-returns-2
-returns-2 c = unread _
-
-array-share-prefix-path-3 : tie.Need-array-share-prefix-path-3
-array-share-prefix-path-3 c = search needs
 
 slice-aggregate-replay-from : tie.Need-slice-aggregate-replay-from
 slice-aggregate-replay-from c = search needs
@@ -60,30 +36,20 @@ close-requires c κs = search needs
 same-length : tie.Need-same-length
 same-length c = search needs
 
-returns-3 : tie.Need-returns-3
-returns-3 c = search needs
+returns-2 : tie.Need-returns-2
+returns-2 c = search needs
 
 pub replay-argument-spec : {M : Type 1} → statement M
 replay-argument-spec =
     tie.close
     (tie.spec
     buffer-requires
-    slice-aggregate-arg
-    arg-requires
-    errno-requires
-    slice-aggregate-fail
-    fail-requires
+    slice-aggregate-open-argument
+    open-argument-requires
     returns
     array-share-prefix-path
-    slice-aggregate-open-read
-    open-read-requires
-    array-share-prefix-path-2
-    slice-aggregate-fail-2
-    fail-requires-2
-    returns-2
-    array-share-prefix-path-3
     slice-aggregate-replay-from
     replay-from-requires
     close-requires
     same-length
-    returns-3)
+    returns-2)

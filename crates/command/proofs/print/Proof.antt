@@ -3,8 +3,8 @@ use native.Mathlib.Omega.{arith}
 use lib.Seq.{length-take-le}
 use denote.Ref.{now}
 use borrow.Author.Needs.{needs}
-use Rattle.replay_io.proofs.print.Statement.{statement}
-use Rattle.replay_io.proofs.print.Tie as tie
+use Rattle.command.proofs.print.Statement.{statement}
+use Rattle.command.proofs.print.Tie as tie
 
 returns : tie.Need-returns
 returns c = λ h. refl

@@ -1,0 +1,100 @@
+// What the programs that people use share: arguments, what is told on standard error, files opened and read, bytes printed. No
+// contract can say which bytes are read or written.
+ghost use mathlib.Core.Path.{_≡_};
+ghost use mathlib.Core.Bool.{false};
+ghost use Prim.Native.Nat.{_<_};
+ghost use lib.ListN.{length};
+ghost use Rattle.io.specs.Counts.{Counts};
+use libc::STDERR_FILENO;
+use libc::STDOUT_FILENO;
+use ppm::Named;
+use ppm::Number;
+
+// ---- arguments
+
+// Two texts on standard error: what, and what is wrong with it.
+pub fn complain(what: &[u8], why: &[u8]) {
+    io::write_all(STDERR_FILENO, what);
+    io::write_all(STDERR_FILENO, why);
+}
+
+// An argument that is to be a number; what is wrong with it is told. One that is too long for the buffer counts as empty, and so as none.
+pub fn number_argument(index: usize, name: &[u8]) -> Number {
+    let mut text = io::buffer();
+    let n = os::arg(index, &mut text);
+    let number = ppm::number_of(&text[..n]);
+    if let Number::Wrong = number {
+        complain(name, b" is not a number from 0 to 4294967295\n");
+    }
+    number
+}
+
+// An argument that is to be a format; what is wrong with it is told.
+pub fn format_argument(index: usize) -> Named {
+    let mut text = io::buffer();
+    let n = os::arg(index, &mut text);
+    let format = ppm::format_named(&text[..n]);
+    if let Named::Unknown = format {
+        complain(b"FORMAT", b" is not argb8888, rgb888 or rgb565\n");
+    }
+    format
+}
+
+// ---- files
+
+// The descriptor of an opened file, negative if that failed, and the length of its path.
+pub struct Opened {
+    pub fd: i32,
+    pub length: usize,
+}
+
+// Opens the file that an argument names, and puts its path at the start of a buffer. What failed is told.
+pub fn open_argument(index: usize, path: &mut [u8]) -> Opened
+    ensures { λ r. ⌜ Counts (r .length) (now (path .exit)) ⌝ }
+{
+    let n = os::arg(index, path);
+    if os::errno() != 0 {
+        os::fail(b"FILE");
+        return Opened { fd: -1, length: 0 };
+    }
+    let fd = os::open_read(&path[..n]);
+    if fd < 0 {
+        os::fail(&path[..n]);
+    }
+    Opened { fd, length: n }
+}
+
+// What a reading brought: so many bytes, none at the end of the file or if it failed, and whether it went well.
+pub struct Piece {
+    pub count: usize,
+    pub well: bool,
+}
+
+// Reads once. What failed is told, with the file's name.
+pub fn read_piece(fd: i32, name: &[u8], piece: &mut [u8]) -> Piece
+    ensures { λ r. ⌜ Counts (r .count) (now (piece .exit)) ⌝ }
+{
+    let got = libc::read(fd, piece);
+    if got < 0 {
+        os::fail(name);
+    }
+    Piece {
+        count: io::count(got, piece),
+        well: 0 <= got,
+    }
+}
+
+// Writes the first n bytes of `out` to standard output. Answers whether that went well; what did fail is told on standard error.
+// Where there are no n bytes nothing is written, and the answer is no; else it is the system's, and no contract can say which.
+pub fn print(out: &[u8], n: usize) -> bool
+    ensures { λ r. ⌜ (length (now (out .entry)) < n → r ≡ false) ⌝ }
+{
+    if out.len() < n {
+        return false;
+    }
+    let is_written = io::write_all(STDOUT_FILENO, &out[..n]);
+    if !is_written {
+        os::fail(b"standard output");
+    }
+    is_written
+}

@@ -1,0 +1,30 @@
+// Why the batch of a replay with a ticket faulted: `fault FILE TICKET`.
+use inquiry::Question;
+use inquiry_io::Asked;
+use ppm::Number;
+
+// The ticket that the arguments name. What is wrong with them is told.
+fn asked() -> Number {
+    if os::arg_count() != 3 {
+        command::complain(b"fault", b" takes two arguments\n");
+        return Number::Wrong;
+    }
+    command::number_argument(2, b"TICKET")
+}
+
+// How to give the arguments.
+fn usage() {
+    command::complain(b"usage: fault FILE TICKET\n", b"TICKET in decimal\n");
+}
+
+fn main() {
+    let Number::Value(ticket) = asked() else {
+        usage();
+        return;
+    };
+    let question = Question { address: 0, ticket };
+    let Asked::Read(inquiry) = inquiry_io::ask(question) else {
+        return;
+    };
+    inquiry_io::print_fault(inquiry::why_faulted(question, inquiry));
+}

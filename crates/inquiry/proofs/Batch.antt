@@ -1,0 +1,121 @@
+-- One batch, a step of the walk at a time: the last of its tasks that holds a byte; the register that a word of it is for.
+use mathlib.Core.Path.{_≡_, refl, sym, ap, _∙_}
+use mathlib.Core.Bool.{cond}
+use mathlib.Core.List.{List, [], _∷_}
+use Prim.Native.Nat.{ℕ, zero, suc, _+_, _-_, _<_, _≤_}
+use native.Mathlib.Numerals.{add-one}
+use native.Mathlib.Omega.{arith}
+use lib.ListN.{length, getD, drop}
+use lib.Seq.{drop-cons}
+use lib.Dec.{eqb}
+use Rattle.register.specs.declared.bank.Bank.{Bank}
+use Rattle.register.specs.declared.task.Task.{Task}
+use Rattle.rules.specs.declared.fault.Fault.{Fault}
+use Rattle.rules.specs.declared.task.Bounds.{Bounds}
+use Rattle.batch.specs.declared.walk.Step.{Step}
+use Rattle.batch.specs.declared.walk.Step.the-variants.{Task as Next, Faulty as Stop, End}
+use Rattle.batch.specs.declared.verdict.Judgement.{Judgement}
+use Rattle.batch.specs.declared.verdict.Verdict.the-variants.{Faultless, Faulty}
+use Rattle.batch.specs.Batch.{Ending, finished, faulty, Reading, tasksDrawn, verdictAfter, judgementOf}
+use Rattle.batch.specs.Walk.{rest, Continues}
+use Rattle.batch.proofs.Steps.{reads-task, reads-fault, reads-end}
+use Rattle.provenance.specs.declared.Group.{Group}
+use Rattle.provenance.specs.declared.Touched.{Touched}
+use Rattle.provenance.specs.declared.Touched.the-variants.{By}
+use Rattle.provenance.specs.declared.Why.the-variants.{NoFault}
+use Rattle.provenance.specs.Drawn.{Drawn, numbered}
+use Rattle.provenance.specs.Touched.{holds, touchOf, lastFrom}
+use Rattle.provenance.specs.Faulted.{groupAfter, registerFrom, explainedBy, explained}
+
+-- ---- the last task that holds a byte
+
+module _ (found : Touched) (i ticket : ℕ) where
+  -- the answer, where these tasks with this ending are to come, the first of them with this number, and `last` is the answer so far
+  abbrev restBy : Ending → (number : ℕ) (last : Touched) → List Task → Touched
+  restBy finished number last ts = lastFrom last i (numbered ticket number ts)
+  restBy (faulty f place) number last ts = found
+
+  abbrev pub restFrom : (number : ℕ) (last : Touched) → Reading → Touched
+  restFrom number last r = restBy (r .ending) number last (r .tasks)
+
+  -- the answer after one more task
+  abbrev pub after : (number : ℕ) (last : Touched) → Task → Touched
+  after number last t = cond (holds (t .output) i) (By (touchOf (record { ticket = ticket; number = number; task = t }))) last
+
+  pub rest-start : (r : Reading) → lastFrom found i (numbered ticket 0 (tasksDrawn r)) ≡ restFrom 0 found r
+  unfolding lastFrom numbered
+  rest-start r = go (r .ending) (r .tasks)
+    where
+      go : (e : Ending) (ts : List Task) → lastFrom found i (numbered ticket 0 (tasksDrawn (record { tasks = ts; ending = e; bank = r .bank }))) ≡ restBy e 0 found ts
+      go finished ts = refl
+      go (faulty f place) ts = refl
+
+  one-more : (e : Ending) (number : ℕ) (last : Touched) (t : Task) (ts : List Task) → restBy e number last (t ∷ ts) ≡ restBy e (number + 1) (after number last t) ts
+  unfolding lastFrom numbered
+  one-more finished number last t ts = refl
+  one-more (faulty f place) number last t ts = refl
+
+  module _ (bounds : Bounds) (ws : List ℕ) (b : Bank) (k : ℕ) (s : Step) (go : Continues bounds ws b k s) (number : ℕ) (last : Touched) where
+    pub rest-task : (t : Task) (b′ : Bank) (k′ : ℕ) → s ≡ Next t b′ k′
+        → restFrom number last (rest bounds ws b k) ≡ restFrom (number + 1) (after number last t) (rest bounds ws b′ k′)
+    rest-task t b′ k′ e =
+        ap (restFrom number last) (reads-task bounds ws b k s go t b′ k′ e) ∙ one-more (rest bounds ws b′ k′ .ending) number last t (rest bounds ws b′ k′ .tasks)
+
+    pub rest-fault : (f : Fault) (place : ℕ) (b′ : Bank) → s ≡ Stop f place b′ → restFrom number last (rest bounds ws b k) ≡ found
+    rest-fault f place b′ e = ap (restFrom number last) (reads-fault bounds ws b k s go f place b′ e)
+
+    pub rest-end : s ≡ End → restFrom number last (rest bounds ws b k) ≡ last
+    unfolding lastFrom numbered
+    rest-end e = ap (restFrom number last) (reads-end bounds ws b k s go e)
+
+-- ---- the register of a word
+
+pub register-past : (g : Group) (k : ℕ) (ws : List ℕ) → length ws ≤ k → registerFrom g k ws ≡ 0
+unfolding registerFrom
+register-past g k [] h = refl
+register-past g zero (w ∷ ws) h = absurd (omega arith)
+register-past g (suc k) (w ∷ ws) h = register-past (groupAfter g w) k ws (omega arith)
+
+-- the group is one word further on
+pub register-next : (g : Group) (k at : ℕ) (ws : List ℕ) → at < k → k < length ws
+    → registerFrom g (k - at) (drop at ws) ≡ registerFrom (groupAfter g (getD ws at 0)) (k - (at + 1)) (drop (at + 1) ws)
+unfolding registerFrom
+register-next g k at ws l h =
+    let less : k - at ≡ suc (k - (at + 1)) = omega arith in
+    let there : at < length ws = omega arith in
+    rw (less, add-one, drop-cons ws at 0)
+
+pub register-here : (g : Group) (k : ℕ) (ws : List ℕ) → k < length ws → registerFrom g (k - k) (drop k ws) ≡ cond (eqb (g .left) 0) 0 (g .register)
+unfolding registerFrom
+register-here g k ws h =
+    let none : k - k ≡ 0 = omega arith in
+    rw (none, drop-cons ws k 0)
+
+-- ---- a batch judged
+
+module _ (ws : List ℕ) (r : Reading) (j : Judgement) (is : j ≡ judgementOf r) where
+  by-ending : (e : Ending) → e ≡ r .ending → explained ws r ≡ explainedBy ws (j .bank) e
+  unfolding explained
+  by-ending e same = ap (λ (b : Bank). explainedBy ws b (r .ending)) (sym (ap (λ (q : Judgement). q .bank) is)) ∙ ap (explainedBy ws (j .bank)) (sym same)
+
+  pub explained-none : (n : ℕ) → j .verdict ≡ Faultless n → NoFault ≡ explained ws r
+  explained-none n v = go (r .ending) refl
+    where
+      go : (e : Ending) → e ≡ r .ending → NoFault ≡ explained ws r
+      go finished same = sym (by-ending finished same)
+      go (faulty f place) same =
+          let wrong : Faulty f place ≡ Faultless n = ap (verdictAfter (length (r .tasks))) same ∙ sym (ap (λ (q : Judgement). q .verdict) is) ∙ v in
+          absurd (let z : _≡_ {A = ℕ} 0 1 = cc in omega arith)
+
+  pub explained-fault : (f : Fault) (place : ℕ) → j .verdict ≡ Faulty f place → explainedBy ws (j .bank) (faulty f place) ≡ explained ws r
+  explained-fault f place v = go (r .ending) refl
+    where
+      go : (e : Ending) → e ≡ r .ending → explainedBy ws (j .bank) (faulty f place) ≡ explained ws r
+      go finished same =
+          let wrong : Faultless (length (r .tasks)) ≡ Faulty f place = ap (verdictAfter (length (r .tasks))) same ∙ sym (ap (λ (q : Judgement). q .verdict) is) ∙ v in
+          absurd (let z : _≡_ {A = ℕ} 0 1 = cc in omega arith)
+      go (faulty g other) same =
+          let right : Faulty g other ≡ Faulty f place = ap (verdictAfter (length (r .tasks))) same ∙ sym (ap (λ (q : Judgement). q .verdict) is) ∙ v in
+          let fault : f ≡ g = cc in
+          let there : place ≡ other = cc in
+          sym (by-ending (faulty g other) same ∙ rw (fault, there))

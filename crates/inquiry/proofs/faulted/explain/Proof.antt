@@ -1,0 +1,82 @@
+use borrow.Author.Needs.{needs}
+use Prim.Native.Nat.{ℕ}
+use mathlib.Core.Path.{_≡_, sym, ap, _∙_}
+use mathlib.Core.List.{List}
+use Rattle.ring.specs.Segment.{batchWords}
+use Rattle.register.specs.Bank.{resetBank}
+use Rattle.register.specs.declared.bank.Bank.{Bank}
+use Rattle.batch.specs.Batch.{Reading, readBatch, judgementOf}
+use Rattle.inquiry.proofs.Batch.{explained-none, explained-fault}
+use Rattle.inquiry.proofs.faulted.explain.Statement.{statement}
+use Rattle.inquiry.proofs.faulted.explain.Tie as tie
+use Rattle.inquiry.proofs.faulted.explain.Reads as reads
+use Rattle.inquiry.proofs.faulted.explain.Lts as lts
+use Rattle.batch.proofs.judge.Reads as judge-reads
+use Rattle.inquiry.proofs.faulted.detail_of.Reads as detail-of-reads
+use Rattle.inquiry.proofs.faulted.register_at.Reads as register-at-reads
+use Rattle.inquiry.proofs.faulted.word_at.Reads as word-at-reads
+use Rattle.register.proofs.bank.Bank.reset.Reads as reset-reads
+use Rattle.rules.proofs.fault.Fault.number.Reads as number-reads
+
+-- the words of the batch, and what they say
+abbrev Ws : tie.Start → List ℕ
+Ws c = batchWords (c .args .ring .now) (c .args .offset) (c .args .size)
+
+abbrev said : tie.Start → Reading
+said c = readBatch (c .args .bounds) resetBank (Ws c)
+
+judged : (c : tie.After-judge) → c .judge .result ≡ judgementOf (said (c .before .before .before))
+judged c =
+    let s = c .before .before .before in
+    c .judge .ensures ∙ ap (λ (b : Bank). judgementOf (readBatch (s .args .bounds) b (Ws s))) (c .before .reset .ensures)
+
+reset-requires : tie.Need-reset-requires
+reset-requires c κs = search needs
+
+judge-requires : tie.Need-judge-requires
+judge-requires c κs = search needs
+
+enum-told : tie.Need-enum-told
+enum-told c = search needs
+
+enum-known-verdict : tie.Need-enum-known-verdict
+enum-known-verdict c = search needs
+
+register-at-requires : tie.Need-register-at-requires
+register-at-requires c κs = search needs
+
+number-requires : tie.Need-number-requires
+number-requires c κs = search needs
+
+word-at-requires : tie.Need-word-at-requires
+word-at-requires c κs = search needs
+
+detail-of-requires : tie.Need-detail-of-requires
+detail-of-requires c κs = search needs
+
+returns : tie.Need-returns
+returns c =
+    let s = c .before .before .before .before .before .before in
+    explained-none (Ws s) (said s) (c .before .before .before .judge .result) (judged (c .before .before .before)) _ (c .enum-told .given .1)
+
+returns-2 : tie.Need-returns-2
+returns-2 c =
+    let s = c .before .before .before .before .before .before .before .before .before .before .before in
+    let j = c .before .before .before .before .before .before .before .before in
+    rw (c .before .before .number .ensures, c .before .word-at .ensures, c .detail-of .ensures, c .before .before .before .register-at .ensures)
+    (explained-fault (Ws s) (said s) (j .judge .result) (judged j) _ _ (c .before .before .before .before .before .verdict .given .1))
+
+pub explain-spec : {M : Type 1} → statement M
+explain-spec =
+    tie.close
+    (tie.spec
+    reset-requires
+    judge-requires
+    enum-told
+    enum-known-verdict
+    register-at-requires
+    number-requires
+    word-at-requires
+    detail-of-requires
+    returns
+    returns-2)

@@ -1,0 +1,2 @@
+-- A file that is handed over in pieces, and its answers.
+pub mod Inquiry

@@ -1,0 +1,217 @@
+// Who drew a byte last, and why a batch faulted, of the records of a replay file. The file is handed over in pieces and read in
+// constant memory: no engine is run, and nothing of it is kept but the answers so far.
+ghost use mathlib.Core.Path.{_≡_};
+ghost use mathlib.Core.Bool.{cond, _&&_, _||_};
+ghost use mathlib.Core.List.{List, [], _++_};
+ghost use Prim.Native.Nat.{ℕ, _+_, _*_, _≤_};
+ghost use lib.ListN.{length, take};
+ghost use lib.Dec.{eqb, ltb};
+ghost use Rattle.ring.specs.Segment.{batchWords};
+ghost use Rattle.register.specs.Bank.{resetBank};
+ghost use Rattle.batch.specs.Batch.{readBatch};
+ghost use Rattle.claims.specs.Way.{boundsOf};
+ghost use Rattle.records.specs.Records.{records};
+ghost use Rattle.records.specs.Reading.{Lies};
+ghost use Rattle.replay.specs.Answered.{refusal, windowOf};
+ghost use Rattle.provenance.specs.Faulted.{explained};
+ghost use Rattle.inquiry.specs.declared.Question.{Question};
+ghost use Rattle.provenance.specs.Answers.{touchedAnswer, faultAnswer};
+ghost use Rattle.inquiry.specs.Inquiry.{findingNext, findingOn, Stands, Feeds};
+
+pub mod faulted;
+pub mod last;
+
+use provenance::FaultAnswer;
+use provenance::Touched;
+use provenance::TouchedAnswer;
+use provenance::Why;
+use range::Range;
+use records::Found;
+use records::Reader;
+use rules::Bounds;
+
+// What is asked: who drew the byte at this address, and why the batch with this ticket faulted.
+pub struct Question {
+    pub address: usize,
+    pub ticket: u32,
+}
+
+// What the records so far say: how many they are, how many of them were accepted, and both answers.
+pub struct Finding {
+    pub records: u32,
+    pub accepted: u32,
+    pub touched: Touched,
+    pub why: Why,
+}
+
+// A file that is being read for the answers.
+pub struct Inquiry {
+    pub reader: Reader,
+    pub finding: Finding,
+}
+
+// An inquiry after some input, and how many bytes of it were used.
+pub struct Fed {
+    pub inquiry: Inquiry,
+    pub used: usize,
+}
+
+// ---- a record
+
+// Whether submit takes a record of this client with this batch.
+fn is_accepted(client: u32, batch: &[u8]) -> bool
+    ensures { λ r. ⌜ r ≡ eqb (refusal (record { client = client; batch = now (batch .entry) })) 0 ⌝ }
+{
+    let size = batch.len();
+    !(3 < client) & !((size == 0) | !(size % 4 == 0) | (32768 < size))
+}
+
+// What a client may touch.
+fn bounds_of(client: u32) -> Bounds
+    requires { ⌜ client ≤ 3 ⌝ }
+    ensures { λ r. ⌜ r ≡ boundsOf (windowOf client) 16384 ⌝ }
+{
+    Bounds {
+        window: Range::new(16384 + client * 12288, 12288),
+        common: 16384,
+    }
+}
+
+// Why the batch with the asked ticket faulted, if this is it.
+fn after_why(asked: u32, ticket: u32, batch: &[u8], bounds: Bounds, why: Why) -> Why
+    ensures { λ r. ⌜ r ≡ cond (eqb ticket asked) (explained (batchWords (now (batch .entry)) 0 (length (now (batch .entry)))) (readBatch bounds resetBank (batchWords (now (batch .entry)) 0 (length (now (batch .entry)))))) why ⌝ }
+{
+    if ticket == asked {
+        faulted::explain(batch, 0, batch.len(), bounds)
+    } else {
+        why
+    }
+}
+
+// The finding after one more record. Over 1,024 of them nothing is looked at: both questions are refused.
+fn after_record(question: Question, finding: Finding, client: u32, batch: &[u8]) -> Finding
+    ensures { λ r. ⌜ r ≡ findingNext question finding (record { client = client; batch = now (batch .entry) }) ⌝ }
+{
+    if (1024 < finding.records) | (1024 < finding.accepted) {
+        return finding;
+    }
+    let records = finding.records + 1;
+    let ticket = finding.accepted;
+    let touched = finding.touched;
+    let why = finding.why;
+    if !is_accepted(client, batch) {
+        return Finding {
+            records: records,
+            accepted: ticket,
+            touched: touched,
+            why: why,
+        };
+    }
+    let bounds = bounds_of(client);
+    let last = last::after_batch(
+        batch,
+        0,
+        batch.len(),
+        bounds,
+        ticket,
+        question.address,
+        touched,
+    );
+    let reason = after_why(question.ticket, ticket, batch, bounds, why);
+    Finding {
+        records: records,
+        accepted: ticket + 1,
+        touched: last,
+        why: reason,
+    }
+}
+
+// The finding after what a step of the reading found in `held`.
+fn after_found(question: Question, finding: Finding, found: Found, held: &[u8]) -> Finding
+    requires { ⌜ Lies found (length (now held)) ⌝ }
+    ensures { λ r. ⌜ r ≡ findingOn question finding found (now (held .entry)) ⌝ }
+{
+    match found {
+        Found::Record(end) => after_record(question, finding, held[4] as u32, &held[5..end]),
+        Found::Nothing => finding,
+        Found::BadVersion => finding,
+        Found::BadRecord => finding,
+    }
+}
+
+// ---- the file
+
+// Before the version byte.
+pub fn start() -> Inquiry
+    ensures { λ r. ⌜ ((question : Question) (held : List ℕ) → 32773 ≤ length held → Stands question [] r held) ⌝ }
+{
+    Inquiry {
+        reader: records::start(),
+        finding: Finding {
+            records: 0,
+            accepted: 0,
+            touched: Touched::NotDrawn,
+            why: Why::NoFault,
+        },
+    }
+}
+
+// Takes some bytes of the input, at most those of one record. `held` is to be 32,773 bytes long.
+pub fn feed(question: Question, inquiry: Inquiry, held: &mut [u8], input: &[u8]) -> Fed
+    ensures { λ r. ⌜ (r .used ≤ length (now (input .entry)))
+        × ((seen : List ℕ) → Stands question seen inquiry (now (held .entry)) → Feeds question seen (now (input .entry)) r (now (held .exit))) ⌝ }
+{
+    let reader = inquiry.reader;
+    let finding = inquiry.finding;
+    let taken = records::take(reader, held, input);
+    let after = taken.reader;
+    let found = taken.found;
+    let next = after_found(question, finding, found, held);
+    Fed {
+        inquiry: Inquiry {
+            reader: after,
+            finding: next,
+        },
+        used: taken.used,
+    }
+}
+
+// Takes a piece of the file, whole.
+pub fn feed_piece(question: Question, inquiry: Inquiry, held: &mut [u8], piece: &[u8]) -> Inquiry
+    ensures { λ r. ⌜ ((seen : List ℕ) → Stands question seen inquiry (now (held .entry)) → Stands question (seen ++ now (piece .entry)) r (now (held .exit))) ⌝ }
+{
+    let mut current = inquiry;
+    let mut used = 0;
+    while used < piece.len() {
+        let fed = feed(question, current, held, &piece[used..]);
+        let after = fed.inquiry;
+        let count = fed.used;
+        current = after;
+        used = used + count;
+        // It happens only where `held` is too short.
+        if count == 0 {
+            return current;
+        }
+    }
+    current
+}
+
+// ---- the answers
+
+// Who drew the byte last, at the end of the file.
+pub fn who_touched(question: Question, inquiry: Inquiry) -> TouchedAnswer
+    ensures { λ r. ⌜ ((seen held : List ℕ) → Stands question seen inquiry held → r ≡ touchedAnswer (records seen) (question .address)) ⌝ }
+{
+    let finding = inquiry.finding;
+    let touched = finding.touched;
+    provenance::tell_touched(finding.records, question.address, touched)
+}
+
+// Why the batch with the ticket faulted, at the end of the file.
+pub fn why_faulted(question: Question, inquiry: Inquiry) -> FaultAnswer
+    ensures { λ r. ⌜ ((seen held : List ℕ) → Stands question seen inquiry held → r ≡ faultAnswer (records seen) (question .ticket)) ⌝ }
+{
+    let finding = inquiry.finding;
+    let why = finding.why;
+    provenance::tell_fault(finding.records, why)
+}

@@ -1,0 +1,3 @@
+-- Laws of the reading.
+pub mod Bytes
+pub mod Onward

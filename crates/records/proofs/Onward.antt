@@ -1,0 +1,283 @@
+-- A file may be cut anywhere: what a step finds, and then the file from where it leaves the reading, is the file from where it began.
+use mathlib.Core.Path.{_≡_, refl, sym, ap, subst, _∙_}
+use mathlib.Core.Bool.{Bool, true, false, cond, _&&_}
+use mathlib.Core.Logic.{_⊎_, inl, inr}
+use mathlib.Core.List.{List, [], _∷_, _++_, append-assoc, append-nil}
+use Prim.Native.Nat.{ℕ, zero, suc, _+_, _-_, _≤_, _<_, min}
+use native.Mathlib.Omega.{arith}
+use lib.ListN.{length, getD, take, drop, length-append, length-take, length-drop, take-append-drop}
+use lib.Seq.{length-take-le, take-all, drop-length, drop-at, take-append-seam}
+use lib.Dec.{eqb, leb, ltb}
+use borrow.Author.Tests.{lt-ltb, le-ltb, le-leb, leb-true, ltb-true}
+use Rattle.word.specs.Splice.{spliced}
+use Rattle.word.proofs.Tests.{split, and-true}
+use Rattle.ring.specs.Copied.{copied}
+use Rattle.ring.proofs.Copied.{copied-one}
+use Rattle.records.specs.declared.Stage.{Stage}
+use Rattle.records.specs.declared.Stage.the-variants.{Version, Records, Ended}
+use Rattle.records.specs.declared.Reader.{Reader}
+use Rattle.records.specs.declared.Found.the-variants.{Nothing, Record, BadVersion, BadRecord}
+use Rattle.records.specs.declared.Taken.{Taken}
+use Rattle.records.specs.Records.{Entry, Ending, File, whole, badVersion, badRecord, cutRecord, ends, andThen, sizeOf, badSize, entryOf, recordsFrom, records}
+use Rattle.records.specs.Reading.{fileFrom, fileIn, fileAt, entryIn, onto, missing, Due, Ready, Over, Takes, Lies, decided, versionTaken}
+use Rattle.records.proofs.Bytes.{good-size, size-front, entry-front, decided-short, decided-bad, decided-part, decided-whole, missing-short, missing-bad, missing-rest, there, entry-there}
+
+-- ---- fuel
+
+-- the record at the front, with what comes of the bytes behind it
+abbrev front : List ℕ → File → File
+front bytes rest =
+    cond (ltb (length bytes) 4) (ends cutRecord)
+    (cond (badSize (sizeOf bytes)) (ends badRecord)
+    (cond (ltb (length bytes) (4 + sizeOf bytes)) (ends cutRecord)
+    (andThen (entryOf bytes) rest)))
+
+fuel-free : (f g : ℕ) (bytes : List ℕ) → length bytes ≤ f → length bytes ≤ g → recordsFrom f bytes ≡ recordsFrom g bytes
+unfolding recordsFrom
+fuel-free zero zero bytes p q = refl
+fuel-free zero (suc g) [] p q = refl
+fuel-free zero (suc g) (b ∷ more) p q = absurd (omega arith)
+fuel-free (suc f) zero [] p q = refl
+fuel-free (suc f) zero (b ∷ more) p q = absurd (omega arith)
+fuel-free (suc f) (suc g) [] p q = refl
+fuel-free (suc f) (suc g) (b ∷ more) p q =
+    let less = length-drop (4 + sizeOf (b ∷ more)) (b ∷ more) in
+    ap (front (b ∷ more)) (fuel-free f g (drop (4 + sizeOf (b ∷ more)) (b ∷ more)) (omega arith) (omega arith))
+
+file-open : (bytes : List ℕ) → 1 ≤ length bytes → fileFrom bytes ≡ front bytes (fileFrom (drop (4 + sizeOf bytes) bytes))
+unfolding recordsFrom
+file-open [] h = absurd (omega arith)
+file-open (b ∷ more) h =
+    let less = length-drop (4 + sizeOf (b ∷ more)) (b ∷ more) in
+    ap (front (b ∷ more)) (fuel-free (length more) (length (drop (4 + sizeOf (b ∷ more)) (b ∷ more))) (drop (4 + sizeOf (b ∷ more)) (b ∷ more)) (omega arith) (omega arith))
+
+module _ (bytes : List ℕ) where
+  file-short : 1 ≤ length bytes → length bytes < 4 → fileFrom bytes ≡ ends cutRecord
+  file-short some h = file-open bytes some ∙ rw (lt-ltb (length bytes) 4 h)
+
+  module _ (h : 4 ≤ length bytes) where
+    file-bad : badSize (sizeOf bytes) ≡ true → fileFrom bytes ≡ ends badRecord
+    file-bad bad = file-open bytes (omega arith) ∙ rw (le-ltb (length bytes) 4 h, bad)
+
+    file-part : badSize (sizeOf bytes) ≡ false → length bytes < 4 + sizeOf bytes → fileFrom bytes ≡ ends cutRecord
+    file-part good part = file-open bytes (omega arith) ∙ rw (le-ltb (length bytes) 4 h, good, lt-ltb (length bytes) (4 + sizeOf bytes) part)
+
+    file-whole : badSize (sizeOf bytes) ≡ false → 4 + sizeOf bytes ≤ length bytes → fileFrom bytes ≡ andThen (entryOf bytes) (fileFrom (drop (4 + sizeOf bytes) bytes))
+    file-whole good all = file-open bytes (omega arith) ∙ rw (le-ltb (length bytes) 4 h, good, le-ltb (length bytes) (4 + sizeOf bytes) all)
+
+-- ---- by cases: how far the bytes of a record are there
+
+data Reach (bytes : List ℕ) : Type 0 where
+  short : length bytes < 4 → Reach bytes
+  bad : 4 ≤ length bytes → badSize (sizeOf bytes) ≡ true → Reach bytes
+  part : 4 ≤ length bytes → badSize (sizeOf bytes) ≡ false → length bytes < 4 + sizeOf bytes → Reach bytes
+  full : 4 ≤ length bytes → badSize (sizeOf bytes) ≡ false → 4 + sizeOf bytes ≤ length bytes → Reach bytes
+
+reach : (bytes : List ℕ) → Reach bytes
+reach bytes = go (split (length bytes) 4)
+  where
+    last : 4 ≤ length bytes → badSize (sizeOf bytes) ≡ false → (length bytes < 4 + sizeOf bytes) ⊎ (4 + sizeOf bytes ≤ length bytes) → Reach bytes
+    last h good (inl less) = part h good less
+    last h good (inr more) = full h good more
+
+    judge : 4 ≤ length bytes → (b : Bool) → badSize (sizeOf bytes) ≡ b → Reach bytes
+    judge h true e = bad h e
+    judge h false e = last h e (split (length bytes) (4 + sizeOf bytes))
+
+    go : (length bytes < 4) ⊎ (4 ≤ length bytes) → Reach bytes
+    go (inl h) = short h
+    go (inr h) = judge h (badSize (sizeOf bytes)) refl
+
+-- ---- the bytes in the buffer are decided
+
+module _ (held : List ℕ) (have used : ℕ) (within : have ≤ length held) where
+  abbrev bytes : List ℕ
+  bytes = take have held
+
+  -- no more bytes than the record has
+  abbrev Exact : Type 0
+  Exact = 4 ≤ length bytes → badSize (sizeOf bytes) ≡ false → length bytes ≤ 4 + sizeOf bytes
+
+  record Decides (d : Taken) : Type 0 where
+    file : (rest : List ℕ) → fileFrom (bytes ++ rest) ≡ onto (d .found) held (fileAt (d .reader) held rest)
+    over : Over (d .found) (d .reader .stage)
+    few : d .reader .held < 32773
+    due : Due (d .reader .stage) (take (d .reader .held) held)
+
+  itself : take (length bytes) held ≡ bytes
+  itself = ap (λ (n : ℕ). take n held) (there held have within)
+
+  decides-by : Reach bytes → Exact → Decides (decided bytes used)
+  decides-by (short h) exact = rw (decided-short bytes used h) (record {
+    file = λ rest. rw itself;
+    over = tt;
+    few = omega arith;
+    due = rw (itself, missing-short bytes h) (omega arith);
+  })
+  decides-by (bad h is) exact = rw (decided-bad bytes used h is) (record {
+    file = λ rest.
+        let long : 4 ≤ length (bytes ++ rest) = omega (arith, length-append bytes rest) in
+        file-bad (bytes ++ rest) long (ap badSize (size-front bytes rest h) ∙ is);
+    over = refl;
+    few = omega arith;
+    due = tt;
+  })
+  decides-by (part h is less) exact = rw (decided-part bytes used h is less) (record {
+    file = λ rest. rw itself;
+    over = tt;
+    few = omega (arith, good-size (sizeOf bytes) is .1);
+    due = rw (itself, missing-rest bytes h is) (omega arith);
+  })
+  decides-by (full h is more) exact = rw (decided-whole bytes used is more) (record {
+    file = λ rest.
+        let long : 4 ≤ length (bytes ++ rest) = omega (arith, length-append bytes rest) in
+        let same = size-front bytes rest h in
+        let all : 4 + sizeOf (bytes ++ rest) ≤ length (bytes ++ rest) = omega (arith, length-append bytes rest) in
+        let some = good-size (sizeOf bytes) is .0 in
+        let end : length bytes ≡ 4 + sizeOf (bytes ++ rest) = omega (arith, exact h is) in
+        let behind = drop-at bytes rest (4 + sizeOf (bytes ++ rest)) end in
+        file-whole (bytes ++ rest) long (ap badSize same ∙ is) all
+        ∙ ap (λ (e : Entry). andThen e (fileFrom (drop (4 + sizeOf (bytes ++ rest)) (bytes ++ rest)))) (entry-front bytes rest some more ∙ entry-there held have within some (omega (arith, there held have within)))
+        ∙ ap (λ (xs : List ℕ). andThen (entryIn held (4 + sizeOf bytes)) (fileFrom xs)) behind;
+    over = tt;
+    few = omega arith;
+    due = rw (missing-short [] (omega arith)) (omega arith);
+  })
+
+-- no more bytes are taken than the record has
+exact-by : (bytes input : List ℕ) → 0 < missing bytes → Reach bytes
+    → let all : List ℕ = bytes ++ take (missing bytes) input in 4 ≤ length all → badSize (sizeOf all) ≡ false → length all ≤ 4 + sizeOf all
+exact-by bytes input some (short h) = λ long good.
+    omega (arith, length-append bytes (take (missing bytes) input), length-take (missing bytes) input, missing-short bytes h)
+exact-by bytes input some (bad h is) = absurd (omega (arith, missing-bad bytes h is))
+exact-by bytes input some (part h is less) = λ long good.
+    omega (arith, length-append bytes (take (missing bytes) input), length-take (missing bytes) input, missing-rest bytes h is, size-front bytes (take (missing bytes) input) h)
+exact-by bytes input some (full h is more) = absurd (omega (arith, missing-rest bytes h is))
+
+-- ---- a step inside a record
+
+take-least : (n k : ℕ) (xs : List ℕ) → k ≡ min n (length xs) → take k xs ≡ take n xs
+take-least n k xs e = go (split n (length xs))
+  where
+    go : (n < length xs) ⊎ (length xs ≤ n) → take k xs ≡ take n xs
+    go (inl h) =
+        let eq : k ≡ n = omega arith in
+        ap (λ (i : ℕ). take i xs) eq
+    go (inr h) = take-all k xs (omega arith) ∙ sym (take-all n xs h)
+
+-- bytes put behind those that are there
+kept-there : (h : ℕ) (kept held : List ℕ) → take (length (take h held ++ kept)) (spliced h kept held) ≡ take h held ++ kept
+unfolding spliced
+kept-there h kept held =
+    let rest : List ℕ = drop (h + length kept) held in
+    rw (sym (append-assoc (take h held) kept rest)) (take-append-seam (take h held ++ kept) rest)
+
+module _ (have : ℕ) (held input : List ℕ) (taken : ℕ) (held′ : List ℕ) (t : Taken) where
+  pub record-takes : (wanted : ℕ) → wanted ≡ missing (take have held) → have + wanted ≤ 32773 → 32773 ≤ length held → length held′ ≡ length held
+      → taken ≡ min wanted (length input) → held′ ≡ copied held have (take taken input) → t ≡ decided (take (have + taken) held′) taken → t .used ≡ taken
+      → 0 < missing (take have held) → Takes (record { stage = Records; held = have }) held input t held′
+  record-takes wanted want fits room same least is-held is used some =
+      let bytes : List ℕ = take have held in
+      let part : List ℕ = take (missing bytes) input in
+      let part-is : take taken input ≡ part = take-least wanted taken input least ∙ ap (λ (n : ℕ). take n input) want in
+      let size : length part ≡ taken = ap length (sym part-is) ∙ length-take taken input ∙ omega arith in
+      let small : length part ≤ length held - have = omega arith in
+      let after : held′ ≡ spliced have part held = is-held ∙ ap (copied held have) part-is ∙ copied-one held have part small in
+      let count : length (bytes ++ part) ≡ have + taken = length-append bytes part ∙ omega (arith, length-take-le have held (omega arith)) in
+      let all : take (have + taken) held′ ≡ bytes ++ part = rw (after, sym count) (kept-there have part held) in
+      let exact : Exact held′ (have + taken) taken (omega arith) = rw all (exact-by bytes input some (reach bytes)) in
+      let d = decides-by held′ (have + taken) taken (omega arith) (reach (take (have + taken) held′)) exact in
+      rw is (record {
+        file = λ rest.
+            ap (λ (n : ℕ). fileFrom (bytes ++ (take n input ++ rest))) (sym (ap (λ (x : Taken). x .used) is) ∙ used)
+            ∙ ap (λ (xs : List ℕ). fileFrom (bytes ++ (xs ++ rest))) part-is
+            ∙ ap fileFrom (sym (append-assoc bytes part rest))
+            ∙ ap (λ (xs : List ℕ). fileFrom (xs ++ rest)) (sym all)
+            ∙ d .file rest;
+        over = d .over;
+        ready = record { room = omega arith; few = d .few; due = d .due };
+        some = λ one. let go : taken ≡ decided (take (have + taken) held′) taken .used = sym used ∙ ap (λ (x : Taken). x .used) is in omega (arith, want);
+      })
+
+-- ---- the other steps
+
+-- the version byte is one of the input
+pub version-used : (version : ℕ) → (versionTaken version .used ≡ 1) × ((room : ℕ) → Lies (versionTaken version .found) room)
+version-used version = go (eqb version 1)
+  where
+    go : (b : Bool) → let u : Taken = cond b (record { reader = record { stage = Records; held = 0 }; used = 1; found = Nothing }) (record { reader = record { stage = Ended; held = 0 }; used = 1; found = BadVersion }) in
+        (u .used ≡ 1) × ((room : ℕ) → Lies (u .found) room)
+    go true = (refl, λ room. tt)
+    go false = (refl, λ room. tt)
+
+module _ (r : Reader) (held input : List ℕ) (t : Taken) (ready : Ready r held) where
+  -- nothing taken
+  pub nothing-takes : length input ≡ 0 → t ≡ record { reader = r; used = 0; found = Nothing } → Takes r held input t held
+  nothing-takes none is = rw is (record { file = λ rest. refl; over = tt; ready = ready; some = λ one. absurd (omega arith) })
+
+  -- after the end
+  pub ended-takes : r .stage ≡ Ended → t ≡ record { reader = r; used = length input; found = Nothing } → Takes r held input t held
+  ended-takes stage is = rw is (record { file = λ rest. rw stage; over = tt; ready = ready; some = λ one. one })
+
+  pub version-takes : r .stage ≡ Version → (length input ≡ 0 → ⊥) → t ≡ versionTaken (getD input 0 0) → Takes r held input t held
+  unfolding records
+  version-takes stage some is = rw is (go input some)
+    where
+      by : (b : Bool) (version : ℕ) (more : List ℕ)
+          → let u : Taken = cond b (record { reader = record { stage = Records; held = 0 }; used = 1; found = Nothing }) (record { reader = record { stage = Ended; held = 0 }; used = 1; found = BadVersion }) in
+          ((rest : List ℕ) → cond b (fileFrom rest) (ends badVersion) ≡ onto (u .found) held (fileAt (u .reader) held rest)) × Ready (u .reader) held × (1 ≤ u .used) × Over (u .found) (u .reader .stage)
+      by true version more = (λ rest. refl, record { room = ready .room; few = omega arith; due = rw (missing-short [] (omega arith)) (omega arith) }, omega arith, tt)
+      by false version more = (λ rest. refl, record { room = ready .room; few = omega arith; due = tt }, omega arith, refl)
+
+      go : (xs : List ℕ) → (length xs ≡ 0 → ⊥) → Takes r held xs (versionTaken (getD xs 0 0)) held
+      go [] some = absurd (some refl)
+      go (version ∷ more) some =
+          let all = by (eqb version 1) version more in
+          let one = version-used version .0 in
+          record { file = λ rest. rw (stage, one) (all .0 rest); over = all .3; ready = all .1; some = λ one. all .2 }
+
+-- ---- the end of the file
+
+-- how a file ends where no byte follows
+abbrev pub endingAt : Stage → (have : ℕ) → Ending
+endingAt Version have = badVersion
+endingAt Records zero = whole
+endingAt Records (suc have) = cutRecord
+endingAt Ended have = whole
+
+pub file-ends : (r : Reader) (held : List ℕ) → Ready r held → fileAt r held [] ≡ ends (endingAt (r .stage) (length (take (r .held) held)))
+unfolding records recordsFrom
+file-ends r held ready = go (r .stage) (take (r .held) held) (ready .due)
+  where
+    last : (bytes : List ℕ) → Reach bytes → 0 < missing bytes → fileFrom bytes ≡ ends (endingAt Records (length bytes))
+    last [] far some = refl
+    last (b ∷ more) (short h) some = file-short (b ∷ more) (omega arith) h
+    last (b ∷ more) (bad h is) some = absurd (omega (arith, missing-bad (b ∷ more) h is))
+    last (b ∷ more) (part h is less) some = file-part (b ∷ more) h is less
+    last (b ∷ more) (full h is more′) some = absurd (omega (arith, missing-rest (b ∷ more) h is))
+
+    go : (g : Stage) (bytes : List ℕ) → Due g bytes → fileIn g bytes [] ≡ ends (endingAt g (length bytes))
+    go Version bytes due = refl
+    go Records bytes due = rw (append-nil bytes) (last bytes (reach bytes) due)
+    go Ended bytes due = refl
+
+-- so no record is left
+pub ends-here : (r : Reader) (held : List ℕ) → Ready r held → fileAt r held [] .entries ≡ []
+ends-here r held ready = ap (λ (f : File). f .entries) (file-ends r held ready)
+
+-- ---- the test of the buffer
+
+pub ready-enough : (r : Reader) (held : List ℕ) → Ready r held → leb 32773 (length held) && ltb (r .held) 32773 ≡ true
+ready-enough r held ready = rw (le-leb 32773 (length held) (ready .room), lt-ltb (r .held) 32773 (ready .few))
+
+pub enough-both : (r : Reader) (held : List ℕ) → leb 32773 (length held) && ltb (r .held) 32773 ≡ true → (32773 ≤ length held) × (r .held < 32773)
+enough-both r held e =
+    let both = and-true (leb 32773 (length held)) (ltb (r .held) 32773) e in
+    (leb-true 32773 (length held) (both .0), ltb-true (r .held) 32773 (both .1))
+
+-- a reader inside a record
+pub inside-takes : (r : Reader) (held input : List ℕ) (t : Taken) (held′ : List ℕ) → r .stage ≡ Records → (0 < missing (take (r .held) held) → Takes (record { stage = Records; held = r .held }) held input t held′)
+    → Ready r held → Takes r held input t held′
+inside-takes r held input t held′ stage takes ready =
+    let due : 0 < missing (take (r .held) held) = rw stage at (ready .due) in
+    subst (λ (g : Stage). Takes (record { stage = g; held = r .held }) held input t held′) (sym stage) (takes due)

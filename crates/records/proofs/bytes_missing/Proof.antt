@@ -1,0 +1,65 @@
+use Prim.Native.Nat.{_+_, _-_}
+use mathlib.Core.Path.{_≡_, sym, _∙_}
+use native.Mathlib.Omega.{arith}
+use Rattle.records.proofs.Bytes.{good-size, have-short, have-bad, have-rest}
+use borrow.Author.Needs.{needs}
+use Rattle.records.proofs.bytes_missing.Statement.{statement}
+use Rattle.records.proofs.bytes_missing.Tie as tie
+
+sub-result : tie.Need-sub-result
+sub-result c = search needs
+
+returns : tie.Need-returns
+returns c =
+    let a = c .before .before .args in
+    (have-short (a .held .now) (a .have) (omega arith) (c .if1 .taken), omega arith)
+
+read-be32-requires : tie.Need-read-be32-requires
+read-be32-requires c κs = search needs
+
+cast-size : tie.Need-cast-size
+cast-size c = search needs
+
+bad-size-requires : tie.Need-bad-size-requires
+bad-size-requires c κs = search needs
+
+returns-2 : tie.Need-returns-2
+returns-2 c =
+    let a = c .before .before .before .before .before .args in
+    (have-bad (a .held .now) (a .have) (omega arith) (c .before .before .read-be32 .result) (c .before .before .read-be32 .ensures) (c .before .before .before .if1 .left) (sym (c .before .bad-size .ensures) ∙ c .if2 .taken), search needs)
+
+add-end : tie.Need-add-end
+add-end c = search needs
+
+sub-result-2 : tie.Need-sub-result-2
+sub-result-2 c = search needs
+
+returns-3 : tie.Need-returns-3
+returns-3 c =
+    let a = c .before .before .before .before .before .before .args in
+    let size = c .before .before .before .read-be32 .result in
+    let good = sym (c .before .before .bad-size .ensures) ∙ c .before .if2 .left in
+    (have-rest (a .held .now) (a .have) (omega arith) size (c .before .before .before .read-be32 .ensures) (c .before .before .before .before .if1 .left) good, omega (arith, good-size size good .1))
+
+returns-4 : tie.Need-returns-4
+returns-4 c =
+    let a = c .before .before .before .before .before .before .args in
+    let size = c .before .before .before .read-be32 .result in
+    let good = sym (c .before .before .bad-size .ensures) ∙ c .before .if2 .left in
+    let none : 0 ≡ 4 + size - a .have = omega arith in
+    (none ∙ have-rest (a .held .now) (a .have) (omega arith) size (c .before .before .before .read-be32 .ensures) (c .before .before .before .before .if1 .left) good, omega arith)
+
+pub bytes-missing-spec : {M : Type 1} → statement M
+bytes-missing-spec =
+    tie.close
+    (tie.spec
+    sub-result
+    returns
+    read-be32-requires
+    cast-size
+    bad-size-requires
+    returns-2
+    add-end
+    sub-result-2
+    returns-3
+    returns-4)

@@ -1,0 +1,63 @@
+use Prim.Native.Nat.{ℕ}
+use mathlib.Core.Path.{_≡_, sym, subst}
+use native.Mathlib.Omega.{arith}
+use lib.Seq.{length-take-le}
+use Rattle.records.specs.Reading.{Lies}
+use Rattle.records.proofs.Onward.{record-takes}
+use borrow.Author.Needs.{needs}
+use Rattle.records.proofs.take_record.Statement.{statement}
+use Rattle.records.proofs.take_record.Tie as tie
+use Rattle.records.proofs.take_record.Reads as reads
+use Rattle.records.proofs.take_record.Lts as lts
+use Rattle.range.proofs.least.Reads as least-reads
+use Rattle.records.proofs.bytes_missing.Reads as bytes-missing-reads
+use Rattle.records.proofs.decide.Reads as decide-reads
+use Rattle.ring.proofs.copy_in.Reads as copy-in-reads
+
+bytes-missing-requires : tie.Need-bytes-missing-requires
+bytes-missing-requires c κs = search needs
+
+least-requires : tie.Need-least-requires
+least-requires c κs = search needs
+
+slice-aggregate-copy-in : tie.Need-slice-aggregate-copy-in
+slice-aggregate-copy-in c = sym (length-take-le (c .before .before .least .result) (c .before .before .before .before .before .before .before .args .input .now) (omega arith))
+
+copy-in-requires : tie.Need-copy-in-requires
+copy-in-requires c κs =
+    let size = length-take-le (c .before .before .least .result) (c .before .before .before .before .before .before .before .args .input .now) (omega arith) in
+    record { starts = omega arith; fits = omega arith }
+
+add-decide : tie.Need-add-decide
+add-decide c = search needs
+
+decide-requires : tie.Need-decide-requires
+decide-requires c κs = search needs
+
+same-length : tie.Need-same-length
+same-length c = search needs
+
+returns : tie.Need-returns
+returns c =
+    let s = c .before .before .before .before .before .before .before .before .before .before .before .before in
+    let d = c .decide .ensures in
+    let least = c .before .before .before .before .before .before .before .least .ensures in
+    let want = c .before .before .before .before .before .before .before .before .bytes-missing .ensures in
+    let copy = c .before .before .before .before .copy-in in (
+      omega (arith, d .2, least),
+      subst (λ (n : ℕ). Lies (c .decide .result .found) n) (copy .kept .0) (d .1),
+      record-takes (s .args .have) (s .args .held .now) (s .args .input .now) _ _ (c .decide .result) _ (want .0) (want .1) (s .pre .0) (copy .kept .0) least (copy .ensures) (d .0) (d .2),
+    )
+
+pub take-record-spec : {M : Type 1} → statement M
+take-record-spec =
+    tie.close
+    (tie.spec
+    bytes-missing-requires
+    least-requires
+    slice-aggregate-copy-in
+    copy-in-requires
+    add-decide
+    decide-requires
+    same-length
+    returns)

@@ -1,0 +1,3 @@
+-- A replay file as records, whole and read a piece at a time.
+pub mod Records
+pub mod Reading

@@ -1,0 +1,101 @@
+-- A file read a piece at a time, whatever its pieces: at each moment it is the records that were handed out, and then those of the bytes that
+-- are held and of those to come.
+use mathlib.Core.Path.{_≡_}
+use mathlib.Core.List.{List, [], _++_}
+use mathlib.Core.Bool.{cond}
+use Prim.Native.Nat.{ℕ, _+_, _-_, _≤_, _<_}
+use lib.ListN.{length, getD, take, drop}
+use lib.Dec.{eqb, ltb}
+use Rattle.records.specs.declared.Stage.{Stage}
+use Rattle.records.specs.declared.Stage.the-variants.{Version, Records, Ended}
+use Rattle.records.specs.declared.Reader.{Reader}
+use Rattle.records.specs.declared.Found.{Found}
+use Rattle.records.specs.declared.Found.the-variants.{Nothing, Record, BadVersion, BadRecord}
+use Rattle.records.specs.declared.Taken.{Taken}
+use Rattle.records.specs.Records.{Entry, Ending, whole, badVersion, badRecord, cutRecord, File, ends, andThen, sizeOf, badSize, recordsFrom, records}
+
+-- ---- what is to come
+
+abbrev pub fileFrom : List ℕ → File
+fileFrom bytes = recordsFrom (length bytes) bytes
+
+-- the file from a stage on, of which these bytes are held and the rest follows; after its end nothing is looked at
+abbrev pub fileIn : Stage → (bytes rest : List ℕ) → File
+fileIn Version bytes rest = records rest
+fileIn Records bytes rest = fileFrom (bytes ++ rest)
+fileIn Ended bytes rest = ends whole
+
+abbrev pub fileAt : Reader → (held rest : List ℕ) → File
+fileAt r held rest = fileIn (r .stage) (take (r .held) held) rest
+
+-- a whole record that lies in the buffer, after the four bytes of its length, up to `end`
+abbrev pub entryIn : (held : List ℕ) → (end : ℕ) → Entry
+entryIn held end = record { client = getD held 4 0; batch = take (end - 5) (drop 5 held) }
+
+-- what was found, and then the rest: of a file that ended so there is none
+abbrev pub onto : Found → (held : List ℕ) → File → File
+onto Nothing held rest = rest
+onto (Record end) held rest = andThen (entryIn held end) rest
+onto BadVersion held rest = record { entries = rest .entries; ending = badVersion }
+onto BadRecord held rest = record { entries = rest .entries; ending = badRecord }
+
+-- ---- a reader that may go on
+
+-- how many bytes are missing to the next thing to decide
+unfoldable pub missing : List ℕ → ℕ
+missing bytes =
+    cond (ltb (length bytes) 4) (4 - length bytes)
+    (cond (badSize (sizeOf bytes)) 0
+    (4 + sizeOf bytes - length bytes))
+
+abbrev pub Due : Stage → List ℕ → Type 0
+Due Version bytes = Unit {0}
+Due Records bytes = 0 < missing bytes
+Due Ended bytes = Unit {0}
+
+-- the longest record and its length have room, and nothing that could be decided is left undecided
+pub record Ready (r : Reader) (held : List ℕ) : Type 0 where
+  pub room : 32773 ≤ length held
+  pub few : r .held < 32773
+  pub due : Due (r .stage) (take (r .held) held)
+
+-- ---- one step
+
+-- a file that ended so is not looked at any more
+abbrev pub Over : Found → Stage → Type 0
+Over Nothing stage = Unit {0}
+Over (Record end) stage = Unit {0}
+Over BadVersion stage = stage ≡ Ended
+Over BadRecord stage = stage ≡ Ended
+
+pub record Takes (r : Reader) (held input : List ℕ) (t : Taken) (held′ : List ℕ) : Type 0 where
+  -- the bytes that it used, whatever follows them
+  pub file : (rest : List ℕ) → fileAt r held (take (t .used) input ++ rest) ≡ onto (t .found) held′ (fileAt (t .reader) held′ rest)
+  pub over : Over (t .found) (t .reader .stage)
+  pub ready : Ready (t .reader) held′
+  pub some : 1 ≤ length input → 1 ≤ t .used
+
+-- a record that was found lies in the buffer
+abbrev pub Lies : Found → (room : ℕ) → Type 0
+Lies Nothing room = Unit {0}
+Lies (Record end) room = (5 ≤ end) × (end ≤ room)
+Lies BadVersion room = Unit {0}
+Lies BadRecord room = Unit {0}
+
+-- ---- what comes of the bytes of a record that are there: contract of an inner function
+
+abbrev pub undecided : (have used : ℕ) → Taken
+undecided have used = record { reader = record { stage = Records; held = have }; used = used; found = Nothing }
+
+unfoldable pub decided : List ℕ → (used : ℕ) → Taken
+decided bytes used =
+    cond (ltb (length bytes) 4) (undecided (length bytes) used)
+    (cond (badSize (sizeOf bytes)) (record { reader = record { stage = Ended; held = 0 }; used = used; found = BadRecord })
+    (cond (ltb (length bytes) (4 + sizeOf bytes)) (undecided (length bytes) used)
+    (record { reader = record { stage = Records; held = 0 }; used = used; found = Record (4 + sizeOf bytes) })))
+
+abbrev pub versionTaken : (version : ℕ) → Taken
+versionTaken version =
+    cond (eqb version 1)
+    (record { reader = record { stage = Records; held = 0 }; used = 1; found = Nothing })
+    (record { reader = record { stage = Ended; held = 0 }; used = 1; found = BadVersion })

@@ -1,0 +1,187 @@
+// A replay file read as records, a piece at a time and in constant memory. The caller lends `held`, for the bytes of one record.
+ghost use mathlib.Core.Path.{_≡_};
+ghost use Prim.Native.Nat.{_+_, _≤_, _<_};
+ghost use lib.ListN.{length, take};
+ghost use Rattle.records.specs.declared.Stage.the-variants.{Version, Records};
+ghost use Rattle.records.specs.Records.{badSize, sizeOf};
+ghost use Rattle.records.specs.Reading.{missing, Ready, Takes, Lies, undecided, decided, versionTaken};
+
+// What is to come next: the version byte, a record, or nothing that is looked at.
+pub enum Stage {
+    Version,
+    Records,
+    Ended,
+}
+
+// Where the reading stands. The first `held` bytes of the buffer of that name are those of an unfinished record.
+pub struct Reader {
+    pub stage: Stage,
+    pub held: usize,
+}
+
+// What a step found. A record lies in `held` up to an end: its client at 4, its batch from 5 on.
+pub enum Found {
+    Nothing,
+    Record(usize),
+    BadVersion,
+    BadRecord,
+}
+
+pub struct Taken {
+    pub reader: Reader,
+    pub used: usize,
+    pub found: Found,
+}
+
+// Before the version byte.
+pub fn start() -> Reader
+    ensures { λ r. ⌜ r ≡ record { stage = Version; held = 0 } ⌝ }
+{
+    Reader {
+        stage: Stage::Version,
+        held: 0,
+    }
+}
+
+// Whether a record may not have this length.
+fn bad_size(size: usize) -> bool
+    ensures { λ r. ⌜ r ≡ badSize size ⌝ }
+{
+    (size == 0) | (32769 < size)
+}
+
+// How many bytes of a record are missing to the next thing to decide, of which the first `have` bytes of `held` are there.
+fn bytes_missing(held: &[u8], have: usize) -> usize
+    requires { ⌜ (32773 ≤ length (now held)) × (have < 32773) ⌝ }
+    ensures { λ r. ⌜ (r ≡ missing (take have (now (held .entry)))) × (have + r ≤ 32773) ⌝ }
+{
+    if have < 4 {
+        return 4 - have;
+    }
+    let size = word::read_be32(held, 0) as usize;
+    if bad_size(size) {
+        return 0;
+    }
+    let end = 4 + size;
+    if have < end { end - have } else { 0 }
+}
+
+// What comes of the bytes of a record that are there, the first `have` of `held`.
+fn decide(held: &[u8], have: usize, used: usize) -> Taken
+    requires { ⌜ (32773 ≤ length (now held)) × (have ≤ 32773) ⌝ }
+    ensures { λ r. ⌜ (r ≡ decided (take have (now (held .entry))) used) × Lies (r .found) (length (now (held .entry))) × (r .used ≡ used) ⌝ }
+{
+    if have < 4 {
+        return partly(have, used);
+    }
+    let size = word::read_be32(held, 0) as usize;
+    if bad_size(size) {
+        return Taken {
+            reader: Reader {
+                stage: Stage::Ended,
+                held: 0,
+            },
+            used: used,
+            found: Found::BadRecord,
+        };
+    }
+    let end = 4 + size;
+    if have < end {
+        return partly(have, used);
+    }
+    Taken {
+        reader: Reader {
+            stage: Stage::Records,
+            held: 0,
+        },
+        used: used,
+        found: Found::Record(end),
+    }
+}
+
+// Nothing is decided yet.
+fn partly(have: usize, used: usize) -> Taken
+    ensures { λ r. ⌜ r ≡ undecided have used ⌝ }
+{
+    Taken {
+        reader: Reader {
+            stage: Stage::Records,
+            held: have,
+        },
+        used: used,
+        found: Found::Nothing,
+    }
+}
+
+// Input for a record, of which the first `have` bytes of `held` are there.
+fn take_record(have: usize, held: &mut [u8], input: &[u8]) -> Taken
+    requires { ⌜ (32773 ≤ length (now held)) × (have < 32773) ⌝ }
+    ensures { λ r. ⌜ (r .used ≤ length (now (input .entry))) × Lies (r .found) (length (now (held .entry)))
+        × (0 < missing (take have (now (held .entry)))
+        → Takes (record { stage = Records; held = have }) (now (held .entry)) (now (input .entry)) r (now (held .exit))) ⌝ }
+{
+    let wanted = bytes_missing(held, have);
+    let taken = range::least(wanted, input.len());
+    // It never goes on at byte 0: no record is longer than `held`.
+    ring::copy_in(held, have, &input[..taken]);
+    decide(held, have + taken, taken)
+}
+
+// So many bytes passed over.
+fn passed(reader: Reader, used: usize, found: Found) -> Taken
+    ensures { λ r. ⌜ r ≡ record { reader = reader; used = used; found = found } ⌝ }
+{
+    Taken {
+        reader: reader,
+        used: used,
+        found: found,
+    }
+}
+
+// The version byte.
+fn judge_version(version: u8) -> Taken
+    ensures { λ r. ⌜ r ≡ versionTaken version ⌝ }
+{
+    if version == 1 {
+        return Taken {
+            reader: Reader {
+                stage: Stage::Records,
+                held: 0,
+            },
+            used: 1,
+            found: Found::Nothing,
+        };
+    }
+    Taken {
+        reader: Reader {
+            stage: Stage::Ended,
+            held: 0,
+        },
+        used: 1,
+        found: Found::BadVersion,
+    }
+}
+
+// Takes from the input at most as many bytes as are missing to the next thing to decide, and so finds one thing at most.
+// Where the buffer does not suffice, nothing is used.
+pub fn take(reader: Reader, held: &mut [u8], input: &[u8]) -> Taken
+    ensures { λ r. ⌜ (r .used ≤ length (now (input .entry))) × Lies (r .found) (length (now (held .entry)))
+        × (Ready reader (now (held .entry)) → Takes reader (now (held .entry)) (now (input .entry)) r (now (held .exit))) ⌝ }
+{
+    let have = reader.held;
+    let enough = (32773 <= held.len()) & (have < 32773);
+    if !enough {
+        return passed(reader, 0, Found::Nothing);
+    }
+    let stage = reader.stage;
+    match stage {
+        Stage::Version => {
+            if input.len() == 0 {
+                return passed(reader, 0, Found::Nothing);
+            }
+            judge_version(input[0])
+        }
+        Stage::Records => take_record(have, held, input),
+        Stage::Ended => passed(reader, input.len(), Found::Nothing),
+    }
+}

@@ -1,0 +1,66 @@
+// Who drew a byte of a replay's memory last, or a pixel of a page there: `touched FILE ADDRESS`, or
+// `touched FILE ADDRESS STRIDE FORMAT X Y`.
+use inquiry::Question;
+use inquiry_io::Asked;
+use ppm::Named;
+use ppm::Number;
+use ppm::Pixel;
+
+// The first byte of the pixel that the arguments name, of a page that begins at an address. What is wrong with them is told.
+fn pixel(address: u32) -> Pixel {
+    let Number::Value(stride) = command::number_argument(3, b"STRIDE") else {
+        return Pixel::TooFar;
+    };
+    let Named::Known(format) = command::format_argument(4) else {
+        return Pixel::TooFar;
+    };
+    let Number::Value(x) = command::number_argument(5, b"X") else {
+        return Pixel::TooFar;
+    };
+    let Number::Value(y) = command::number_argument(6, b"Y") else {
+        return Pixel::TooFar;
+    };
+    let at = ppm::pixel_of(address, stride, format, x, y);
+    if let Pixel::TooFar = at {
+        command::complain(
+            b"the pixel",
+            b" has X or Y over 4095, or STRIDE is over 65535\n",
+        );
+    }
+    at
+}
+
+// The byte that the arguments name.
+fn asked(count: usize) -> Pixel {
+    if (count != 3) & (count != 7) {
+        command::complain(b"touched", b" takes two arguments, or six\n");
+        return Pixel::TooFar;
+    }
+    let Number::Value(address) = command::number_argument(2, b"ADDRESS") else {
+        return Pixel::TooFar;
+    };
+    if count == 3 {
+        return Pixel::At(address as usize);
+    }
+    pixel(address)
+}
+
+// How to give the arguments.
+fn usage() {
+    command::complain(
+        b"usage: touched FILE ADDRESS\n   or: touched FILE ADDRESS STRIDE FORMAT X Y\n",
+        b"numbers in decimal; FORMAT is argb8888, rgb888 or rgb565\n",
+    );
+}
+
+fn main() {
+    let Pixel::At(address) = asked(os::arg_count()) else {
+        usage();
+        return;
+    };
+    let question = Question { address, ticket: 0 };
+    let Asked::Read(inquiry) = inquiry_io::ask(question) else {
+        return;
+    };
+    inquiry_io::print_touched(inquiry::who_touched(question, inquiry));
+}
