@@ -160,8 +160,9 @@ fn without_oldest(engine: Record, at: usize, batch: Batch) -> Record
     after
 }
 
-// Takes the oldest batch: it is judged whole, drawn if it is faultless, and its slot and ring bytes are free again.
-pub fn run(engine: Record, ring: &[u8], memory: &mut [u8]) -> Ran
+// Takes the oldest batch: it is judged whole, drawn if it is faultless, and its slot and ring bytes are free again. The slow engine (02, request 13), which
+// is there to check the fast one by, draws each pixel by itself; what it promises is the same.
+pub fn run_by(engine: Record, ring: &[u8], memory: &mut [u8], slow: bool) -> Ran
     ensures { λ r. ⌜ (r ≡ runOf engine (now (ring .entry)) (now (memory .entry)))
         × (now (memory .exit) ≡ runMemory engine (now (ring .entry)) (now (memory .entry))) ⌝ }
 {
@@ -176,13 +177,14 @@ pub fn run(engine: Record, ring: &[u8], memory: &mut [u8]) -> Ran
     let at = oldest_place(engine);
     let batch = record::batch_of(slots[at]);
     let bounds = bounds_for(engine, batch.client);
-    let verdict = raster::run_batch(
+    let verdict = walk::run_batch(
         memory,
         ring,
         batch.offset,
         batch.length,
         bounds,
         Bank::reset(),
+        slow,
     );
     let completion = Completion {
         client: batch.client,
@@ -193,4 +195,12 @@ pub fn run(engine: Record, ring: &[u8], memory: &mut [u8]) -> Ran
         outcome: Outcome::Completed(completion),
         engine: without_oldest(engine, at, batch),
     }
+}
+
+// Takes the oldest batch by the fast engine.
+pub fn run(engine: Record, ring: &[u8], memory: &mut [u8]) -> Ran
+    ensures { λ r. ⌜ (r ≡ runOf engine (now (ring .entry)) (now (memory .entry)))
+        × (now (memory .exit) ≡ runMemory engine (now (ring .entry)) (now (memory .entry))) ⌝ }
+{
+    run_by(engine, ring, memory, false)
 }

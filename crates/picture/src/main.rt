@@ -71,7 +71,7 @@ fn main() {
         return;
     };
     let mut memory = io::large_buffer();
-    if replay_io::replay_argument(1, &mut memory, false) {
+    if replay_io::replay_argument(1, &mut memory, false, false) {
         write_picture(&memory, s);
     }
 }

@@ -31,9 +31,9 @@ module _ {window : Range} {memory : List ℕ} {t : Task} {y : ℕ} (r : Row wind
   pub ordered : window .start ≤ window .end
   ordered = omega (arith, starts, ends)
 
-  -- the source row, which a buffer of 4,096 words holds
-  pub fetches : (words : List ℕ) → 4096 ≤ length words → Fetched memory words (t .source) y (t .output .width)
-  fetches words l =
+  -- the source row, which a buffer of 16,384 bytes holds
+  pub fetches : (buffer : List ℕ) → 16384 ≤ length buffer → Fetched memory buffer (t .source) y (t .output .width)
+  fetches buffer l =
       let s = r .drawable .clear in
       let w = ap (λ (z : Size). z .width) (s .size) in
       let h = ap (λ (z : Size). z .height) (s .size) in

@@ -2,7 +2,7 @@
 use mathlib.Core.Path.{_≡_}
 use mathlib.Core.Bool.{true, false}
 use mathlib.Core.List.{List}
-use Prim.Native.Nat.{ℕ, _+_, _≤_, _<_}
+use Prim.Native.Nat.{ℕ, _+_, _*_, _≤_, _<_}
 use lib.ListN.{length}
 use Rattle.range.specs.declared.Range.{Range}
 use Rattle.pixel.specs.Formats.{bytesOf, layoutOf}
@@ -30,17 +30,16 @@ unfoldable pub drawRow : Task → ℕ → List ℕ → List ℕ
 drawRow t y memory = rowDrawn (t .output) (rowStart (t .output) y) (λ (x : ℕ). pixelColour t memory x y) memory
 
 -- what is asked where a row of the source is fetched
-pub record Fetched (memory words : List ℕ) (s : Source) (y width : ℕ) : Type 0 where
-  pub room : width ≤ length words
+pub record Fetched (memory buffer : List ℕ) (s : Source) (y width : ℕ) : Type 0 where
+  pub room : width * 4 ≤ length buffer
   pub across : width ≤ rotatedSize (s .transform .rotation) (sizeOf (s .surface)) .width
   pub down : y < rotatedSize (s .transform .rotation) (sizeOf (s .surface)) .height
   pub inside : isBuffer (s .mode) ≡ true → span (s .surface) .end ≤ length memory
 
--- what is asked where a row is drawn in a window's bytes from `at` on: it lies there, and the buffers hold a row
-pub record Fits (o : Surface) (at : ℕ) (bytes s d : List ℕ) : Type 0 where
+-- what is asked where a row is drawn in a window's bytes from `at` on: it lies there, and the buffer holds a row
+pub record Fits (o : Surface) (at : ℕ) (bytes buffer : List ℕ) : Type 0 where
   pub inside : at + rowLength o ≤ length bytes
-  pub source : o .width ≤ length s
-  pub destination : o .width ≤ length d
+  pub room : o .width * 4 ≤ length buffer
 
 -- what is asked where row y of a task is drawn
 pub record Row (window : Range) (memory : List ℕ) (t : Task) (y : ℕ) : Type 0 where
@@ -49,8 +48,8 @@ pub record Row (window : Range) (memory : List ℕ) (t : Task) (y : ℕ) : Type 
 
 -- two buffers, each for a row as wide as any
 pub record Buffers (s d : List ℕ) : Type 0 where
-  pub source : 4096 ≤ length s
-  pub destination : 4096 ≤ length d
+  pub source : 16384 ≤ length s
+  pub destination : 16384 ≤ length d
 
 -- what is asked where row y of a task is drawn with buffers
 pub record Ready (window : Range) (memory s d : List ℕ) (t : Task) (y : ℕ) : Type 0 where

@@ -2,10 +2,9 @@
 ghost use mathlib.Core.Path.{_≡_};
 ghost use mathlib.Core.Bool.{true, false};
 ghost use Prim.Native.Nat.{_+_, _≤_};
-ghost use lib.ListN.{length, getD};
+ghost use lib.ListN.{length};
 ghost use Rattle.surface.specs.Surface.{rowLength};
-ghost use Rattle.rows.specs.Row.{wordColour, Spells};
-ghost use Rattle.rows.specs.Mixed.{mixed};
+ghost use Rattle.rows.specs.Row.{colourIn, Spells};
 ghost use Rattle.raster.specs.Task.{sourceColour};
 ghost use Rattle.raster.specs.Row.{rowDrawn, drawRow, Fetched, Fits, Ready, Filled};
 use pixel::Colour;
@@ -13,27 +12,27 @@ use range::Range;
 use register::Source;
 use register::SourceMode;
 use register::Task;
-use rows::blend_row;
-use rows::blit_row;
-use rows::fetch_along;
-use rows::fetch_row;
-use rows::fill_row;
-use rows::spread;
+use scanline::blend_row;
+use scanline::blit_row;
+use scanline::fetch_along;
+use scanline::fetch_row;
+use scanline::fill_row;
+use scanline::spread;
 use surface::Surface;
 
 // Fetches the source colours of output row y, by source mode.
-fn fetch_source(words: &mut [u32], width: usize, memory: &[u8], source: Source, y: usize)
-    requires { ⌜ Fetched (now memory) (now words) source y width ⌝ }
-    ensures { λ _. ⌜ Spells (now (words .exit)) width (λ x. sourceColour source (now (memory .entry)) x y) ⌝ }
+fn fetch_source(buffer: &mut [u8], width: usize, memory: &[u8], source: Source, y: usize)
+    requires { ⌜ Fetched (now memory) (now buffer) source y width ⌝ }
+    ensures { λ _. ⌜ Spells (now (buffer .exit)) width (λ x. sourceColour source (now (memory .entry)) x y) ⌝ }
 {
     let mode = source.mode;
     match mode {
         SourceMode::Buffer => {
-            fetch_along(words, width, memory, source.surface, source.transform, y);
+            fetch_along(buffer, width, memory, source.surface, source.transform, y);
             return;
         }
         SourceMode::Colour => {
-            spread(words, width, source.colour);
+            spread(buffer, width, source.colour);
             return;
         }
     }
@@ -50,47 +49,23 @@ fn fill_at(window: &mut [u8], at: usize, output: Surface, c: Colour)
 }
 
 // Draws a row of the source's colours in the window, from byte `at` of it on.
-fn blit_at(window: &mut [u8], at: usize, output: Surface, source: &[u32])
-    requires { ⌜ Fits output at (now window) (now source) (now source) ⌝ }
-    ensures { λ _. ⌜ now (window .exit) ≡ rowDrawn output at (λ x. wordColour (getD (now (source .entry)) x 0)) (now (window .entry)) ⌝ }
+fn blit_at(window: &mut [u8], at: usize, output: Surface, source: &[u8])
+    requires { ⌜ Fits output at (now window) (now source) ⌝ }
+    ensures { λ _. ⌜ now (window .exit) ≡ rowDrawn output at (λ x. colourIn (now (source .entry)) x) (now (window .entry)) ⌝ }
 {
     let format = output.format;
     let end = at + output.row_length();
     blit_row(&mut window[at..end], output.width as usize, format, source);
 }
 
-// Draws a row of blended colours in the window, from byte `at` of it on.
-fn blend_at(window: &mut [u8], at: usize, task: Task, source: &[u32], destination: &[u32])
-    requires { ⌜ Fits (task .output) at (now window) (now source) (now destination) ⌝ }
-    ensures { λ _. ⌜ now (window .exit) ≡ rowDrawn (task .output) at (λ x. mixed (task .blending) (task .source .alpha) (task .destination .alpha) (wordColour (getD (now (source .entry)) x 0)) (wordColour (getD (now (destination .entry)) x 0))) (now (window .entry)) ⌝ }
-{
-    let output = task.output;
-    let format = output.format;
-    let s = task.source;
-    let d = task.destination;
-    let sa = s.alpha;
-    let da = d.alpha;
-    let end = at + output.row_length();
-    blend_row(
-        &mut window[at..end],
-        output.width as usize,
-        format,
-        task.blending,
-        sa,
-        da,
-        source,
-        destination,
-    );
-}
-
-// Draws row y of a task that blends. What it reads is fetched first; then the window alone is lent.
+// Draws row y of a task that blends. What it reads is fetched and blended first; then the window alone is lent.
 fn blended_row(
     memory: &mut [u8],
     window: Range,
     task: Task,
     y: u16,
-    source: &mut [u32],
-    destination: &mut [u32],
+    source: &mut [u8],
+    destination: &mut [u8],
 )
     requires { ⌜ Ready window (now memory) (now source) (now destination) task y × (task .blending .on ≡ true) ⌝ }
     ensures { λ _. ⌜ now (memory .exit) ≡ drawRow task y (now (memory .entry)) ⌝ }
@@ -98,6 +73,7 @@ fn blended_row(
     let start = window.start;
     let end = window.end;
     let output = task.output;
+    let s = task.source;
     let d = task.destination;
     let surface = d.surface;
     let format = surface.format;
@@ -106,11 +82,12 @@ fn blended_row(
     let from = surface.row_start(y);
     fetch_source(source, width, memory, task.source, y as usize);
     fetch_row(destination, width, memory, from, format);
-    blend_at(&mut memory[start..end], at, task, source, destination);
+    blend_row(destination, source, width, task.blending, s.alpha, d.alpha);
+    blit_at(&mut memory[start..end], at, output, destination);
 }
 
 // Draws row y of a task that copies its source.
-fn copied_row(memory: &mut [u8], window: Range, task: Task, y: u16, source: &mut [u32])
+fn copied_row(memory: &mut [u8], window: Range, task: Task, y: u16, source: &mut [u8])
     requires { ⌜ Ready window (now memory) (now source) (now source) task y × (task .blending .on ≡ false) ⌝ }
     ensures { λ _. ⌜ now (memory .exit) ≡ drawRow task y (now (memory .entry)) ⌝ }
 {
@@ -142,8 +119,8 @@ pub fn draw_row(
     window: Range,
     task: Task,
     y: u16,
-    source: &mut [u32],
-    destination: &mut [u32],
+    source: &mut [u8],
+    destination: &mut [u8],
 )
     requires { ⌜ Ready window (now memory) (now source) (now destination) task y ⌝ }
     ensures { λ _. ⌜ now (memory .exit) ≡ drawRow task y (now (memory .entry)) ⌝ }

@@ -136,7 +136,7 @@ fn number_of(answer: Answer) -> u32
     }
 }
 
-// Submits a record and, if it is accepted, runs it.
+// Submits a record and, if it is accepted, runs it: by the slow engine, or by the fast one.
 fn serve(
     engine: Record,
     ring: &mut [u8],
@@ -144,6 +144,7 @@ fn serve(
     client: u32,
     batch: &[u8],
     line: &mut [u8],
+    slow: bool,
 ) -> Served
     requires { ⌜ 128 ≤ length (now line) ⌝ }
     ensures { λ r. ⌜ Serves engine (now (ring .entry)) (now (memory .entry)) (record { client = client; batch = now (batch .entry) }) (now (line .entry))
@@ -159,7 +160,7 @@ fn serve(
             written: refusal_line(line, client, number),
         };
     }
-    let ran = engine::run(waiting, ring, memory);
+    let ran = engine::run_by(waiting, ring, memory, slow);
     let outcome = ran.outcome;
     let after = ran.engine;
     Served {
@@ -227,6 +228,7 @@ fn decide(
     ring: &mut [u8],
     memory: &mut [u8],
     line: &mut [u8],
+    slow: bool,
 ) -> Decided
     requires { ⌜ (32773 ≤ length (now held)) × (have ≤ length (now held)) × (128 ≤ length (now line)) ⌝ }
     ensures { λ r. ⌜ Decides engine (take have (now (held .entry))) (now (ring .entry)) (now (memory .entry)) (now (line .entry))
@@ -244,7 +246,7 @@ fn decide(
         return undecided(engine, have);
     }
     let client = held[4] as u32;
-    let served = serve(engine, ring, memory, client, &held[5..end], line);
+    let served = serve(engine, ring, memory, client, &held[5..end], line, slow);
     let after = served.engine;
     Decided {
         replay: Replay {
@@ -265,6 +267,7 @@ fn feed_record(
     memory: &mut [u8],
     input: &[u8],
     line: &mut [u8],
+    slow: bool,
 ) -> Fed
     requires { ⌜ (32773 ≤ length (now held)) × (have < 32773) × (128 ≤ length (now line)) ⌝ }
     ensures { λ r. ⌜ Steps (stepIn Stage.Records (position Stage.Records (take have (now (held .entry))) (state engine (now (ring .entry)) (now (memory .entry)))) (now (input .entry)))
@@ -274,7 +277,7 @@ fn feed_record(
     let taken = range::least(wanted, input.len());
     // It never goes on at byte 0: no record is longer than `held`.
     ring::copy_in(held, have, &input[..taken]);
-    let told = decide(engine, held, have + taken, ring, memory, line);
+    let told = decide(engine, held, have + taken, ring, memory, line, slow);
     let after = told.replay;
     Fed {
         replay: after,
@@ -315,6 +318,7 @@ pub fn feed(
     memory: &mut [u8],
     input: &[u8],
     line: &mut [u8],
+    slow: bool,
 ) -> Fed
     ensures { λ r. ⌜ Feeds replay (now (held .entry)) (now (ring .entry)) (now (memory .entry)) (now (input .entry)) (now (line .entry))
         r (now (held .exit)) (now (ring .exit)) (now (memory .exit)) (now (line .exit)) ⌝ }
@@ -339,7 +343,7 @@ pub fn feed(
                 written: told.written,
             }
         }
-        Stage::Records => feed_record(engine, have, held, ring, memory, input, line),
+        Stage::Records => feed_record(engine, have, held, ring, memory, input, line, slow),
         Stage::Ended => passed(replay, input.len()),
     }
 }

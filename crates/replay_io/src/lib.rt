@@ -28,6 +28,7 @@ fn feed_lines(
     memory: &mut [u8],
     input: &[u8],
     out: &mut [u8],
+    slow: bool,
 ) -> Fed
     ensures { λ r. ⌜ Gathers (positionOf replay (now (held .entry)) (now (ring .entry)) (now (memory .entry))) (now (input .entry)) (now (out .entry))
         (r .used) (r .written) (positionOf (r .replay) (now (held .exit)) (now (ring .exit)) (now (memory .exit))) (now (out .exit)) ⌝ }
@@ -36,7 +37,15 @@ fn feed_lines(
     let mut used = 0;
     let mut written = 0;
     while (used < input.len()) & (LINE <= out.len() - written) {
-        let fed = replay::feed(now, held, ring, memory, &input[used..], &mut out[written..]);
+        let fed = replay::feed(
+            now,
+            held,
+            ring,
+            memory,
+            &input[used..],
+            &mut out[written..],
+            slow,
+        );
         let after = fed.replay;
         let taken = fed.used;
         now = after;
@@ -70,6 +79,7 @@ fn feed_piece(
     memory: &mut [u8],
     piece: &[u8],
     shows: bool,
+    slow: bool,
 ) -> Progress
     ensures { λ r. ⌜ Reaches (positionOf replay (now (held .entry)) (now (ring .entry)) (now (memory .entry)))
         (positionOf (r .replay) (now (held .exit)) (now (ring .exit)) (now (memory .exit))) ⌝ }
@@ -79,7 +89,7 @@ fn feed_piece(
     let mut used = 0;
     let mut well = true;
     while (used < piece.len()) & well {
-        let fed = feed_lines(now, held, ring, memory, &piece[used..], &mut out);
+        let fed = feed_lines(now, held, ring, memory, &piece[used..], &mut out, slow);
         let after = fed.replay;
         let count = fed.used;
         now = after;
@@ -107,6 +117,7 @@ fn read_some(
     ring: &mut [u8],
     memory: &mut [u8],
     shows: bool,
+    slow: bool,
 ) -> Progress
     ensures { λ r. ⌜ Reaches (positionOf replay (now (held .entry)) (now (ring .entry)) (now (memory .entry)))
         (positionOf (r .replay) (now (held .exit)) (now (ring .exit)) (now (memory .exit))) ⌝ }
@@ -120,7 +131,7 @@ fn read_some(
             well: got.well,
         };
     }
-    feed_piece(replay, held, ring, memory, &piece[..got.count], shows)
+    feed_piece(replay, held, ring, memory, &piece[..got.count], shows, slow)
 }
 
 // A proved loop has to end, and nothing says that a file does. So the turns are counted down, from a number that no run uses up.
@@ -131,6 +142,7 @@ fn read_all(
     ring: &mut [u8],
     memory: &mut [u8],
     shows: bool,
+    slow: bool,
 ) -> Progress
     ensures { λ r. ⌜ Reaches (position Version [] (started (now (ring .entry)) (now (memory .entry))))
         (positionOf (r .replay) (now (held .exit)) (now (ring .exit)) (now (memory .exit))) ⌝ }
@@ -144,7 +156,7 @@ fn read_all(
     let mut more = true;
     while turns > 0 && more {
         let so_far = progress.replay;
-        progress = read_some(fd, name, so_far, held, ring, memory, shows);
+        progress = read_some(fd, name, so_far, held, ring, memory, shows, slow);
         more = progress.more;
         turns -= 1;
     }
@@ -158,14 +170,15 @@ fn finish(replay: Replay, shows: bool) -> bool {
     show(shows, &line, n)
 }
 
-// Replays what a descriptor reads, to its end, in memory, which is to be 65,536 zero bytes. Shows the lines or not. Answers
+// Replays what a descriptor reads, to its end, in memory, which is to be 65,536 zero bytes. Shows the lines or not, by the
+// slow engine or by the fast one. Answers
 // whether nothing failed; what did fail is told on standard error.
-pub fn replay_from(fd: i32, name: &[u8], memory: &mut [u8], shows: bool) -> bool
+pub fn replay_from(fd: i32, name: &[u8], memory: &mut [u8], shows: bool, slow: bool) -> bool
     ensures { λ _. ⌜ Replayed (now (memory .entry)) (now (memory .exit)) ⌝ }
 {
     let mut held = [0u8; 32773];
     let mut ring = [0u8; 32768];
-    let done = read_all(fd, name, &mut held, &mut ring, memory, shows);
+    let done = read_all(fd, name, &mut held, &mut ring, memory, shows, slow);
     let replay = done.replay;
     if !done.well {
         return false;
@@ -174,7 +187,7 @@ pub fn replay_from(fd: i32, name: &[u8], memory: &mut [u8], shows: bool) -> bool
 }
 
 // The same, of the file that an argument of the program names.
-pub fn replay_argument(index: usize, memory: &mut [u8], shows: bool) -> bool
+pub fn replay_argument(index: usize, memory: &mut [u8], shows: bool, slow: bool) -> bool
     ensures { λ _. ⌜ Replayed (now (memory .entry)) (now (memory .exit)) ⌝ }
 {
     let mut path = io::buffer();
@@ -183,7 +196,7 @@ pub fn replay_argument(index: usize, memory: &mut [u8], shows: bool) -> bool
     if fd < 0 {
         return false;
     }
-    let well = replay_from(fd, &path[..opened.length], memory, shows);
+    let well = replay_from(fd, &path[..opened.length], memory, shows, slow);
     libc::close(fd);
     well
 }

@@ -2,4 +2,3 @@
 pub mod Row
 pub mod Mixed
 pub mod Step
-pub mod Shortcut

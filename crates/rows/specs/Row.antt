@@ -1,8 +1,8 @@
--- A row of pixels, as words of a buffer and as bytes of memory.
+-- A row of pixels, in a buffer and in memory.
 use mathlib.Core.Path.{_≡_}
 use mathlib.Core.List.{List}
 use Prim.Native.Nat.{ℕ, _*_, _≤_, _<_}
-use lib.ListN.{length, getD}
+use lib.ListN.{length}
 use Rattle.pixel.specs.Formats.{bytesOf, layoutOf}
 use Rattle.pixel.specs.Colours.{packed, unpacked}
 use Rattle.pixel.specs.declared.colour.Colour.{Colour}
@@ -25,9 +25,13 @@ use Rattle.register.specs.Size.{sizeOf}
 abbrev pub wordColour : ℕ → Colour
 wordColour word = unpacked (layoutOf Argb8888) word
 
--- the first words of a buffer stand for the colours p
+-- the colour of pixel x of a buffer, which is a row of ARGB8888 pixels
+abbrev pub colourIn : List ℕ → ℕ → Colour
+colourIn buffer x = loaded Argb8888 buffer (x * 4)
+
+-- the first pixels of a buffer have the colours p
 abbrev pub Spells : List ℕ → ℕ → (ℕ → Colour) → Type 0
-Spells words width p = (x : ℕ) → x < width → wordColour (getD words x 0) ≡ p x
+Spells buffer width p = (x : ℕ) → x < width → colourIn buffer x ≡ p x
 
 -- ---- in memory
 
@@ -41,11 +45,11 @@ originOf s t x y = sourceOf t (sizeOf s) (record { x = x; y = y })
 
 -- what is asked where a row is fetched from a surface along a rotation: the surface lies in memory, the row is one of the
 -- rotated picture's, and the buffer has room
-pub record Along (memory words : List ℕ) (s : Surface) (r : Rotation) (y width : ℕ) : Type 0 where
+pub record Along (memory buffer : List ℕ) (s : Surface) (r : Rotation) (y width : ℕ) : Type 0 where
   pub inside : span s .end ≤ length memory
   pub across : width ≤ rotatedSize r (sizeOf s) .width
   pub down : y < rotatedSize r (sizeOf s) .height
-  pub room : width ≤ length words
+  pub room : width * 4 ≤ length buffer
 
 -- a row of bytes after pixels of the colours p were stored in all of it
 unfoldable pub rowOf : Format → (ℕ → Colour) → List ℕ → List ℕ

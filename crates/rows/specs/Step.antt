@@ -1,7 +1,7 @@
 -- The source pixels of an output row lie one step apart, on from the first one or back from it (01, "Pixels": flips and turns). The definition
 -- of a task does not speak of it: it is what the functions that fetch such a row promise.
 use mathlib.Core.Path.{_≡_}
-use mathlib.Core.Bool.{Bool, true, cond, not}
+use mathlib.Core.Bool.{Bool, true, false, cond, not}
 use mathlib.Core.List.{List}
 use Prim.Native.Nat.{ℕ, _+_, _-_, _*_, _≤_, _<_}
 use lib.ListN.{length}
@@ -31,7 +31,14 @@ isBackBy Half f = not (f .horizontal)
 isBackBy CounterClockwise f = f .vertical
 
 -- what is asked where pixels are fetched in steps
-pub record Steps (memory words : List ℕ) (start step : ℕ) (back : Bool) (width : ℕ) (f : Format) : Type 0 where
+pub record Steps (memory buffer : List ℕ) (start step : ℕ) (back : Bool) (width : ℕ) (f : Format) : Type 0 where
   pub inside : (x : ℕ) → x < width → stepped start step back x + bytesOf f ≤ length memory
   pub above : (x : ℕ) → x < width → back ≡ true → x * step ≤ start
-  pub room : width ≤ length words
+  pub room : width * 4 ≤ length buffer
+
+-- output rows are rows of the source, in the same order of pixels
+abbrev pub isStraight : Rotation → Flip → Bool
+isStraight Upright f = not (f .horizontal)
+isStraight Clockwise f = false
+isStraight Half f = false
+isStraight CounterClockwise f = false

@@ -1,14 +1,10 @@
-// Rows of pixels: fetched from memory into a buffer of words, one ARGB8888 word a pixel, and drawn from there into a row of
-// bytes. The buffers are lent, so that none is made for a row.
-mod argb;
-pub mod fetch;
-pub mod paint;
-mod shortcut;
-mod steps;
+// One pixel of a task: where its source pixel lies, and how two colours are mixed. What a row of pixels is stands in specs.
+pub mod colours;
+pub mod source;
 
-pub use fetch::fetch_along;
-pub use fetch::fetch_row;
-pub use fetch::spread;
-pub use paint::blend_row;
-pub use paint::blit_row;
-pub use paint::fill_row;
+pub use colours::mix;
+pub use source::is_back;
+pub use source::is_straight;
+pub use source::origin;
+pub use source::place;
+pub use source::step_of;

@@ -14,8 +14,8 @@ use Rattle.pixel.specs.Formats.{layoutOf}
 use Rattle.pixel.specs.Colours.{packed}
 use Rattle.pixel.proofs.Stored.{Bytes}
 use Rattle.pixel.proofs.Channels.{narrowed-byte}
-use Rattle.over.proofs.Kept.{word-colour}
-use Rattle.over.proofs.Pairs.{scaled-byte}
+use Rattle.pixel.proofs.Kept.{word-colour}
+use Rattle.pixel.proofs.Products.{scaled-byte}
 use Rattle.register.specs.declared.bank.Bank.{Bank}
 use Rattle.rules.specs.declared.task.Bounds.{Bounds}
 use Rattle.batch.specs.Batch.{readBatch}

@@ -26,12 +26,12 @@ returns c =
     let sub = c .before .before .before .before .before .before .before .before .before .submit .ensures in
     serves-refused (a .engine) (a .ring .now) (a .memory .now) _ (a .line .now) _ _ _ _ _ (sub .0) (sub .1) _ (c .before .before .before .before .before .number-of .ensures) (c .before .before .before .before .if1 .taken) refl refl (c .before .before .refusal-line .ensures)
 
-run-requires : tie.Need-run-requires
-run-requires c κs = search needs
+run-by-requires : tie.Need-run-by-requires
+run-by-requires c κs = search needs
 
 outcome-line-requires : tie.Need-outcome-line-requires
 outcome-line-requires c κs =
-    (search needs, λ m e. run-refused _ _ _ m (ap (λ (r : Ran). r .outcome) (sym (c .before .before .before .before .run .ensures .0)) ∙ e))
+    (search needs, λ m e. run-refused _ _ _ m (ap (λ (r : Ran). r .outcome) (sym (c .before .before .before .before .run-by .ensures .0)) ∙ e))
 
 same-length-3 : tie.Need-same-length-3
 same-length-3 c = search needs
@@ -46,7 +46,7 @@ returns-2 : tie.Need-returns-2
 returns-2 c =
     let a = c .before .before .before .before .before .before .before .before .before .before .before .before .before .before .before .before .before .before .before .before .before .args in
     let sub = c .before .before .before .before .before .before .before .before .before .before .before .before .before .before .before .submit .ensures in
-    serves-ran (a .engine) (a .ring .now) (a .memory .now) _ (a .line .now) _ _ _ _ _ (sub .0) (sub .1) _ (sym (c .before .before .before .before .before .before .before .before .before .before .before .number-of .ensures) ∙ c .before .before .before .before .before .before .before .before .before .before .if1 .left) (c .before .before .before .before .before .before .before .run .ensures .0) (c .before .before .before .before .before .before .before .run .ensures .1) refl (c .before .before .outcome-line .ensures)
+    serves-ran (a .engine) (a .ring .now) (a .memory .now) _ (a .line .now) _ _ _ _ _ (sub .0) (sub .1) _ (sym (c .before .before .before .before .before .before .before .before .before .before .before .number-of .ensures) ∙ c .before .before .before .before .before .before .before .before .before .before .if1 .left) (c .before .before .before .before .before .before .before .run-by .ensures .0) (c .before .before .before .before .before .before .before .run-by .ensures .1) refl (c .before .before .outcome-line .ensures)
 
 pub serve-spec : {M : Type 1} → statement M
 serve-spec =
@@ -58,7 +58,7 @@ serve-spec =
     same-length
     same-length-2
     returns
-    run-requires
+    run-by-requires
     outcome-line-requires
     same-length-3
     same-length-4

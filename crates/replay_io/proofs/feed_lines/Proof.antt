@@ -15,7 +15,7 @@ use Rattle.replay_io.proofs.feed_lines.Statement.{statement}
 use Rattle.replay_io.proofs.feed_lines.Tie as tie
 
 abbrev Inv-loop : tie.InvT-loop
-Inv-loop held₀ ring₀ memory₀ input out₀ now₀ used₀ written₀ held ring memory out now used written =
+Inv-loop held₀ ring₀ memory₀ input out₀ slow now₀ used₀ written₀ held ring memory out now used written =
     Going (positionOf now₀ held₀ ring₀ memory₀) input out₀ used written (positionOf now held ring memory) out
     × (used ≤ length input)
     × (written ≤ length out₀)
@@ -25,7 +25,7 @@ Inv-loop held₀ ring₀ memory₀ input out₀ now₀ used₀ written₀ held r
     × (length out ≡ length out₀)
 
 abbrev μ-loop : tie.MeasureT-loop
-μ-loop held₀ ring₀ memory₀ input out₀ now₀ used₀ written₀ held ring memory out now used written = length input - used
+μ-loop held₀ ring₀ memory₀ input out₀ slow now₀ used₀ written₀ held ring memory out now used written = length input - used
 
 -- input is left
 some : (c : tie.In-loop Inv-loop μ-loop) → c .before .loop .used < length (now (c .before .before .before .before .before .before .before .args .input))

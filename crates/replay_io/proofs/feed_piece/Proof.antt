@@ -12,12 +12,12 @@ use Rattle.replay_io.proofs.feed_piece.Statement.{statement}
 use Rattle.replay_io.proofs.feed_piece.Tie as tie
 
 abbrev Inv-loop : tie.InvT-loop
-Inv-loop held₀ ring₀ memory₀ piece shows out₀ now₀ used₀ well₀ held ring memory out now used well =
+Inv-loop held₀ ring₀ memory₀ piece shows slow out₀ now₀ used₀ well₀ held ring memory out now used well =
     (used ≤ length piece) × (65536 ≡ length out) × (length held ≡ length held₀) × (length ring ≡ length ring₀) × (length memory ≡ length memory₀)
     × Reaches (positionOf now₀ held₀ ring₀ memory₀) (positionOf now held ring memory)
 
 abbrev μ-loop : tie.MeasureT-loop
-μ-loop held₀ ring₀ memory₀ piece shows out₀ now₀ used₀ well₀ held ring memory out now used well = length piece - used
+μ-loop held₀ ring₀ memory₀ piece shows slow out₀ now₀ used₀ well₀ held ring memory out now used well = length piece - used
 
 large-buffer-requires : tie.Need-large-buffer-requires Inv-loop μ-loop
 large-buffer-requires c κs = search needs

@@ -12,12 +12,12 @@ use Rattle.replay_io.proofs.read_all.Statement.{statement}
 use Rattle.replay_io.proofs.read_all.Tie as tie
 
 abbrev Inv-loop : tie.InvT-loop
-Inv-loop fd name held₀ ring₀ memory₀ shows progress₀ turns₀ more₀ held ring memory progress turns more =
+Inv-loop fd name held₀ ring₀ memory₀ shows slow progress₀ turns₀ more₀ held ring memory progress turns more =
     (length held ≡ length held₀) × (length ring ≡ length ring₀) × (length memory ≡ length memory₀)
     × Reaches (position Version [] (started ring₀ memory₀)) (positionOf (progress .replay) held ring memory)
 
 abbrev μ-loop : tie.MeasureT-loop
-μ-loop fd name held₀ ring₀ memory₀ shows progress₀ turns₀ more₀ held ring memory progress turns more = turns
+μ-loop fd name held₀ ring₀ memory₀ shows slow progress₀ turns₀ more₀ held ring memory progress turns more = turns
 
 start-requires : tie.Need-start-requires Inv-loop μ-loop
 start-requires c κs = search needs

@@ -4,7 +4,7 @@ use native.Mathlib.Omega.{arith}
 use borrow.Author.Needs.{needs}
 use Rattle.pixel.specs.Alpha.{near}
 use Rattle.pixel.proofs.Division.{division}
-use Rattle.over.proofs.Pairs.{product-small}
+use Rattle.pixel.proofs.Products.{product-small}
 use Rattle.tint.proofs.channel_of.Statement.{statement}
 use Rattle.tint.proofs.channel_of.Tie as tie
 

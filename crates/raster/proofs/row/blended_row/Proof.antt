@@ -27,37 +27,43 @@ row-start-requires-2 c κs = search needs
 
 fetch-source-requires : tie.Need-fetch-source-requires
 fetch-source-requires c κs =
-    let s = c .before .before .before .before .before .before .before .before .before .before .before in
+    let s = c .before .before .before .before .before .before .before .before .before .before .before .before in
     fetches (s .pre .0 .ask) (now (s .args .source)) (s .pre .0 .buffers .source)
 
 fetch-row-requires : tie.Need-fetch-row-requires
 fetch-row-requires c κs =
-    let t = c .before .before .before .before .before .before .before in
-    let s = t .before .before .before .before .before .before .before .before .before in
-    let p = s .pre .0 in
-    (omega (arith, t .row-start2 .ensures, destination-row (p .ask) (s .pre .1)), omega (arith, p .buffers .destination, p .ask .drawable .clear .output .narrow))
+    let u = c .before .before .before .before .before .before .before in
+    let p = u .before .before .before .before .before .before .before .before .before .before .pre in
+    (omega (arith, u .row-start2 .ensures, destination-row (p .0 .ask) (p .1)), omega (arith, p .0 .buffers .destination, p .0 .ask .drawable .clear .output .narrow))
 
-sub-blend-at : tie.Need-sub-blend-at
-sub-blend-at c = ordered (c .before .before .before .before .before .before .before .before .before .before .before .before .before .before .before .before .before .before .before .pre .0 .ask)
+blend-row-requires : tie.Need-blend-row-requires
+blend-row-requires c κs =
+    let g = c .before .before .before .before in
+    let f = g .before .before .before .before .before in
+    let p = f .before .before .before .before .before .before .before .before .before .before .before .before .before .pre .0 in
+    let n = p .ask .drawable .clear .output .narrow in
+    (omega (arith, f .fetch-source .kept .0, p .buffers .source, n), omega (arith, g .fetch-row .kept .0, p .buffers .destination, n))
 
-part-blend-at-start : tie.Need-part-blend-at-start
-part-blend-at-start c =
-    let r = c .before .before .before .before .before .before .before .before .before .before .before .before .before .before .before .before .before .before .before .pre .0 .ask in
+sub-blit-at : tie.Need-sub-blit-at
+sub-blit-at c = ordered (c .before .before .before .before .before .before .before .before .before .before .before .before .before .before .before .before .before .before .before .before .before .before .before .before .before .before .before .pre .0 .ask)
+
+part-blit-at-start : tie.Need-part-blit-at-start
+part-blit-at-start c =
+    let r = c .before .before .before .before .before .before .before .before .before .before .before .before .before .before .before .before .before .before .before .before .before .before .before .before .before .before .before .pre .0 .ask in
     omega (arith, ordered r, room r)
 
-part-blend-at-end : tie.Need-part-blend-at-end
-part-blend-at-end c = search needs
+part-blit-at-end : tie.Need-part-blit-at-end
+part-blit-at-end c = omega (arith, room (c .before .before .before .before .before .before .before .before .before .before .before .before .before .before .before .before .before .before .before .before .before .before .before .before .before .before .before .pre .0 .ask))
 
-blend-at-requires : tie.Need-blend-at-requires
-blend-at-requires c κs =
-    let g = c .before .before .before .before .before in
-    let f = g .before .before .before .before .before in
-    let t = f .before .before .before .before in
-    let p = t .before .before .before .before .before .before .before .before .pre .0 in
+blit-at-requires : tie.Need-blit-at-requires
+blit-at-requires c κs =
+    let b = c .before .before .before .before .before .before in
+    let g = b .before .before .before .before .before in
+    let t = g .before .before .before .before .before .before .before .before .before in
+    let p = t .before .before .before .before .before .before .before .before .before .pre .0 in
     record {
       inside = omega (arith, row-fits (p .ask) _ (t .row-start .ensures), length-window (p .ask));
-      source = omega (arith, f .fetch-source .kept .0, p .buffers .source, p .ask .drawable .clear .output .narrow);
-      destination = omega (arith, g .fetch-row .kept .0, p .buffers .destination, p .ask .drawable .clear .output .narrow);
+      room = omega (arith, b .blend-row .kept .0, g .fetch-row .kept .0, p .buffers .destination, p .ask .drawable .clear .output .narrow);
     }
 
 same-length : tie.Need-same-length
@@ -72,20 +78,22 @@ same-length-3 c = search needs
 returns : tie.Need-returns
 unfolding destinationColour colourAt
 returns c =
-    let g = c .before .before .before .before .before .before .before .before in
+    let b = c .before .before .before .before .before .before .before .before .before in
+    let g = b .before .before .before .before .before in
     let f = g .before .before .before .before .before in
     let u = f .before .before .before in
     let t = u .before in
-    let s = t .before .before .before .before .before .before .before .before in
+    let s = t .before .before .before .before .before .before .before .before .before in
     let a = s .args in
     let d = a .task .destination .surface in
-    let b = c .before .before .blend-at in
-    row-drawn (s .pre .0 .ask) _ (t .row-start .result) (b .last .0) (t .row-start .ensures) (b .ensures)
+    let i = c .before .before .blit-at in
+    row-drawn (s .pre .0 .ask) _ (t .row-start .result) (i .last .0) (t .row-start .ensures) (i .ensures)
     (λ x l.
-    ap₂ (mixed (a .task .blending) (a .task .source .alpha) (a .task .destination .alpha))
+    b .blend-row .ensures x l
+    ∙ (ap₂ (mixed (a .task .blending) (a .task .source .alpha) (a .task .destination .alpha))
     (f .fetch-source .ensures x l)
     (g .fetch-row .ensures x l ∙ ap (λ (i : ℕ). loaded (d .format) (now (a .memory)) (i + x * bytesOf (d .format))) (u .row-start2 .ensures))
-    ∙ sym (pixel-blended (a .task) (now (a .memory)) x (a .y) (s .pre .1)))
+    ∙ sym (pixel-blended (a .task) (now (a .memory)) x (a .y) (s .pre .1))))
 
 pub blended-row-spec : {M : Type 1} → statement M
 blended-row-spec =
@@ -97,10 +105,11 @@ blended-row-spec =
     row-start-requires-2
     fetch-source-requires
     fetch-row-requires
-    sub-blend-at
-    part-blend-at-start
-    part-blend-at-end
-    blend-at-requires
+    blend-row-requires
+    sub-blit-at
+    part-blit-at-start
+    part-blit-at-end
+    blit-at-requires
     same-length
     same-length-2
     same-length-3

@@ -39,8 +39,7 @@ blit-at-requires c κs =
     let p = t .before .before .before .before .before .pre .0 in
     record {
       inside = omega (arith, row-fits (p .ask) _ (t .row-start .ensures), length-window (p .ask));
-      source = omega (arith, f .fetch-source .kept .0, p .buffers .source, p .ask .drawable .clear .output .narrow);
-      destination = omega (arith, f .fetch-source .kept .0, p .buffers .source, p .ask .drawable .clear .output .narrow);
+      room = omega (arith, f .fetch-source .kept .0, p .buffers .source, p .ask .drawable .clear .output .narrow);
     }
 
 same-length : tie.Need-same-length

@@ -1,0 +1,2 @@
+-- Laws of rows whose alphas go by a mode.
+pub mod Alphas

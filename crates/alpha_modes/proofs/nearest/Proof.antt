@@ -1,0 +1,20 @@
+use Rattle.pixel.specs.Alpha.{near}
+use borrow.Author.Needs.{needs}
+use Rattle.alpha_modes.proofs.nearest.Statement.{statement}
+use Rattle.alpha_modes.proofs.nearest.Tie as tie
+
+-- src/alpha.rt:40:13
+add-t : tie.Need-add-t
+add-t c = search needs
+
+-- src/alpha.rt:41:6
+add-result : tie.Need-add-result
+add-result c = search needs
+
+-- src/alpha.rt:36:1
+returns : tie.Need-returns
+unfolding near
+returns c = search needs
+
+pub nearest-spec : {M : Type 1} → statement M
+nearest-spec = tie.close (tie.spec add-t add-result returns)

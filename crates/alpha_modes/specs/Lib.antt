@@ -1,0 +1,2 @@
+-- Alpha modes of a row.
+pub mod Mode

@@ -1,0 +1,73 @@
+// The alphas of a row by an alpha mode.
+ghost use mathlib.Core.Path.{_≡_};
+ghost use Prim.Native.Nat.{ℕ, _+_, _*_, _/_, _%_, _≤_, _<_};
+ghost use lib.ListN.{length, getD};
+ghost use Rattle.pixel.specs.Alpha.{near};
+ghost use Rattle.pixel.specs.declared.blend.AlphaMode.the-variants.{Global, Mixed};
+ghost use Rattle.lanes.specs.Lanes.{Done};
+ghost use Rattle.alpha_modes.specs.Mode.{modeAt};
+use pixel::AlphaMode;
+
+fn set_alphas(row: &mut [u8], width: usize, a: u8)
+    requires { ⌜ width * 4 ≤ length (now row) ⌝ }
+    ensures { λ _. ⌜ Done (modeAt Global a (now (row .entry))) (now (row .entry)) (now (row .exit)) 0 (width * 4) ⌝ }
+{
+    let mut x = 0;
+    while x < width {
+        row[x * 4 + 3] = a;
+        x += 1;
+    }
+}
+
+fn wide(x: u8) -> u32
+    ensures { λ r. ⌜ (r ≡ x) × (r ≤ 255) ⌝ }
+{
+    x as u32
+}
+
+fn prod(a: u32, b: u32) -> u32
+    requires { ⌜ (a ≤ 255) × (b ≤ 255) ⌝ }
+    ensures { λ r. ⌜ (r ≡ a * b) × (r ≤ 65025) ⌝ }
+{
+    a * b
+}
+
+// By shifts: this form makes vectors in a loop over bytes.
+fn nearest(p: u32) -> u32
+    requires { ⌜ p ≤ 65025 ⌝ }
+    ensures { λ r. ⌜ (r ≡ near p) × (r ≤ 255) ⌝ }
+{
+    let t = p + 128;
+    (t + t / 256) / 256
+}
+
+fn mix_alphas(row: &mut [u8], width: usize, a: u8)
+    requires { ⌜ width * 4 ≤ length (now row) ⌝ }
+    ensures { λ _. ⌜ Done (modeAt Mixed a (now (row .entry))) (now (row .entry)) (now (row .exit)) 0 (width * 4) ⌝ }
+{
+    let g = wide(a);
+    let mut x = 0;
+    while x < width {
+        row[x * 4 + 3] = nearest(prod(wide(row[x * 4 + 3]), g)) as u8;
+        x += 1;
+    }
+}
+
+pub fn alpha_row(row: &mut [u8], width: usize, mode: AlphaMode, global: u8)
+    requires { ⌜ width * 4 ≤ length (now row) ⌝ }
+    ensures { λ _. ⌜ Done (modeAt mode global (now (row .entry))) (now (row .entry)) (now (row .exit)) 0 (width * 4) ⌝ }
+{
+    match mode {
+        AlphaMode::Pixel => {
+            return;
+        }
+        AlphaMode::Global => {
+            set_alphas(row, width, global);
+            return;
+        }
+        AlphaMode::Mixed => {
+            mix_alphas(row, width, global);
+            return;
+        }
+    }
+}

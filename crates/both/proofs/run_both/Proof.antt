@@ -1,0 +1,34 @@
+use mathlib.Core.List.{List}
+use mathlib.Core.Path.{_≡_, sym, ap, _∙_}
+use Prim.Native.Nat.{ℕ}
+use denote.Ref.{now}
+use Rattle.engine.specs.Run.{runOf, runMemory}
+use borrow.Author.Needs.{needs}
+use Rattle.both.proofs.run_both.Statement.{statement}
+use Rattle.both.proofs.run_both.Tie as tie
+
+run-by-requires : tie.Need-run-by-requires
+run-by-requires c κs = search needs
+
+run-by-requires-2 : tie.Need-run-by-requires-2
+run-by-requires-2 c κs = search needs
+
+same-length : tie.Need-same-length
+same-length c = search needs
+
+same-length-2 : tie.Need-same-length-2
+same-length-2 c = search needs
+
+returns : tie.Need-returns
+returns c =
+    let f = c .before .before .before .before .before .before .run-by in
+    let s = c .before .before .run-by2 in
+    let a = c .before .before .before .before .before .before .before .before .before .before .before .args in
+    λ e.
+    record {
+      answers = f .ensures .0 ∙ (ap (λ (m : List ℕ). runOf (a .engine) (now (a .ring)) m) e ∙ sym (s .ensures .0));
+      memory = f .ensures .1 ∙ (ap (λ (m : List ℕ). runMemory (a .engine) (now (a .ring)) m) e ∙ sym (s .ensures .1));
+    }
+
+pub run-both-spec : {M : Type 1} → statement M
+run-both-spec = tie.close (tie.spec run-by-requires run-by-requires-2 same-length same-length-2 returns)

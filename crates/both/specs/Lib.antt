@@ -1,0 +1,2 @@
+-- What both engines promise.
+pub mod Same

@@ -1,0 +1,171 @@
+-- Four pixels in eight lanes, and four pixels whose alphas are all 255 or all 0.
+use mathlib.Core.Path.{_≡_, refl, sym, ap, _∙_, subst}
+use mathlib.Core.Logic.{⊎-elim}
+use mathlib.Core.List.{List}
+use Prim.Native.Nat.{ℕ, _+_, _-_, _*_, _/_, _%_, _≤_, _<_}
+use native.Mathlib.Omega.{arith}
+use native.Mathlib.Nat.{eq-zero-or-pos}
+use lib.ListN.{length, getD, set}
+use Rattle.pixel.specs.Blending.{factorValue, blendedChannel}
+use Rattle.pixel.specs.Rules.{ruleOf}
+use Rattle.pixel.specs.declared.blend.Rule.{Rule}
+use Rattle.pixel.specs.declared.blend.RuleName.the-variants.{SrcOver, Add}
+use Rattle.lanes.specs.Lanes.{two, Done}
+use Rattle.lanes.proofs.Laws.{under-or}
+use Rattle.lanes.proofs.Passes.{Ahead, one-done, more-done, same-done}
+use Rattle.combine.specs.Blend.{alphaAt, blendAt, duo, topAt, laneAt}
+use Rattle.combine.proofs.Channels.{duo-low, duo-high, copied, stayed, cleared}
+
+-- a row of bytes
+abbrev pub Bytes : List ℕ → Type 0
+Bytes s = (j : ℕ) → getD s j 0 < 256
+
+two-low : (s : List ℕ) (o : ℕ) → Bytes s → two s o % 256 ≡ getD s o 0
+unfolding two
+two-low s o b = omega (arith, b o, b (o + 1))
+
+two-high : (s : List ℕ) (o : ℕ) → Bytes s → two s o / 256 ≡ getD s (o + 1) 0
+unfolding two
+two-high s o b = omega (arith, b o, b (o + 1))
+
+pub two-small : (s : List ℕ) (o : ℕ) → Bytes s → two s o ≤ 65535
+unfolding two
+two-small s o b = omega (arith, b o, b (o + 1))
+
+pub blend-ahead : (rule : Rule) (s : List ℕ) → Ahead (blendAt rule s)
+unfolding blendAt
+blend-ahead rule s d e j same =
+    let a = same j (omega arith) in
+    let b = same (j / 4 * 4 + 3) (omega arith) in
+    cc
+
+pub lane-by : (rule : Rule) (a b : List ℕ) (k x y : ℕ) → x ≡ topAt a k → y ≡ topAt b k →
+    duo (getD a k 0) (factorValue (rule .source) x y) (getD b k 0) (factorValue (rule .destination) x y) ≡ laneAt rule a b k
+unfolding laneAt
+lane-by rule a b k x y h l = rw (h, l)
+
+-- lane k of the rows s and d from o on, blended
+unfoldable pub twoAt : Rule → List ℕ → List ℕ → ℕ → ℕ → ℕ
+twoAt rule s d o k =
+    duo
+    (two s (o + k * 2)) (factorValue (rule .source) (two s (o + (k / 2 * 2 + 1) * 2) / 256) (two d (o + (k / 2 * 2 + 1) * 2) / 256))
+    (two d (o + k * 2)) (factorValue (rule .destination) (two s (o + (k / 2 * 2 + 1) * 2) / 256) (two d (o + (k / 2 * 2 + 1) * 2) / 256))
+
+module _ (s d a b : List ℕ) (o : ℕ) (is-b : (k : ℕ) → k < 8 → getD b k 0 ≡ two d (o + k * 2)) where
+  pub blend-two : (rule : Rule) → ((k : ℕ) → k < 8 → getD a k 0 ≡ two s (o + k * 2)) → (k : ℕ) → k < 8 → laneAt rule a b k ≡ twoAt rule s d o k
+  unfolding laneAt twoAt
+  blend-two rule is-a k l =
+      let t : k / 2 * 2 + 1 < 8 = omega arith in
+      cc (is-a k l, is-b k l, is-a (k / 2 * 2 + 1) t, is-b (k / 2 * 2 + 1) t)
+
+  -- SRC_OVER by the source's complement
+  pub over-two : Bytes s → ((k : ℕ) → k < 8 → getD a k 0 ≡ 65535 - two s (o + k * 2)) → (k : ℕ) → k < 8 →
+      duo (65535 - getD a k 0) 255 (getD b k 0) (getD a (k / 2 * 2 + 1) 0 / 256) ≡ twoAt (ruleOf SrcOver) s d o k
+  unfolding twoAt
+  over-two in-s is-a k l =
+      let t : k / 2 * 2 + 1 < 8 = omega arith in
+      let u : 65535 - getD a k 0 ≡ two s (o + k * 2) = omega (arith, is-a k l, two-small s (o + k * 2) in-s) in
+      let v : getD a (k / 2 * 2 + 1) 0 / 256 ≡ 255 - two s (o + (k / 2 * 2 + 1) * 2) / 256 = omega (arith, is-a (k / 2 * 2 + 1) t, two-small s (o + (k / 2 * 2 + 1) * 2) in-s) in
+      cc (is-b k l)
+
+-- the lanes blended and stored
+module _ (rule : Rule) (s d r e : List ℕ) (o : ℕ) (four : o % 4 ≡ 0) (in-s : Bytes s) (in-d : Bytes d)
+    (is-r : (k : ℕ) → k < 8 → getD r k 0 ≡ twoAt rule s d o k)
+    (low : (k : ℕ) → k < 8 → getD e (o + k * 2) 0 ≡ getD r k 0 % 256)
+    (high : (k : ℕ) → k < 8 → getD e (o + k * 2 + 1) 0 ≡ getD r k 0 / 256)
+    (under : (j : ℕ) → j < o → getD e j 0 ≡ getD d j 0) (past : (j : ℕ) → o + 16 ≤ j → getD e j 0 ≡ getD d j 0) where
+  at-low : (k : ℕ) → k < 8 → getD e (o + k * 2) 0 ≡ blendAt rule s d (o + k * 2)
+  unfolding blendAt twoAt
+  at-low k l =
+      let i : o + (k / 2 * 2 + 1) * 2 + 1 ≡ (o + k * 2) / 4 * 4 + 3 = omega arith in
+      low k l ∙ (ap (λ (n : ℕ). n % 256) (is-r k l) ∙ (duo-low (two s (o + k * 2)) _ (two d (o + k * 2)) _
+      ∙ cc (two-high s (o + (k / 2 * 2 + 1) * 2) in-s, two-high d (o + (k / 2 * 2 + 1) * 2) in-d, two-low s (o + k * 2) in-s, two-low d (o + k * 2) in-d)))
+
+  at-high : (k : ℕ) → k < 8 → getD e (o + k * 2 + 1) 0 ≡ blendAt rule s d (o + k * 2 + 1)
+  unfolding blendAt twoAt
+  at-high k l =
+      let i : o + (k / 2 * 2 + 1) * 2 + 1 ≡ (o + k * 2 + 1) / 4 * 4 + 3 = omega arith in
+      high k l ∙ (ap (λ (n : ℕ). n / 256) (is-r k l) ∙ (duo-high (two s (o + k * 2)) _ (two d (o + k * 2)) _
+      ∙ cc (two-high s (o + (k / 2 * 2 + 1) * 2) in-s, two-high d (o + (k / 2 * 2 + 1) * 2) in-d, two-high s (o + k * 2) in-s, two-high d (o + k * 2) in-d)))
+
+  four-at : (j : ℕ) → o ≤ j → j < o + 16 → getD e j 0 ≡ blendAt rule s d j
+  four-at j h l =
+      ⊎-elim
+      (λ z. subst (λ (q : ℕ). getD e q 0 ≡ blendAt rule s d q) (omega arith) (at-low ((j - o) / 2) (omega arith)))
+      (λ z. subst (λ (q : ℕ). getD e q 0 ≡ blendAt rule s d q) (omega arith) (at-high ((j - o) / 2) (omega arith)))
+      (eq-zero-or-pos ((j - o) % 2))
+
+  pub four-done : Done (blendAt rule s d) d e o (o + 16)
+  four-done = record { done = four-at; under = under; past = past }
+
+-- four alphas that are one number
+module _ (s : List ℕ) (o v : ℕ) (four : o % 4 ≡ 0) (a : getD s (o + 3) 0 ≡ v) (b : getD s (o + 7) 0 ≡ v) (c : getD s (o + 11) 0 ≡ v) (d : getD s (o + 15) 0 ≡ v) where
+  pub alphas-at : (j : ℕ) → o ≤ j → j < o + 16 → alphaAt s j ≡ v
+  alphas-at j h l =
+      under-or j (o + 8)
+      (λ p. under-or j (o + 4) (λ q. subst (λ (i : ℕ). getD s i 0 ≡ v) (omega arith) a) (λ q. subst (λ (i : ℕ). getD s i 0 ≡ v) (omega arith) b))
+      (λ p. under-or j (o + 12) (λ q. subst (λ (i : ℕ). getD s i 0 ≡ v) (omega arith) c) (λ q. subst (λ (i : ℕ). getD s i 0 ≡ v) (omega arith) d))
+
+module _ (s : List ℕ) (o : ℕ) (four : o % 4 ≡ 0) (in-s : Bytes s) where
+  pub all-full : getD s (o + 3) 0 + getD s (o + 7) 0 + getD s (o + 11) 0 + getD s (o + 15) 0 ≡ 1020 → (j : ℕ) → o ≤ j → j < o + 16 → alphaAt s j ≡ 255
+  all-full z =
+      let b₀ = in-s (o + 3) in let b₁ = in-s (o + 7) in let b₂ = in-s (o + 11) in let b₃ = in-s (o + 15) in
+      alphas-at s o 255 four (omega arith) (omega arith) (omega arith) (omega arith)
+
+  pub all-empty : getD s (o + 3) 0 + getD s (o + 7) 0 + getD s (o + 11) 0 + getD s (o + 15) 0 ≡ 0 → (j : ℕ) → o ≤ j → j < o + 16 → alphaAt s j ≡ 0
+  all-empty z = alphas-at s o 0 four (omega arith) (omega arith) (omega arith) (omega arith)
+
+-- ---- one byte more, and four pixels more
+
+pub byte-more : (rule : Rule) (s d₀ d : List ℕ) (a j v : ℕ) → a ≤ j → j < length d → v ≡ blendAt rule s d j →
+    Done (blendAt rule s d₀) d₀ d a j → Done (blendAt rule s d₀) d₀ (set d j v) a (j + 1)
+byte-more rule s d₀ d a j v h l e was =
+    more-done (blendAt rule s) (blend-ahead rule s) d₀ d (set d j v) a j (j + 1) h (omega arith) was (one-done (blendAt rule s d) d j v l e)
+
+pub part-more : (rule : Rule) (s d₀ d d′ : List ℕ) (a o n : ℕ) → a ≤ o → o ≤ n → Done (blendAt rule s d₀) d₀ d a o → Done (blendAt rule s d) d d′ o n → Done (blendAt rule s d₀) d₀ d′ a n
+part-more rule s d₀ d d′ a o n h k was did = more-done (blendAt rule s) (blend-ahead rule s) d₀ d d′ a o n h k was did
+
+pub by-rule : (q r : Rule) (s d e : List ℕ) (a n : ℕ) → q ≡ r → Done (blendAt r s d) d e a n → Done (blendAt q s d) d e a n
+by-rule q r s d e a n h did = rw h did
+
+-- ---- four pixels whose alphas are all 255, or all 0
+
+module _ (rule : Rule) (s d e : List ℕ) (o : ℕ) (four : o % 4 ≡ 0) (in-s : Bytes s) (in-d : Bytes d) where
+  pub copy-done : ((y : ℕ) → (factorValue (rule .source) 255 y ≡ 255) × (factorValue (rule .destination) 255 y ≡ 0)) →
+      getD s (o + 3) 0 + getD s (o + 7) 0 + getD s (o + 11) 0 + getD s (o + 15) 0 ≡ 1020 →
+      Done (λ j. getD s j 0) d e o (o + 16) → Done (blendAt rule s d) d e o (o + 16)
+  unfolding blendAt
+  copy-done full z did =
+      same-done (λ j. getD s j 0) (blendAt rule s d) d e o (o + 16)
+      (λ j h l.
+      let f = full (alphaAt d j) in
+      sym (cc (all-full s o four in-s z j h l, f .0, f .1, copied (getD s j 0) (getD d j 0) (omega (arith, in-s j)))))
+      did
+
+  pub leave-done : ((y : ℕ) → (factorValue (rule .source) 0 y ≡ 0) × (factorValue (rule .destination) 0 y ≡ 255)) →
+      getD s (o + 3) 0 + getD s (o + 7) 0 + getD s (o + 11) 0 + getD s (o + 15) 0 ≡ 0 → Done (blendAt rule s d) d d o (o + 16)
+  unfolding blendAt
+  leave-done empty z = record {
+    done = λ j h l.
+        let f = empty (alphaAt d j) in
+        sym (cc (all-empty s o four in-s z j h l, f .0, f .1, stayed (getD s j 0) (getD d j 0) (omega (arith, in-d j))));
+    under = λ j l. refl;
+    past = λ j l. refl;
+  }
+
+  -- SRC_OVER without alpha
+  pub clear-done : ((j : ℕ) → o ≤ j → j < o + 16 → getD s j 0 ≡ 0) → Done (blendAt (ruleOf SrcOver) s d) d d o (o + 16)
+  unfolding blendAt
+  clear-done z = record {
+    done = λ j h l. sym (cc (z j h l, z (j / 4 * 4 + 3) (omega arith) (omega arith), cleared 255 (getD d j 0) (omega (arith, in-d j))));
+    under = λ j l. refl;
+    past = λ j l. refl;
+  }
+
+  pub add-done : getD s (o + 3) 0 + getD s (o + 7) 0 + getD s (o + 11) 0 + getD s (o + 15) 0 ≡ 0 →
+      Done (blendAt (ruleOf Add) s d) d e o (o + 16) → Done (blendAt (ruleOf SrcOver) s d) d e o (o + 16)
+  unfolding blendAt
+  add-done z did =
+      same-done (blendAt (ruleOf Add) s d) (blendAt (ruleOf SrcOver) s d) d e o (o + 16)
+      (λ j h l. ap (λ (x : ℕ). blendedChannel (getD s j 0) 255 (getD d j 0) (255 - x)) (sym (all-empty s o four in-s z j h l)))
+      did

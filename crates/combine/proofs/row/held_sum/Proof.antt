@@ -1,0 +1,26 @@
+use Rattle.pixel.specs.Alpha.{near}
+use Rattle.pixel.specs.Blending.{blendedChannel}
+use borrow.Author.Needs.{needs}
+use Rattle.combine.proofs.row.held_sum.Statement.{statement}
+use Rattle.combine.proofs.row.held_sum.Tie as tie
+
+-- src/row.rt:24:8
+sub-if1 : tie.Need-sub-if1
+sub-if1 c = search needs
+
+-- src/row.rt:24:35
+add-result : tie.Need-add-result
+add-result c = search needs
+
+-- src/row.rt:21:1
+returns : tie.Need-returns
+unfolding blendedChannel near
+returns c = search needs
+
+-- src/row.rt:21:1
+returns-2 : tie.Need-returns-2
+unfolding blendedChannel near
+returns-2 c = search needs
+
+pub held-sum-spec : {M : Type 1} → statement M
+held-sum-spec = tie.close (tie.spec sub-if1 add-result returns returns-2)

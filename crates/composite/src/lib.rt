@@ -1,0 +1,30 @@
+// A row of colours blended with a row of colours, in place: alpha modes, then the rule.
+ghost use mathlib.Core.Path.{_≡_};
+ghost use Rattle.pixel.specs.declared.format.Format.the-variants.{Argb8888};
+ghost use Rattle.rows.specs.Row.{colourIn, rowOf};
+ghost use Rattle.rows.specs.Mixed.{mixed};
+ghost use Rattle.composite.specs.Buffer.{Mixes};
+use alpha_modes::alpha_row;
+use combine::Plan;
+use combine::blend_row;
+use register::Alpha;
+use register::Blending;
+
+pub fn mix_row(
+    d: &mut [u8],
+    s: &mut [u8],
+    width: usize,
+    blending: Blending,
+    p: Plan,
+    source: Alpha,
+    destination: Alpha,
+)
+    requires { ⌜ Mixes (now d) (now s) width blending p ⌝ }
+    ensures { λ _. ⌜ now (d .exit) ≡ rowOf Argb8888 (λ x. mixed blending source destination (colourIn (now (s .entry)) x) (colourIn (now (d .entry)) x)) (now (d .entry)) ⌝ }
+{
+    let sm = source.mode;
+    let dm = destination.mode;
+    alpha_row(s, width, sm, source.global);
+    alpha_row(d, width, dm, destination.global);
+    blend_row(d, s, p);
+}

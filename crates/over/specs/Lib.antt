@@ -1,2 +1,0 @@
--- Two channels in one word.
-pub mod Pair

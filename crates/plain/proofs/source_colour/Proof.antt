@@ -1,0 +1,45 @@
+use mathlib.Core.Path.{sym, ap, _∙_}
+use denote.Ref.{now}
+use Rattle.surface.specs.Drawn.{loaded}
+use Rattle.register.specs.Task.{isBuffer}
+use Rattle.register.specs.declared.task.SourceMode.{SourceMode}
+use Rattle.rows.specs.Row.{colourAt, originOf}
+use Rattle.raster.specs.Task.{colourBy, sourceColour}
+use Rattle.plain.proofs.Inside.{source-read}
+use borrow.Author.Needs.{needs}
+use Rattle.plain.proofs.source_colour.Statement.{statement}
+use Rattle.plain.proofs.source_colour.Tie as tie
+
+enum-told : tie.Need-enum-told
+enum-told c = search needs
+
+origin-requires : tie.Need-origin-requires
+origin-requires c κs = search needs
+
+load-requires : tie.Need-load-requires
+load-requires c κs =
+    let s = c .before .before .before .before .before in
+    let a = s .args in
+    rw (c .origin .ensures) (source-read (now (a .memory)) (a .source) (a .x) (a .y) (s .pre) (ap isBuffer (c .before .before .enum-told .given .1)))
+
+enum-told-2 : tie.Need-enum-told-2
+enum-told-2 c = search needs
+
+returns : tie.Need-returns
+unfolding sourceColour colourAt
+returns c =
+    let o = c .before in
+    let a = o .before .before .before .before .before .args in
+    c .load .ensures
+    ∙ (ap (loaded (a .source .surface .format) (now (a .memory))) (o .origin .ensures)
+    ∙ sym (ap (λ (m : SourceMode). colourBy m (a .source) (now (a .memory)) (originOf (a .source .surface) (a .source .transform) (a .x) (a .y))) (o .before .before .enum-told .given .1)))
+
+returns-2 : tie.Need-returns-2
+unfolding sourceColour
+returns-2 c =
+    let a = c .before .before .before .before .args in
+    sym (ap (λ (m : SourceMode). colourBy m (a .source) (now (a .memory)) (originOf (a .source .surface) (a .source .transform) (a .x) (a .y))) (c .before .enum-told2 .given .1))
+
+pub source-colour-spec : {M : Type 1} → statement M
+source-colour-spec =
+    tie.close (tie.spec enum-told origin-requires load-requires enum-told-2 returns returns-2)

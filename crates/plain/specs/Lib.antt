@@ -1,0 +1,2 @@
+-- What the slow engine asks.
+pub mod Pixel

@@ -1,0 +1,44 @@
+-- The rows of a surface that is not turned.
+use mathlib.Core.Path.{_≡_, refl}
+use mathlib.Core.Bool.{Bool, true, false, false≢true}
+use Prim.Native.Nat.{ℕ, _+_, _*_, _≤_, _<_}
+use native.Mathlib.Nat.{mul-le-mul-right}
+use native.Mathlib.Omega.{arith}
+use Rattle.pixel.specs.Formats.{bytesOf}
+use Rattle.transform.specs.Transform.{sourceOf, mirrored}
+use Rattle.transform.specs.declared.Rotation.{Rotation}
+use Rattle.transform.specs.declared.Rotation.the-variants.{Upright, Clockwise, Half, CounterClockwise}
+use Rattle.transform.specs.declared.Transform.{Transform}
+use Rattle.transform.proofs.Inside.{mirrored-below}
+use Rattle.surface.specs.Surface.{pixelStart, span}
+use Rattle.surface.specs.declared.Surface.{Surface}
+use Rattle.surface.proofs.Outside.{row-in-span}
+use Rattle.rows.specs.Row.{originOf}
+use Rattle.rows.specs.Step.{isStraight}
+
+-- not turned, and not flipped from left to right
+module _ (s : Surface) (t : Transform) (upright : t .rotation ≡ Upright) (kept : t .flip .horizontal ≡ false) where
+  -- the pixels of output row y lie side by side
+  pub side-by-side : (x y : ℕ) →
+      pixelStart s (originOf s t x y .x) (originOf s t x y .y) ≡ pixelStart s (originOf s t 0 y .x) (originOf s t 0 y .y) + x * bytesOf (s .format)
+  unfolding originOf sourceOf
+  side-by-side x y = rw (upright, kept) (omega arith)
+
+  -- and in the surface
+  pub side-by-side-in : (y width n : ℕ) → y < s .height → width ≤ s .width → span s .end ≤ n →
+      pixelStart s (originOf s t 0 y .x) (originOf s t 0 y .y) + width * bytesOf (s .format) ≤ n
+  unfolding originOf sourceOf
+  side-by-side-in y width n u w l =
+      let z : ℕ = mirrored (t .flip .vertical) (s .height) y in
+      rw (upright, kept)
+      (omega (arith, row-in-span s z (mirrored-below (t .flip .vertical) (s .height) y u), mul-le-mul-right (bytesOf (s .format)) w))
+
+pub straight : (t : Transform) → isStraight (t .rotation) (t .flip) ≡ true → (t .rotation ≡ Upright) × (t .flip .horizontal ≡ false)
+straight t e = go (t .rotation) (t .flip .horizontal) e
+  where
+    go : (r : Rotation) (h : Bool) → isStraight r (record { horizontal = h; vertical = t .flip .vertical }) ≡ true → (r ≡ Upright) × (h ≡ false)
+    go Upright false e = (refl, refl)
+    go Upright true e = absurd (false≢true e)
+    go Clockwise h e = absurd (false≢true e)
+    go Half h e = absurd (false≢true e)
+    go CounterClockwise h e = absurd (false≢true e)

@@ -1,0 +1,100 @@
+// Rows of bytes drawn from colours, and buffers blended.
+ghost use mathlib.Core.Path.{_≡_};
+ghost use Prim.Native.Nat.{_*_, _≤_};
+ghost use lib.ListN.{length};
+ghost use Rattle.rows.specs.Row.{colourIn, Spells, rowOf, Wide};
+ghost use Rattle.rows.specs.Mixed.{mixed};
+use crate::argb::fill_words;
+use crate::argb::word_of;
+use combine::plan_of;
+use composite::mix_row;
+use convert::copy;
+use convert::to_565;
+use convert::to_888;
+use pixel::Colour;
+use pixel::Format;
+use register::Alpha;
+use register::Blending;
+use surface::store;
+
+// Stores one colour in all of a row.
+fn fill_pixels(row: &mut [u8], width: usize, format: Format, c: Colour)
+    requires { ⌜ Wide (now row) width format ⌝ }
+    ensures { λ _. ⌜ now (row .exit) ≡ rowOf format (λ x. c) (now (row .entry)) ⌝ }
+{
+    let bytes = format.bytes();
+    let mut x = 0;
+    let mut at = 0;
+    while x < width {
+        store(row, at, format, c);
+        at = at + bytes;
+        x += 1;
+    }
+}
+
+// The same, with a loop for each format: in each of them the format is a constant.
+pub fn fill_row(row: &mut [u8], width: usize, format: Format, c: Colour)
+    requires { ⌜ Wide (now row) width format ⌝ }
+    ensures { λ _. ⌜ now (row .exit) ≡ rowOf format (λ x. c) (now (row .entry)) ⌝ }
+{
+    match format {
+        Format::Argb8888 => {
+            fill_words(row, width, word_of(c));
+            return;
+        }
+        Format::Rgb888 => {
+            fill_pixels(row, width, Format::Rgb888, c);
+            return;
+        }
+        Format::Rgb565 => {
+            fill_pixels(row, width, Format::Rgb565, c);
+            return;
+        }
+    }
+}
+
+// Stores the colours of a buffer in all of a row.
+pub fn blit_row(row: &mut [u8], width: usize, format: Format, source: &[u8])
+    requires { ⌜ (Wide (now row) width format) × (width * 4 ≤ length (now source)) ⌝ }
+    ensures { λ _. ⌜ now (row .exit) ≡ rowOf format (λ x. colourIn (now (source .entry)) x) (now (row .entry)) ⌝ }
+{
+    match format {
+        Format::Argb8888 => {
+            copy(row, source);
+            return;
+        }
+        Format::Rgb888 => {
+            to_888(row, source, width);
+            return;
+        }
+        Format::Rgb565 => {
+            to_565(row, source, width);
+            return;
+        }
+    }
+}
+
+// Blends the colours of one buffer into those of another. What the first holds afterwards is free.
+pub fn blend_row(
+    destination: &mut [u8],
+    source: &mut [u8],
+    width: usize,
+    blending: Blending,
+    source_alpha: Alpha,
+    destination_alpha: Alpha,
+)
+    requires { ⌜ (width * 4 ≤ length (now source)) × (width * 4 ≤ length (now destination)) ⌝ }
+    ensures { λ _. ⌜ Spells (now (destination .exit)) width (λ x. mixed blending «source_alpha» «destination_alpha» (colourIn (now (source .entry)) x) (colourIn (now (destination .entry)) x)) ⌝ }
+{
+    let n = width * 4;
+    let rule = blending.rule;
+    mix_row(
+        &mut destination[0..n],
+        source,
+        width,
+        blending,
+        plan_of(rule),
+        source_alpha,
+        destination_alpha,
+    );
+}
