@@ -16,14 +16,14 @@ use Rattle.queue.specs.Calls.{unless, withClient, openOf, newBatch, withBatch, 
 use Rattle.engine.specs.declared.Completion.{Completion}
 use Rattle.engine.specs.declared.Outcome.the-variants.{Completed}
 use Rattle.engine.specs.Outcome.{numberOf as refusalOf, valuesOf}
-use Rattle.engine.specs.Run.{oldest, oldestVerdict, withoutOldest, answered, runOf, runMemory}
-use Rattle.engine.proofs.Calls.{completion as completionOf, drawn}
+use Rattle.engine.specs.Run.{answered, runOf, runMemory}
+use Rattle.engine.proofs.Calls.{completion as completionOf}
 use Rattle.model.specs.Windows.{Window}
 use Rattle.model.specs.Calls.{Call, opens, submit, run, pending, opened, accepted, completed, ready, refused}
 use Rattle.claims.specs.Way.{numbersOf}
 use Rattle.claims.specs.Engine.{State, state, Called, told, completion, called}
-use Rattle.claims.specs.Demand1.{tableOf}
-use Rattle.claims.specs.Demand3.{Harmless}
+use Rattle.claims.specs.Demand1.{tableOf, Harmless}
+use Rattle.claims.specs.Demand2.{executed}
 
 -- the window as the record holds it
 abbrev pub given : Window → Place
@@ -40,10 +40,7 @@ done (submit client bytes) s = record {
   answer = accepted (s .engine .next);
   after = state (withBatch (s .engine) (newBatch (s .engine) client (length bytes))) (copied (s .ring) (writeOffset (s .engine)) bytes) (s .memory);
 }
-done run s = record {
-  answer = completed (oldest (s .engine) .client) (oldest (s .engine) .ticket) (numbersOf (oldestVerdict (s .engine) (s .ring)));
-  after = state (withoutOldest (s .engine)) (s .ring) (drawn (s .engine) (s .ring) (s .memory));
-}
+done run s = executed s
 done (pending client) s = record { answer = ready (countOf client (readyOf (s .engine .slots))); after = s }
 
 -- the one or the other

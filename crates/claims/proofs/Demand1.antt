@@ -1,17 +1,27 @@
 -- Demand 1 holds.
-use mathlib.Core.Path.{_≡_, sym, ap}
+use mathlib.Core.Path.{_≡_, refl, sym, ap}
+use mathlib.Core.Bool.{Bool, true, false, cond, not}
+use mathlib.Core.List.{List}
 use Prim.Native.Nat.{ℕ, zero, suc}
 use native.Mathlib.Omega.{arith}
+use lib.ListN.{length}
+use lib.Dec.{ltb}
 use Rattle.register.specs.Bank.{resetBank}
 use Rattle.rules.specs.declared.fault.Fault.{Fault}
 use Rattle.rules.specs.Faults.{faultNumber, faultStatus}
 use Rattle.batch.specs.declared.verdict.Verdict.the-variants.{Faulty}
 use Rattle.raster.proofs.Fold.{faulty-batch}
+use Rattle.encoder.specs.declared.Answer.{Answer}
+use Rattle.encoder.specs.declared.Answer.the-variants.{Written, Forbidden, ShortBuffer}
+use Rattle.encoder.specs.declared.fields.Fields.{Fields}
+use Rattle.encoder.specs.Fields.{allowed}
+use Rattle.encoder.specs.Encoder.{answerOf, leaves, bufferAfter, taskBytes, numberOf as encoderNumber}
 use Rattle.queue.specs.Refusals.{firstOf}
+use Rattle.queue.proofs.Stays.{set-up-number}
 use Rattle.engine.specs.Run.{oldest, boundsFor, oldestWords, oldestVerdict, withoutOldest}
 use Rattle.model.specs.Calls.{Call, run, completed, refused}
 use Rattle.claims.specs.Engine.{State, state, Called, called}
-use Rattle.claims.specs.Demand1.{tableOf, Demand1}
+use Rattle.claims.specs.Demand1.{tableOf, encoderTable, OfCalls, OfEncoder, Demand1}
 use Rattle.claims.proofs.Cases.{number, done, either, by-number, answers, harmless}
 
 -- with any number
@@ -44,5 +54,33 @@ module _ (s : State) where
       let same = faulty-batch (boundsFor (s .engine) (oldest (s .engine) .client)) resetBank (oldestWords (s .engine) (s .ring)) (s .memory) fault place e in
       rw (by-number run s, z, same, e)
 
-pub demand1 : (s : State) → Demand1 s
-demand1 s = record { listed = listed s; only = only s; harmless = λ c. harmless c s; faulty = faulty s }
+  of-calls : OfCalls s
+  of-calls = record { listed = listed; only = only; harmless = λ c. harmless c s; faulty = faulty }
+
+-- ---- the encoder
+
+module _ (fields : Fields) (buffer : List ℕ) where
+  encoder-listed : encoderNumber (answerOf fields (length buffer)) ≡ firstOf (encoderTable fields (length buffer))
+  unfolding answerOf firstOf
+  encoder-listed = by (allowed fields) (ltb (length buffer) 80)
+    where
+      by : (a short : Bool) → encoderNumber (cond a (cond short ShortBuffer Written) Forbidden) ≡ cond (not a) 24 (cond short 12 0)
+      by true true = refl
+      by true false = refl
+      by false short = refl
+
+  encoder-harmless : ¬ (encoderNumber (answerOf fields (length buffer)) ≡ 0) → bufferAfter fields buffer ≡ buffer
+  unfolding bufferAfter
+  encoder-harmless = by (answerOf fields (length buffer))
+    where
+      by : (a : Answer) → ¬ (encoderNumber a ≡ 0) → leaves a (taskBytes fields) buffer ≡ buffer
+      by Written some = absurd (some refl)
+      by Forbidden some = refl
+      by ShortBuffer some = refl
+
+pub demand1 : Demand1
+demand1 = record {
+  set-up = set-up-number;
+  calls = of-calls;
+  encoder = λ fields buffer. record { listed = encoder-listed fields buffer; harmless = encoder-harmless fields buffer };
+}

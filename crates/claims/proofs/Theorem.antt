@@ -9,7 +9,7 @@ use Rattle.claims.specs.OfModel.{real}
 use Rattle.claims.specs.Engine.{Accepted}
 use Rattle.claims.specs.Demand3.{Separate, Unmoved, Promise}
 use Rattle.claims.proofs.OfModel.{of-model}
-use Rattle.claims.proofs.Cases.{harmless}
+use Rattle.claims.proofs.Demand1.{demand1}
 use Rattle.claims.proofs.Follows.{like-model}
 use Rattle.claims.proofs.InTime.{in-time}
 use Rattle.claims.proofs.Fruitless.{fruitless}
@@ -45,6 +45,6 @@ promise setup ring A = record {
   separate = separate setup A ring;
   unmoved = λ client ring′. unmoved setup A client ring ring′;
   in-time = in-time setup ring A;
-  harmless = harmless;
+  harmless = λ call s. demand1 .calls s .harmless call;
   fruitless = fruitless setup ring A;
 }

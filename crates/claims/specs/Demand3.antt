@@ -15,6 +15,7 @@ use Rattle.model.specs.Alone.{replayedAlone}
 use Rattle.model.specs.TwoRuns.{Each, SameAnswer, Twins}
 use Rattle.claims.specs.OfModel.{real}
 use Rattle.claims.specs.Engine.{State, Called, called, answersOf, stateAfter, Accepted, begin}
+use Rattle.claims.specs.Demand1.{Harmless}
 
 -- the completions among the answers, in order: the successful runs
 unfoldable pub completedOf : List Answer → List Answer
@@ -68,16 +69,13 @@ module _ (setup : Setup) (ring : List ℕ) where
     pub bytes : (i : ℕ) → ¬ (Owns (final calls memory) client i) →
         byte (last calls memory .memory) i ≡ byte (stateAfter calls′ (begin setup ring′ memory′) .memory) i
 
--- e: a refused call leaves record, ring and memory as they were, whatever they are
-abbrev pub Harmless : Call → State → Type 0
-Harmless call s = (number : ℕ) → called call s .answer ≡ refused number → called call s .after ≡ s
-
 pub record Demand3 (setup : Setup) (ring : List ℕ) : Type 0 where
   pub like-model : (calls : List Call) (memory : List ℕ) → LikeModel setup ring calls memory
   pub separate : (calls : List Call) (memory : List ℕ) → Separate setup ring calls memory
   pub unmoved : (client : ℕ) (ring′ : List ℕ) (calls calls′ : List Call) (memory memory′ : List ℕ) → length ring ≡ length ring′ →
       Twins real setup (length ring) client calls calls′ memory memory′ → Unmoved setup ring client ring′ calls calls′ memory memory′
   pub in-time : (calls later : List Call) (memory : List ℕ) → InTime setup ring calls memory later
+  -- e: a refused call changes nothing (demand 1)
   pub harmless : (call : Call) (s : State) → Harmless call s
   pub fruitless : (calls : List Call) (memory : List ℕ) → Fruitless setup ring calls memory
 
