@@ -28,7 +28,7 @@ pub data Ending : Type 0 where
   finished : Ending
   faulty : (fault : Fault) (offset : ℕ) → Ending
 
--- the bank is as it stands where the reading ends: a word that is refused is not in it
+-- bank: register values where decoding stopped; a rejected word is not stored
 pub record Reading : Type 0 where
   pub tasks : List Task
   pub ending : Ending
@@ -112,7 +112,7 @@ verdictAfter n (faulty fault offset) = Faulty fault offset
 abbrev pub verdictOf : Reading → Verdict
 verdictOf reading = verdictAfter (length (reading .tasks)) (reading .ending)
 
--- with the bank at its end
+-- Internal: with the bank at its end
 abbrev pub judgementOf : Reading → Judgement
 judgementOf reading = record { verdict = verdictOf reading; bank = reading .bank }
 

@@ -1,4 +1,4 @@
--- A batch read a task at a time: what one step says of the whole reading. A caller that takes step after step, from bank to bank
+-- Internal: a batch read a task at a time: what one step says of the whole reading. A caller that takes step after step, from bank to bank
 -- and position to position, meets the tasks of `readBatch` in order, and then its ending.
 use Prim.Native.Nat.{ℕ, _<_, _≤_}
 use mathlib.Core.Path.{_≡_}

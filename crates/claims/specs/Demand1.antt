@@ -1,6 +1,5 @@
--- Demand 1, of set up, of any call on any engine record, ring and memory, not only on those that calls lead to, and of the encoder. That a call ends
--- and does nothing undefined is asked of every function before its contract is; this is what the contracts' definitions make of the rest of the
--- demand. proofs/Demand1.antt proves it.
+-- Demand 1, of set up, of any call on any engine record, ring and memory, not only on those that calls lead to, and of the encoder. The tool checks
+-- termination and safety of every function; this file states the rest of demand 1. proofs/Demand1.antt proves it.
 use mathlib.Core.Path.{_≡_}
 use mathlib.Core.Bool.{not}
 use mathlib.Core.List.{List, [], _∷_}

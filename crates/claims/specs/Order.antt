@@ -12,7 +12,7 @@ use Rattle.model.specs.Claims.{final, done, Exchange, AnyOrder, AnySubmissions,
 use Rattle.claims.specs.OfModel.{real}
 use Rattle.claims.specs.Engine.{State, answersOf, stateAfter, Accepted, begin}
 
--- Two lists of calls that the engine is given, from the same record, ring and memory. What they open, accept and execute, and what waits, is told by
+-- Two lists of calls that the engine is given, from the same record, ring and memory. What they open, accept and execute, and what waits, is given by
 -- the model, whose answers are the engine's (Demand3, a).
 module _ (setup : Setup) (ring : List ℕ) (calls calls′ : List Call) (memory : List ℕ) where
   -- All of memory is the same at the end. Each client's first batch that is executed gets the same status, fault and offset (02: place) in both, and so

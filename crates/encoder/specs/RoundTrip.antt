@@ -83,6 +83,7 @@ taskWith f = record {
 
 -- ---- encoded tasks one after the other
 
+-- Internal: as words
 unfoldable pub allWords : List Fields → List ℕ
 allWords [] = []
 allWords (f ∷ fs) = wordsOf (bankOf f) ++ allWords fs

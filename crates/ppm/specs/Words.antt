@@ -36,7 +36,7 @@ numberOf text = cond (ltb 0 (length text) && allDigits text && ltb (spelled 0 te
 abbrev pub small : ℕ → ℕ
 small byte = cond (leb 65 byte && leb byte 90) (byte + 32) byte
 
--- a text is this word of small letters, itself in letters of either kind
+-- equal to this lower-case word, ignoring case
 unfoldable pub isWord : (text word : List ℕ) → Bool
 isWord [] [] = true
 isWord [] (w ∷ word) = false

@@ -1,19 +1,19 @@
--- Runs of bytes: a client's window, common, and the span of a rectangle (01, "Engine, desks, queue" and "Faults of a taken
+-- Ranges of bytes: a client's window, common, and the span of a rectangle (01, "Engine, desks, queue" and "Faults of a taken
 -- batch"). Ends are plain numbers, so that no sum of a start and a length wraps.
 use Prim.Native.Nat.{ℕ, _+_, _≤_, _<_, min, max}
 use mathlib.Core.Bool.{Bool, _&&_}
 use lib.Dec.{leb, ltb}
 use Rattle.range.specs.declared.Range.{Range}
 
--- byte i is one of the run's
+-- Internal: byte i lies in the range
 abbrev pub Holds : Range → ℕ → Type 0
 Holds r i = (r .start ≤ i) × (i < r .end)
 
--- the run of `length` bytes from `start` on
+-- the range of `length` bytes from `start` on
 abbrev pub runOf : ℕ → ℕ → Range
 runOf start length = record { start = start; end = start + length }
 
--- the run r lies wholly in q
+-- the range r lies wholly in q
 abbrev pub inside : Range → Range → Bool
 inside r q = leb (q .start) (r .start) && leb (r .end) (q .end)
 

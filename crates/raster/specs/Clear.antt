@@ -1,5 +1,5 @@
--- What is asked of a task that is drawn, which is what faults 25 to 28 leave of it (01, "Faults of a taken batch"; 02, request 7).
--- That no byte is written which is read elsewhere is said of rows, not of spans.
+-- Precondition of drawing a task; established by checks 25 to 28 (01, "Faults of a taken batch"; 02, request 7).
+-- That no byte is written which is read elsewhere is stated of rows, not of spans.
 use mathlib.Core.Path.{_≡_}
 use mathlib.Core.Bool.{true}
 use mathlib.Core.Logic.{_⊎_}
@@ -50,7 +50,7 @@ pub record Drawable (window : Range) (n : ℕ) (t : Task) : Type 0 where
   pub room : window .end ≤ n
   pub clear : Clear window (Below n) t
 
--- a memory of n bytes that holds a client's window and common
+-- Internal: a memory of n bytes that holds a client's window and common
 pub record Room (bounds : Bounds) (n : ℕ) : Type 0 where
   pub window : bounds .window .end ≤ n
   pub common : bounds .common ≤ n

@@ -1,4 +1,4 @@
--- One row of a task. The definition of a task does not speak of it: it is what the functions that draw a row promise.
+-- Internal: used only in contracts of helper functions. One row of a task.
 use mathlib.Core.Path.{_≡_}
 use mathlib.Core.Bool.{true, false}
 use mathlib.Core.List.{List}

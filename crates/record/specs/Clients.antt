@@ -57,7 +57,7 @@ abbrev pub badWindow : Setup → (others : List Window) → Window → Bool
 badWindow setup others w =
     eqb (w .length) 0 || not (inside (bytesOf w) (firstBytes (setup .memory))) || shared (bytesOf w) (firstBytes (setup .common)) || sharesAny (bytesOf w) others
 
--- 4 is true of none of the windows. Sharing goes both ways, so each is asked of those after it.
+-- 4 is true of none of the windows. Overlap is symmetric, so each window is compared with the later ones.
 unfoldable pub noneBad : Setup → List Window → Bool
 noneBad setup [] = true
 noneBad setup (w ∷ ws) = not (badWindow setup ws w) && noneBad setup ws

@@ -32,7 +32,7 @@ place ticket (s ∷ ss) = cond (stateHas ticket (s .state)) 0 (suc (place ticket
 abbrev pub isGiven : ℕ → List Slot → Bool
 isGiven ticket slots = ltb (place ticket slots) (length slots)
 
--- the batch of a state that is ready; of a free one nothing is asked
+-- the batch of a state that is ready; a dummy for a free slot; never used
 abbrev pub stateBatch : SlotState → Batch
 stateBatch Free = record { client = 0; ticket = 0; offset = 0; length = 0 }
 stateBatch (Ready b) = b

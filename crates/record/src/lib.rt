@@ -20,7 +20,7 @@ pub struct Setup {
     pub common: usize,
 }
 
-// A run of bytes of memory.
+// A range of bytes of memory.
 pub struct Window {
     pub start: u32,
     pub length: u32,
@@ -302,7 +302,7 @@ pub fn is_open(engine: Record, client: u32) -> bool
     (client as usize) < engine.opened
 }
 
-// Whether a batch keeps its rules at `offset`, in the room that is left; `owned` tells whether its client is open.
+// Whether a batch keeps its rules at `offset`, in the room that is left; `owned` says whether its client is open.
 fn fits_in(ring: usize, offset: usize, room: usize, owned: bool, b: Batch) -> bool
     ensures { λ r. ⌜ r ≡ (eqb (b .offset) offset && not (badLength ring (b .length)) && leb (b .length) room && owned) ⌝ }
 {

@@ -56,6 +56,6 @@ wordsOf r = wordsWith r (rowAt r 0) (rowAt r 1) (rowAt r 2) (rowAt r 3) (rowAt r
 unfoldable pub bytesOf : Record → List ℕ
 bytesOf r = wordsBytes (wordsOf r)
 
--- a buffer of another length stays as it was
+-- Internal: a buffer of another length stays as it was
 unfoldable pub written : Record → List ℕ → List ℕ
 written r bytes = cond (eqb (length bytes) 272) (bytesOf r) bytes

@@ -92,7 +92,7 @@ module _ (ring memory : List ℕ) (before : List Entry) (entry : Entry) where
     pub submits : submitted .answer ≡ told (refusal entry) (accepted (ticketAfter count))
     -- "if accepted, runs it": run completes this record, for its own client, with the ticket that submit gave
     pub runs : (ticket : ℕ) → submitted .answer ≡ accepted ticket → called run (submitted .after) .answer ≡ completed (entry .client) ticket (verdict entry)
-    -- so this is what its line tells
+    -- so this is what its line says
     pub answers : served entry reached .answer ≡ answerAfter count entry
     pub one-line : OneLine (entryLine entry reached)
     -- and this is what it does to memory

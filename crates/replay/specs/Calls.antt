@@ -63,21 +63,21 @@ finishedText r line = cond (leb 128 (length line)) (finishText (r .stage) (r .he
 
 -- ---- what the two are made of: contracts of inner functions
 
--- a record submitted and run
+-- Internal: a record submitted and run
 pub record Serves (engine : Record) (ring memory : List ℕ) (entry : Entry) (line : List ℕ) (s : Served) (ring′ memory′ line′ : List ℕ) : Type 0 where
   pub engine-is : s .engine ≡ served entry (state engine ring memory) .after .engine
   pub ring-is : ring′ ≡ served entry (state engine ring memory) .after .ring
   pub memory-is : memory′ ≡ served entry (state engine ring memory) .after .memory
   pub prints : Prints (entryLine entry (state engine ring memory)) line (s .written) line′
 
--- the bytes of a record that are there
+-- Internal: the bytes of a record that are there
 pub record Decides (engine : Record) (bytes ring memory line : List ℕ) (d : Decided) (ring′ memory′ line′ : List ℕ) : Type 0 where
   pub replay-is : d .replay ≡ replayAt (decided (state engine ring memory) bytes .next)
   pub ring-is : ring′ ≡ decided (state engine ring memory) bytes .next .state .ring
   pub memory-is : memory′ ≡ decided (state engine ring memory) bytes .next .state .memory
   pub prints : Prints (decided (state engine ring memory) bytes .text) line (d .written) line′
 
--- one step, from `have` bytes held
+-- Internal: one step, from `have` bytes held
 pub record Steps (s : Step) (have : ℕ) (held line : List ℕ) (f : Fed) (held′ ring′ memory′ line′ : List ℕ) : Type 0 where
   pub used-is : f .used ≡ s .used
   pub replay-is : f .replay ≡ replayAt (s .next)

@@ -30,7 +30,7 @@ unfoldable pub refusalLine : (client number : ℕ) → List ℕ
 refusalLine client number = decimal client ++ ((32 ∷ 45 ∷ 32 ∷ 45 ∷ 32 ∷ []) ++ (decimal number ++ (32 ∷ 48 ∷ 10 ∷ [])))
 
 -- the line of what was answered last of a client's record: by run, or by a submit that was refused. Where run is refused, as it is with a
--- memory of another length, its number is told as submit's is. Neither answers otherwise
+-- memory of another length, its number is reported as submit's is. Neither answers otherwise
 unfoldable pub answerLine : (client : ℕ) → Answer → List ℕ
 answerLine client (completed own ticket v) = completionLine own ticket v
 answerLine client (refused number) = refusalLine client number
@@ -38,7 +38,7 @@ answerLine client (opened id) = []
 answerLine client (accepted ticket) = []
 answerLine client (ready count) = []
 
--- what is told of a file's end: nothing, `bad version`, `bad record`, `cut record`
+-- what is reported of a file's end: nothing, `bad version`, `bad record`, `cut record`
 unfoldable pub endingLine : Ending → List ℕ
 endingLine whole = []
 endingLine badVersion = 98 ∷ 97 ∷ 100 ∷ 32 ∷ 118 ∷ 101 ∷ 114 ∷ 115 ∷ 105 ∷ 111 ∷ 110 ∷ 10 ∷ []

@@ -1,4 +1,4 @@
--- Lines gathered in one buffer: several steps of a reading at once (crate replay: Step, Cutting).
+-- Internal: lines gathered in one buffer: several steps of a reading at once (crate replay: Step, Cutting).
 use mathlib.Core.Path.{_≡_}
 use mathlib.Core.List.{List}
 use Prim.Native.Nat.{ℕ, _+_, _≤_}

@@ -1,5 +1,5 @@
--- What a replay leaves in memory, whatever was read. Which bytes come, and how they are cut, is left to the system: of every choice it holds that
--- the memory is what these bytes make of it (crate replay: Step, Cutting).
+-- What a replay leaves in memory, whatever was read. Which bytes come, and how they are cut, is left to the system. For any input in any pieces,
+-- memory is the result of replaying it (crate replay: Step, Cutting).
 use mathlib.Core.Path.{_≡_}
 use mathlib.Core.List.{List, []}
 use Prim.Native.Nat.{ℕ}

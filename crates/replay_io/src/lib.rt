@@ -172,7 +172,7 @@ fn finish(replay: Replay, shows: bool) -> bool {
 
 // Replays what a descriptor reads, to its end, in memory, which is to be 65,536 zero bytes. Shows the lines or not, by the
 // slow engine or by the fast one. Answers
-// whether nothing failed; what did fail is told on standard error.
+// whether nothing failed; what did fail is reported on standard error.
 pub fn replay_from(fd: i32, name: &[u8], memory: &mut [u8], shows: bool, slow: bool) -> bool
     ensures { λ _. ⌜ Replayed (now (memory .entry)) (now (memory .exit)) ⌝ }
 {

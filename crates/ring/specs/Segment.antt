@@ -10,7 +10,7 @@ use Rattle.word.specs.Word.{words}
 unfoldable pub segment : List ℕ → ℕ → ℕ → List ℕ
 segment ring offset size = take size (drop offset ring ++ take offset ring)
 
--- such a batch lies in the ring: it starts at one of the ring's bytes and is no longer than the ring
+-- Internal: such a batch lies in the ring: it starts at one of the ring's bytes and is no longer than the ring
 pub record Lies (ring : List ℕ) (offset size : ℕ) : Type 0 where
   pub starts : offset < length ring
   pub fits : size ≤ length ring

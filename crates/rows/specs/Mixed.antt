@@ -5,8 +5,8 @@ use Rattle.pixel.specs.declared.colour.Colour.{Colour}
 use Rattle.register.specs.declared.task.Alpha.{Alpha}
 use Rattle.register.specs.declared.task.Blending.{Blending}
 
--- the colour with which a source pixel goes into blending, before its alpha mode: its own. This is where 02's request 12, premultiplied
--- scans, would speak
+-- the colour with which a source pixel goes into blending, before its alpha mode. Hook for 02's request 12, premultiplied scans; today the
+-- identity
 abbrev pub prepared : Blending → Colour → Colour
 prepared blending c = c
 

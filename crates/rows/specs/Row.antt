@@ -21,7 +21,7 @@ use Rattle.register.specs.Size.{sizeOf}
 
 -- ---- in a buffer
 
--- the colour that a word stands for: it is an ARGB8888 pixel
+-- Internal: the colour that a word stands for: it is an ARGB8888 pixel
 abbrev pub wordColour : ℕ → Colour
 wordColour word = unpacked (layoutOf Argb8888) word
 
@@ -29,7 +29,7 @@ wordColour word = unpacked (layoutOf Argb8888) word
 abbrev pub colourIn : List ℕ → ℕ → Colour
 colourIn buffer x = loaded Argb8888 buffer (x * 4)
 
--- the first pixels of a buffer have the colours p
+-- Internal: the first pixels of a buffer have the colours p
 abbrev pub Spells : List ℕ → ℕ → (ℕ → Colour) → Type 0
 Spells buffer width p = (x : ℕ) → x < width → colourIn buffer x ≡ p x
 
@@ -43,7 +43,7 @@ colourAt s memory p = loaded (s .format) memory (pixelStart s (p .x) (p .y))
 unfoldable pub originOf : Surface → Transform → ℕ → ℕ → Point
 originOf s t x y = sourceOf t (sizeOf s) (record { x = x; y = y })
 
--- what is asked where a row is fetched from a surface along a rotation: the surface lies in memory, the row is one of the
+-- Internal: what is asked where a row is fetched from a surface along a rotation: the surface lies in memory, the row is one of the
 -- rotated picture's, and the buffer has room
 pub record Along (memory buffer : List ℕ) (s : Surface) (r : Rotation) (y width : ℕ) : Type 0 where
   pub inside : span s .end ≤ length memory
@@ -51,10 +51,10 @@ pub record Along (memory buffer : List ℕ) (s : Surface) (r : Rotation) (y widt
   pub down : y < rotatedSize r (sizeOf s) .height
   pub room : width * 4 ≤ length buffer
 
--- a row of bytes after pixels of the colours p were stored in all of it
+-- Internal: a row of bytes after pixels of the colours p were stored in all of it
 unfoldable pub rowOf : Format → (ℕ → Colour) → List ℕ → List ℕ
 rowOf f p row = mapi (λ (j old : ℕ). rowByte (bytesOf f) (λ (x : ℕ). packed (layoutOf f) (p x)) j) row
 
--- a row is as long as `width` pixels
+-- Internal: a row is as long as `width` pixels
 abbrev pub Wide : List ℕ → ℕ → Format → Type 0
 Wide row width f = length row ≡ width * bytesOf f

@@ -1,5 +1,5 @@
--- The source pixels of an output row lie one step apart, on from the first one or back from it (01, "Pixels": flips and turns). The definition
--- of a task does not speak of it: it is what the functions that fetch such a row promise.
+-- Internal: used only in contracts of helper functions. The source pixels of an output row lie one step apart, on from the first one or back
+-- from it (01, "Pixels": flips and turns).
 use mathlib.Core.Path.{_≡_}
 use mathlib.Core.Bool.{Bool, true, false, cond, not}
 use mathlib.Core.List.{List}

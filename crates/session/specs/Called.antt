@@ -1,4 +1,4 @@
--- What a call of a script does, and what all of them do, in the engine's definitions (crate claims, specs/Engine): the contracts of this
+-- Internal: what a call of a script does, and what all of them do, in the engine's definitions (crate claims, specs/Engine): the contracts of this
 -- crate's inner functions.
 use mathlib.Core.Path.{_≡_}
 use mathlib.Core.List.{List, _++_}

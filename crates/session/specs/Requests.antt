@@ -1,4 +1,4 @@
--- What the code's value of a call stands for, given the script's bytes that begin with the call.
+-- Internal: what the code's value of a call stands for, given the script's bytes that begin with the call.
 use mathlib.Core.Path.{_≡_}
 use mathlib.Core.List.{List}
 use Prim.Native.Nat.{ℕ, _-_, _≤_}
@@ -17,7 +17,7 @@ callOf bytes (Submit client from to) = submit client (take (to - from) (drop fro
 callOf bytes Run = run
 callOf bytes (Pending client) = pending client
 
--- they are there
+-- these bytes lie inside the script
 abbrev pub Lies : (size : ℕ) → Request → Type 0
 Lies size (Open start length) = Unit {0}
 Lies size (Submit client from to) = (from ≤ to) × (to ≤ size)

@@ -14,7 +14,7 @@ use Rattle.surface.specs.Rows.{rows, rowByte}
 unfoldable pub loaded : Format → List ℕ → ℕ → Colour
 loaded f memory i = unpacked (layoutOf f) (pixelAt (bytesOf f) memory i)
 
--- memory after a colour was stored as one pixel at address i
+-- Internal: memory after a colour was stored as one pixel at address i
 unfoldable pub stored : Format → List ℕ → ℕ → Colour → List ℕ
 stored f memory i c = mapi (within i (bytesOf f) (λ (k old : ℕ). byteOf (packed (layoutOf f) c) k)) memory
 

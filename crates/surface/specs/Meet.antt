@@ -27,7 +27,7 @@ rowsMeet a b = someBelow (a .height) (λ y. someBelow (b .height) (λ v. shared 
 unfoldable pub meet : Surface → Surface → Bool
 meet a b = cond (eqb (a .stride) (b .stride)) (rowsMeet a b) (shared (span a) (span b))
 
--- a begins no later than b, and both go down by the same stride
+-- Internal: a begins no later than b, and both go down by the same stride
 pub record Before (a b : Surface) : Type 0 where
   pub address : a .address ≤ b .address
   pub stride : a .stride ≡ b .stride

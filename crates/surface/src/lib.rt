@@ -58,7 +58,7 @@ impl Surface {
         }
     }
 
-    // Whether the span lies wholly in a run of bytes.
+    // Whether the span lies wholly in a range of bytes.
     pub fn is_inside(self, run: Range) -> bool
         ensures { λ r. ⌜ r ≡ inside (span self) run ⌝ }
     {

@@ -50,6 +50,6 @@ place x = record { x = x; y = 0 }
 pub record Exactly : Type 0 where
   pub alike : (a b : Transform) → SameOrientation a b → Alike a b
   pub same : (a b : Transform) → Alike a b → SameOrientation a b
-  -- a picture of 2 by 2 tells orientations apart, by the source pixels of two places of its upper row
+  -- a picture of 2 by 2 distinguishes orientations, by the source pixels of two places of its upper row
   pub told : (a b : Transform) → sourceOf a square (place 0) ≡ sourceOf b square (place 0) → sourceOf a square (place 1) ≡ sourceOf b square (place 1) →
       SameOrientation a b
