@@ -3,7 +3,7 @@
 use mathlib.Core.List.{List, [], _∷_}
 use Prim.Native.Nat.{ℕ, _≤_}
 use Rattle.engine.specs.declared.Outcome.{Outcome}
-use Rattle.engine.specs.Outcome.{numberOf, valuesOf}
+use Rattle.engine.specs.Outcome.{runRefusalOf, valuesOf}
 
 -- a refusal's number, 0 for none, and one number more
 abbrev pub twoWords : (number value : ℕ) → List ℕ
@@ -15,7 +15,7 @@ fiveOf o = valuesOf o .client ∷ valuesOf o .ticket ∷ valuesOf o .status ∷ 
 
 -- Internal: run's six
 abbrev pub outcomeWords : Outcome → List ℕ
-outcomeWords o = numberOf o ∷ fiveOf o
+outcomeWords o = runRefusalOf o ∷ fiveOf o
 
 -- Internal: status and offset of an outcome fit in words
 pub record Small (outcome : Outcome) : Type 0 where

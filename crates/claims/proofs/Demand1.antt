@@ -15,43 +15,43 @@ use Rattle.encoder.specs.declared.Answer.{Answer}
 use Rattle.encoder.specs.declared.Answer.the-variants.{Written, Forbidden, ShortBuffer}
 use Rattle.encoder.specs.declared.fields.Fields.{Fields}
 use Rattle.encoder.specs.Fields.{allowed}
-use Rattle.encoder.specs.Encoder.{answerOf, leaves, bufferAfter, taskBytes, numberOf as encoderNumber}
-use Rattle.queue.specs.Refusals.{firstOf}
+use Rattle.encoder.specs.Encoder.{answerOf, bufferOnAnswer, bufferAfter, taskBytes, encodeRefusalOf as encoderNumber}
+use Rattle.queue.specs.Refusals.{firstRefusal}
 use Rattle.queue.proofs.Stays.{set-up-number}
-use Rattle.engine.specs.Run.{oldest, boundsFor, oldestWords, oldestVerdict, withoutOldest}
+use Rattle.engine.specs.Run.{oldest, boundsOfClient, oldestWords, oldestVerdict, withoutOldest}
 use Rattle.model.specs.Calls.{Call, run, completed, refused}
-use Rattle.claims.specs.Engine.{State, state, Called, called}
-use Rattle.claims.specs.Demand1.{tableOf, encoderTable, OfCalls, OfEncoder, Demand1}
+use Rattle.claims.specs.Engine.{State, mkState, CallResult, performCall}
+use Rattle.claims.specs.Demand1.{refusalTableOf, encoderTable, OfCalls, OfEncoder, Demand1}
 use Rattle.claims.proofs.Cases.{number, done, either, by-number, answers, harmless}
 
 -- with any number
-refused-by : (m n : ℕ) (s : State) (d : Called) → ¬ (n ≡ 0) → m ≡ n → either m s d .answer ≡ refused n
+refused-by : (m n : ℕ) (s : State) (d : CallResult) → ¬ (n ≡ 0) → m ≡ n → either m s d .answer ≡ refused n
 unfolding either
 refused-by zero n s d some e = absurd (some (sym e))
 refused-by (suc m) n s d some e = ap refused e
 
-refused-only : (m n : ℕ) (s : State) (d : Called) → ((k : ℕ) → d .answer ≡ refused k → ⊥) → either m s d .answer ≡ refused n → (m ≡ n) × ¬ (n ≡ 0)
+refused-only : (m n : ℕ) (s : State) (d : CallResult) → ((k : ℕ) → d .answer ≡ refused k → ⊥) → either m s d .answer ≡ refused n → (m ≡ n) × ¬ (n ≡ 0)
 unfolding either
 refused-only zero n s d done e = absurd (done n e)
 refused-only (suc m) n s d done e = let same : suc m ≡ n = cc in (same, λ z. omega arith)
 
 module _ (s : State) where
-  listed : (c : Call) (n : ℕ) → ¬ (n ≡ 0) → firstOf (tableOf c s) ≡ n → called c s .answer ≡ refused n
+  listed : (c : Call) (n : ℕ) → ¬ (n ≡ 0) → firstRefusal (refusalTableOf c s) ≡ n → performCall c s .answer ≡ refused n
   listed c n some e = rw (by-number c s) (refused-by (number c s) n s (done c s) some e)
 
-  only : (c : Call) (n : ℕ) → called c s .answer ≡ refused n → (firstOf (tableOf c s) ≡ n) × ¬ (n ≡ 0)
+  only : (c : Call) (n : ℕ) → performCall c s .answer ≡ refused n → (firstRefusal (refusalTableOf c s) ≡ n) × ¬ (n ≡ 0)
   only c n e = refused-only (number c s) n s (done c s) (answers c s) (rw (by-number c s) at e)
 
-  faulty : (fault : Fault) (place : ℕ) → firstOf (tableOf run s) ≡ 0 → oldestVerdict (s .engine) (s .ring) ≡ Faulty fault place →
-      called run s ≡ record {
+  faulty : (fault : Fault) (place : ℕ) → firstRefusal (refusalTableOf run s) ≡ 0 → oldestVerdict (s .engine) (s .ring) ≡ Faulty fault place →
+      performCall run s ≡ record {
         answer =
             completed (oldest (s .engine) .client) (oldest (s .engine) .ticket)
             (record { status = faultStatus fault; fault = faultNumber fault; offset = place });
-        after = state (withoutOldest (s .engine)) (s .ring) (s .memory);
+        after = mkState (withoutOldest (s .engine)) (s .ring) (s .memory);
       }
   unfolding either
   faulty fault place z e =
-      let same = faulty-batch (boundsFor (s .engine) (oldest (s .engine) .client)) resetBank (oldestWords (s .engine) (s .ring)) (s .memory) fault place e in
+      let same = faulty-batch (boundsOfClient (s .engine) (oldest (s .engine) .client)) resetBank (oldestWords (s .engine) (s .ring)) (s .memory) fault place e in
       rw (by-number run s, z, same, e)
 
   of-calls : OfCalls s
@@ -60,8 +60,8 @@ module _ (s : State) where
 -- ---- the encoder
 
 module _ (fields : Fields) (buffer : List ℕ) where
-  encoder-listed : encoderNumber (answerOf fields (length buffer)) ≡ firstOf (encoderTable fields (length buffer))
-  unfolding answerOf firstOf
+  encoder-listed : encoderNumber (answerOf fields (length buffer)) ≡ firstRefusal (encoderTable fields (length buffer))
+  unfolding answerOf firstRefusal
   encoder-listed = by (allowed fields) (ltb (length buffer) 80)
     where
       by : (a short : Bool) → encoderNumber (cond a (cond short ShortBuffer Written) Forbidden) ≡ cond (not a) 24 (cond short 12 0)
@@ -73,7 +73,7 @@ module _ (fields : Fields) (buffer : List ℕ) where
   unfolding bufferAfter
   encoder-harmless = by (answerOf fields (length buffer))
     where
-      by : (a : Answer) → ¬ (encoderNumber a ≡ 0) → leaves a (taskBytes fields) buffer ≡ buffer
+      by : (a : Answer) → ¬ (encoderNumber a ≡ 0) → bufferOnAnswer a (taskBytes fields) buffer ≡ buffer
       by Written some = absurd (some refl)
       by Forbidden some = refl
       by ShortBuffer some = refl

@@ -15,11 +15,11 @@ use Rattle.encoder.proofs.Buffer.{front, others, length-after}
 use Rattle.encoder.proofs.ReadsBack.{reads-back}
 use Rattle.raster.proofs.Fold.{faultless-batch, faulty-batch}
 use Rattle.raster.proofs.Outside.{writes}
-use Rattle.queue.specs.Refusals.{firstOf}
-use Rattle.engine.specs.Run.{oldest, boundsFor, oldestWords, oldestVerdict}
+use Rattle.queue.specs.Refusals.{firstRefusal}
+use Rattle.engine.specs.Run.{oldest, boundsOfClient, oldestWords, oldestVerdict}
 use Rattle.model.specs.Calls.{run}
-use Rattle.claims.specs.Engine.{State, called}
-use Rattle.claims.specs.Demand1.{tableOf}
+use Rattle.claims.specs.Engine.{State, performCall}
+use Rattle.claims.specs.Demand1.{refusalTableOf}
 use Rattle.claims.specs.Demand2.{OfBatch, executed, Demand2}
 use Rattle.claims.proofs.Confined.{confined}
 use Rattle.claims.proofs.Cases.{either, by-number}
@@ -34,14 +34,14 @@ of-batch bounds bank words memory = record {
 }
 
 module _ (s : State) where
-  executes : firstOf (tableOf run s) ≡ 0 → called run s ≡ executed s
+  executes : firstRefusal (refusalTableOf run s) ≡ 0 → performCall run s ≡ executed s
   unfolding either
   executes z = rw (by-number run s, z)
 
   place : (fault : Fault) (offset : ℕ) → oldestVerdict (s .engine) (s .ring) ≡ Faulty fault offset → offset < oldest (s .engine) .length
   place fault offset e =
       let batch = oldest (s .engine) in
-      let low = fault-inside (boundsFor (s .engine) (batch .client)) resetBank (oldestWords (s .engine) (s .ring)) fault offset e in
+      let low = fault-inside (boundsOfClient (s .engine) (batch .client)) resetBank (oldestWords (s .engine) (s .ring)) fault offset e in
       omega (arith, low, words-fit (s .ring) (batch .offset) (batch .length))
 
 pub demand2 : Demand2

@@ -7,16 +7,16 @@ use Rattle.record.specs.declared.Batch.{Batch}
 use Rattle.record.specs.Queue.{takenSlots}
 use Rattle.record.proofs.Line.{held}
 use Rattle.record.proofs.Rules.{write-newest, write-first, free-room}
-use Rattle.queue.specs.Refusals.{firstOf}
+use Rattle.queue.specs.Refusals.{firstRefusal}
 use Rattle.queue.proofs.Refusals.{open-allowed, submit-allowed}
 use Rattle.queue.proofs.Kept.{few-taken, open-windows}
 use Rattle.queue.proofs.Submitted.{submit-waiting, submit-held}
 use Rattle.engine.proofs.Refusals.{run-allowed}
 use Rattle.engine.proofs.Stays.{run-waiting, oldest-at, oldest-words}
 use Rattle.model.specs.Calls.{Setup, Call, opens, submit, run}
-use Rattle.claims.specs.Engine.{State, called}
-use Rattle.claims.specs.Demand1.{tableOf}
-use Rattle.claims.specs.Demand3.{last}
+use Rattle.claims.specs.Engine.{State, performCall}
+use Rattle.claims.specs.Demand1.{refusalTableOf}
+use Rattle.claims.specs.Demand3.{finalState}
 use Rattle.claims.specs.Queue.{contents, Submitted, Taken, Queue, Promise}
 use Rattle.claims.proofs.Cases.{given, done, either, by-number}
 use Rattle.claims.proofs.Related.{Sound, facts}
@@ -32,25 +32,25 @@ contents-held ring [] = refl
 contents-held ring (b ∷ bs) = rw (contents-held ring bs)
 
 module _ (setup : Setup) (n : ℕ) (s : State) (S : Sound setup n s) where
-  allowed : (c : Call) → firstOf (tableOf c s) ≡ 0 → called c s ≡ done c s
+  allowed : (c : Call) → firstRefusal (refusalTableOf c s) ≡ 0 → performCall c s ≡ done c s
   unfolding either
   allowed c z = rw (by-number c s, z)
 
   few : takenSlots (s .engine) ≤ 8
   few = few-taken (s .engine) (S .sized)
 
-  submitted : (client : ℕ) (bytes : List ℕ) → firstOf (tableOf (submit client bytes) s) ≡ 0 → Submitted client bytes s (called (submit client bytes) s .after)
+  submitted : (client : ℕ) (bytes : List ℕ) → firstRefusal (refusalTableOf (submit client bytes) s) ≡ 0 → Submitted client bytes s (performCall (submit client bytes) s .after)
   submitted client bytes z =
       let a = submit-allowed (s .engine) (length (s .ring)) client (length bytes) z in
       rw (allowed (submit client bytes) z)
       (record {
-        last = submit-waiting (s .engine) (S .sized) (length (s .ring)) client (length bytes) a;
+        finalState = submit-waiting (s .engine) (S .sized) (length (s .ring)) client (length bytes) a;
         copied =
             contents-held _ _ ∙ submit-held alone (s .engine) (S .sized) (s .ring) client bytes a
             ∙ ap (λ (l : List (List ℕ)). l ++ bytes ∷ []) (sym (contents-held _ _));
       })
 
-  taken : firstOf (tableOf run s) ≡ 0 → Taken s (called run s .after)
+  taken : firstRefusal (refusalTableOf run s) ≡ 0 → Taken s (performCall run s .after)
   unfolding contents
   taken z =
       let a = run-allowed (s .engine) (length (s .ring)) (length (s .memory)) z in
@@ -75,4 +75,4 @@ module _ (setup : Setup) (n : ℕ) (s : State) (S : Sound setup n s) where
   }
 
 pub promise : Promise
-promise setup ring A calls memory = queue setup (length ring) (last setup ring calls memory) (at-end setup ring A calls memory .sound)
+promise setup ring A calls memory = queue setup (length ring) (finalState setup ring calls memory) (at-end setup ring A calls memory .sound)

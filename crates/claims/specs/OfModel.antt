@@ -4,28 +4,28 @@ use mathlib.Core.List.{List}
 use Prim.Native.Nat.{ℕ}
 use Rattle.register.specs.Bank.{resetBank}
 use Rattle.model.specs.Calls.{Setup, Call}
-use Rattle.model.specs.Drawing.{Way}
+use Rattle.model.specs.Drawing.{BatchSemantics}
 use Rattle.model.specs.State.{Model}
-use Rattle.model.specs.TwoRuns.{Twins}
-use Rattle.model.specs.Claims.{Separate, Unmoved, Holds, InOrder, InTime, Harmless}
-use Rattle.claims.specs.Way.{wayFrom}
+use Rattle.model.specs.TwoRuns.{LowEquivalent}
+use Rattle.model.specs.Claims.{Isolation, Noninterference, WindowStable, FifoOrder, BoundedWaiting, RefusalNoOp}
+use Rattle.claims.specs.Way.{semanticsFrom}
 
 -- the reset value of 01
-abbrev pub real : Way
-real = wayFrom resetBank
+abbrev pub batchSemantics : BatchSemantics
+batchSemantics = semanticsFrom resetBank
 
 -- for any set up, any lent ring length, any starting memory and any list of calls, refused ones included
-pub record OfModel (setup : Setup) (ring : ℕ) : Type 0 where
+pub record ModelPropertiesHold (setup : Setup) (ring : ℕ) : Type 0 where
   -- each open client's window is what its own executed batches make of the starting memory; all other bytes are as at the start
-  pub separate : (calls : List Call) (memory : List ℕ) → Separate real setup ring calls memory
+  pub separate : (calls : List Call) (memory : List ℕ) → Isolation batchSemantics setup ring calls memory
   -- two runs that differ only in one client's bytes agree everywhere else
   pub unmoved : (client : ℕ) (calls calls′ : List Call) (memory memory′ : List ℕ) →
-      Twins real setup ring client calls calls′ memory memory′ → Unmoved real setup ring client calls calls′ memory memory′
+      LowEquivalent batchSemantics setup ring client calls calls′ memory memory′ → Noninterference batchSemantics setup ring client calls calls′ memory memory′
   -- a client's window is the one that it opens in the list
-  pub holds : (calls later : List Call) (memory : List ℕ) → Holds real setup ring calls memory later
+  pub holds : (calls later : List Call) (memory : List ℕ) → WindowStable batchSemantics setup ring calls memory later
   -- batches are executed in the order of their tickets; at most eight wait
-  pub in-order : (calls : List Call) (memory : List ℕ) → InOrder real setup ring calls memory
+  pub in-order : (calls : List Call) (memory : List ℕ) → FifoOrder batchSemantics setup ring calls memory
   -- an accepted batch is taken at the latest by the eighth successful run after it
-  pub in-time : (calls later : List Call) (memory : List ℕ) → InTime real setup ring calls memory later
+  pub in-time : (calls later : List Call) (memory : List ℕ) → BoundedWaiting batchSemantics setup ring calls memory later
   -- a refused call changes nothing
-  pub harmless : (call : Call) (model : Model) → Harmless real setup ring call model
+  pub harmless : (call : Call) (model : Model) → RefusalNoOp batchSemantics setup ring call model

@@ -13,36 +13,36 @@ use Rattle.pixel.specs.declared.blend.AlphaMode.the-variants.{Mixed}
 use Rattle.pixel.specs.declared.blend.RuleName.the-variants.{None, SrcOver, Add}
 use Rattle.pixel.specs.Formats.{layoutOf}
 use Rattle.pixel.specs.Colours.{unpacked, packed}
-use Rattle.pixel.specs.Alpha.{alphaBy}
+use Rattle.pixel.specs.Alpha.{effectiveAlpha}
 use Rattle.pixel.specs.Blending.{blended}
-use Rattle.pixel.specs.Rules.{ruleOf}
+use Rattle.pixel.specs.Rules.{blendModeFactors}
 use Rattle.transform.specs.declared.Rotation.the-variants.{Clockwise}
 use Rattle.transform.specs.declared.Transform.{Transform}
 use Rattle.transform.specs.declared.Size.{Size}
 use Rattle.transform.specs.declared.Point.{Point}
-use Rattle.transform.specs.Transform.{rotatedSize, sourceOf}
+use Rattle.transform.specs.Transform.{rotatedSize, sourcePixel}
 use Rattle.surface.specs.Surface.{span}
 use Rattle.register.specs.Bank.{resetBank}
 use Rattle.rules.specs.declared.task.Bounds.{Bounds}
-use Rattle.batch.specs.Batch.{Position, start, inside, groupOf, readBatch, verdictOf, statusOf}
+use Rattle.batch.specs.Batch.{DecoderState, start, inside, groupOf, decodeBatch, verdictOf, statusWordOf}
 
 -- a row: what is computed, and what the paper says
 infix 70 _gives_
-pub data Row : Type 0 where
-  _gives_ : (computed said : List ℕ) → Row
+pub data Example : Type 0 where
+  _gives_ : (actual expected : List ℕ) → Example
 
-unfoldable pub computed : List Row → List (List ℕ)
-computed [] = []
-computed ((c gives s) ∷ rows) = c ∷ computed rows
+unfoldable pub actual : List Example → List (List ℕ)
+actual [] = []
+actual ((c gives s) ∷ rows) = c ∷ actual rows
 
-unfoldable pub said : List Row → List (List ℕ)
-said [] = []
-said ((c gives s) ∷ rows) = s ∷ said rows
+unfoldable pub expected : List Example → List (List ℕ)
+expected [] = []
+expected ((c gives s) ∷ rows) = s ∷ expected rows
 
 -- ---- numbers of what is computed
 
 -- a header's offset, its length in bytes, and 1 if it ends the task
-abbrev pub group : Position → List ℕ
+abbrev pub group : DecoderState → List ℕ
 group start = []
 group (inside left offset ends head) = offset ∷ 4 * left ∷ cond ends 1 0 ∷ []
 
@@ -68,7 +68,7 @@ turned flipped p q =
     let size : Size = record { width = 2; height = 1 } in
     let setting : Transform = record { flip = record { horizontal = flipped; vertical = false }; rotation = Clockwise } in
     let out : Size = rotatedSize Clockwise size in
-    let from : ℕ → Point = λ y. sourceOf setting size (record { x = 0; y = y }) in
+    let from : ℕ → Point = λ y. sourcePixel setting size (record { x = 0; y = y }) in
     let at : ℕ → ℕ = λ y. getD (p ∷ q ∷ []) (from y .y * 2 + from y .x) 0 in
     out .width ∷ out .height ∷ at 0 ∷ at 1 ∷ []
 
@@ -87,8 +87,8 @@ bounds = record { window = record { start = 16384; end = 28672 }; common = 16384
 
 -- ---- the table; p and q are any two pixels
 
-abbrev pub table : (p q : ℕ) → List Row
-table p q =
+abbrev pub examples : (p q : ℕ) → List Example
+examples p q =
     -- "H1 0x0010000C: offset 16, length 12."
     group (groupOf 0 0x0010000C) gives (16 ∷ 12 ∷ 0 ∷ [])
     -- "H2 0x00300011: offset 48, length 16, end."
@@ -98,13 +98,13 @@ table p q =
     -- "S1 span of 4 by 3 ARGB8888 at 16, stride 24: 16 to 79."
     ∷ ends (span (record { address = 16; stride = 24; width = 4; height = 3; format = Argb8888 })) gives (16 ∷ 79 ∷ [])
     -- "B1 SRC_OVER, s 200, sa 128, d 100, da 255: 250, alpha 255."
-    ∷ shade (blended (ruleOf SrcOver) (grey 200 128) (grey 100 255)) gives (250 ∷ 255 ∷ [])
+    ∷ shade (blended (blendModeFactors SrcOver) (grey 200 128) (grey 100 255)) gives (250 ∷ 255 ∷ [])
     -- "B2 the same under NONE: 150, alpha 191."
-    ∷ shade (blended (ruleOf None) (grey 200 128) (grey 100 255)) gives (150 ∷ 191 ∷ [])
+    ∷ shade (blended (blendModeFactors None) (grey 200 128) (grey 100 255)) gives (150 ∷ 191 ∷ [])
     -- "B3 ADD 200, 100: 255."
-    ∷ (blended (ruleOf Add) (grey 200 128) (grey 100 255) .red ∷ []) gives (255 ∷ [])
+    ∷ (blended (blendModeFactors Add) (grey 200 128) (grey 100 255) .red ∷ []) gives (255 ∷ [])
     -- "M1 mixed 128, 64: 32."
-    ∷ (alphaBy Mixed 64 128 ∷ []) gives (32 ∷ [])
+    ∷ (effectiveAlpha Mixed 64 128 ∷ []) gives (32 ∷ [])
     -- "P1 565 word 0x1234: 16, 69, 165, and back."
     ∷ (let c : Colour = unpacked (layoutOf Rgb565) 0x1234 in c .red ∷ c .green ∷ c .blue ∷ packed (layoutOf Rgb565) c ∷ []) gives (16 ∷ 69 ∷ 165 ∷ 0x1234 ∷ [])
     -- "F1 row p q, turn 1: column p, q."
@@ -112,9 +112,9 @@ table p q =
     -- "F2 with H flip: q, p."
     ∷ turned true p q gives (1 ∷ 2 ∷ q ∷ p ∷ [])
     -- "T1 three tasks: 0x00030001."
-    ∷ (statusOf (verdictOf (readBatch bounds resetBank (task 16384 ++ task 16384 ++ task 16384))) ∷ []) gives (0x00030001 ∷ [])
+    ∷ (statusWordOf (verdictOf (decodeBatch bounds resetBank (task 16384 ++ task 16384 ++ task 16384))) ∷ []) gives (0x00030001 ∷ [])
     ∷ []
 
 -- the one statement
-abbrev pub Twelve : Type 0
-Twelve = (p q : ℕ) → computed (table p q) ≡ said (table p q)
+abbrev pub WorkedExamples : Type 0
+WorkedExamples = (p q : ℕ) → actual (examples p q) ≡ expected (examples p q)

@@ -2,27 +2,27 @@
 -- desk's window, by the sections on groups, faults and pixels").
 use Prim.Native.Nat.{ℕ}
 use Rattle.word.specs.Word.{words}
-use Rattle.range.specs.Range.{runOf}
+use Rattle.range.specs.Range.{rangeOf}
 use Rattle.register.specs.declared.bank.Bank.{Bank}
 use Rattle.rules.specs.declared.task.Bounds.{Bounds}
 use Rattle.batch.specs.declared.verdict.Verdict.{Verdict}
-use Rattle.batch.specs.Batch.{readBatch, verdictOf, statusOf, numberOf, offsetOf}
+use Rattle.batch.specs.Batch.{decodeBatch, verdictOf, statusWordOf, faultNumberOf, faultOffsetOf}
 use Rattle.raster.specs.Batch.{drawBatch}
 use Rattle.model.specs.Windows.{Window}
-use Rattle.model.specs.Calls.{Verdict as Numbers}
-use Rattle.model.specs.Drawing.{Way}
+use Rattle.model.specs.Calls.{CompletionStatus as Numbers}
+use Rattle.model.specs.Drawing.{BatchSemantics}
 
 -- what a client may touch: its window, and the first `common` bytes of memory
 abbrev pub boundsOf : Window → ℕ → Bounds
-boundsOf w common = record { window = runOf (w .start) (w .length); common = common }
+boundsOf w common = record { window = rangeOf (w .start) (w .length); common = common }
 
 -- status, fault and offset of a verdict
-abbrev pub numbersOf : Verdict → Numbers
-numbersOf v = record { status = statusOf v; fault = numberOf v; offset = offsetOf v }
+abbrev pub completionStatusOf : Verdict → Numbers
+completionStatusOf v = record { status = statusWordOf v; fault = faultNumberOf v; offset = faultOffsetOf v }
 
 -- registers are as in `reset` at the start of every batch
-abbrev pub wayFrom : Bank → Way
-wayFrom reset = record {
-  verdict = λ w common bytes. numbersOf (verdictOf (readBatch (boundsOf w common) reset (words bytes)));
+abbrev pub semanticsFrom : Bank → BatchSemantics
+semanticsFrom reset = record {
+  verdict = λ w common bytes. completionStatusOf (verdictOf (decodeBatch (boundsOf w common) reset (words bytes)));
   draw = λ w common bytes memory. drawBatch (boundsOf w common) reset (words bytes) memory;
 }

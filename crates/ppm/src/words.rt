@@ -1,7 +1,7 @@
 // What words of a command line mean: numbers, and names of formats.
 ghost use mathlib.Core.Path.{_≡_};
 ghost use Prim.Native.Nat.{_-_};
-ghost use Rattle.ppm.specs.Words.{isDigit, numberOf, small as smallOf, isWord, formatNamed};
+ghost use Rattle.ppm.specs.Words.{isDigit, parseNumber, toLower as smallOf, equalsIgnoringCase, formatNamed};
 use pixel::Format;
 
 pub enum Number {
@@ -30,7 +30,7 @@ fn digit_value(byte: u8) -> u64
 // A number in decimal digits. It stops at the first character that is no digit, or as soon as the number is too large, so
 // that no sum wraps, however long the text is.
 pub fn number_of(text: &[u8]) -> Number
-    ensures { λ r. ⌜ r ≡ numberOf (now (text .entry)) ⌝ }
+    ensures { λ r. ⌜ r ≡ parseNumber (now (text .entry)) ⌝ }
 {
     if text.len() == 0 {
         return Number::Wrong;
@@ -62,7 +62,7 @@ fn small(byte: u8) -> u8
 
 // Whether a text is a word of small letters, itself in letters of either kind.
 fn is_word(text: &[u8], word: &[u8]) -> bool
-    ensures { λ r. ⌜ r ≡ isWord (now (text .entry)) (now (word .entry)) ⌝ }
+    ensures { λ r. ⌜ r ≡ equalsIgnoringCase (now (text .entry)) (now (word .entry)) ⌝ }
 {
     if text.len() != word.len() {
         return false;

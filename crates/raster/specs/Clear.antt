@@ -6,7 +6,7 @@ use mathlib.Core.Logic.{_⊎_}
 use Prim.Native.Nat.{ℕ, _≤_, _<_}
 use Rattle.range.specs.declared.Range.{Range}
 use Rattle.transform.specs.Transform.{rotatedSize}
-use Rattle.surface.specs.Surface.{rowLength, span, Separate}
+use Rattle.surface.specs.Surface.{rowLength, span, DisjointRows}
 use Rattle.surface.specs.declared.Surface.{Surface}
 use Rattle.register.specs.Task.{isBuffer}
 use Rattle.register.specs.declared.task.Task.{Task}
@@ -14,7 +14,7 @@ use Rattle.register.specs.Size.{sizeOf}
 use Rattle.rules.specs.declared.task.Bounds.{Bounds}
 
 -- a rectangle of 1 to 4,096 pixels a side whose rows do not meet
-pub record Rectangle (s : Surface) : Type 0 where
+pub record ValidRectangle (s : Surface) : Type 0 where
   pub wide : 0 < s .width
   pub narrow : s .width ≤ 4096
   pub high : 0 < s .height
@@ -22,35 +22,35 @@ pub record Rectangle (s : Surface) : Type 0 where
   pub spaced : rowLength s ≤ s .stride
 
 -- a source that is read
-pub record ClearSource (Reach : Surface → Type 0) (s o : Surface) : Type 0 where
+pub record SourceInBounds (Reach : Surface → Type 0) (s o : Surface) : Type 0 where
   pub reach : Reach s
-  pub separate : Separate s o
+  pub separate : DisjointRows s o
 
 -- a destination, which is read: apart from the output, or the output itself
-pub record ClearDestination (Reach : Surface → Type 0) (d o : Surface) : Type 0 where
+pub record DestinationInBounds (Reach : Surface → Type 0) (d o : Surface) : Type 0 where
   pub reach : Reach d
   pub size : sizeOf d ≡ sizeOf o
-  pub separate : Separate d o ⊎ (d ≡ o)
+  pub separate : DisjointRows d o ⊎ (d ≡ o)
 
 -- a task that may be drawn in a window; `Reach` says which rectangles may be read
-pub record Clear (window : Range) (Reach : Surface → Type 0) (t : Task) : Type 0 where
-  pub output : Rectangle (t .output)
+pub record TaskInBounds (window : Range) (Reach : Surface → Type 0) (t : Task) : Type 0 where
+  pub output : ValidRectangle (t .output)
   pub begins : window .start ≤ t .output .address
   pub ends : span (t .output) .end ≤ window .end
   pub size : rotatedSize (t .source .transform .rotation) (sizeOf (t .source .surface)) ≡ sizeOf (t .output)
-  pub source : isBuffer (t .source .mode) ≡ true → ClearSource Reach (t .source .surface) (t .output)
-  pub destination : t .blending .on ≡ true → ClearDestination Reach (t .destination .surface) (t .output)
+  pub source : isBuffer (t .source .mode) ≡ true → SourceInBounds Reach (t .source .surface) (t .output)
+  pub destination : t .blending .on ≡ true → DestinationInBounds Reach (t .destination .surface) (t .output)
 
 -- a rectangle in the first n bytes
-abbrev pub Below : ℕ → Surface → Type 0
-Below n s = span s .end ≤ n
+abbrev pub EndsBelow : ℕ → Surface → Type 0
+EndsBelow n s = span s .end ≤ n
 
 -- a task that may be drawn in a window of a memory of n bytes
 pub record Drawable (window : Range) (n : ℕ) (t : Task) : Type 0 where
   pub room : window .end ≤ n
-  pub clear : Clear window (Below n) t
+  pub clear : TaskInBounds window (EndsBelow n) t
 
 -- Internal: a memory of n bytes that holds a client's window and common
-pub record Room (bounds : Bounds) (n : ℕ) : Type 0 where
+pub record BoundsInMemory (bounds : Bounds) (n : ℕ) : Type 0 where
   pub window : bounds .window .end ≤ n
   pub common : bounds .common ≤ n

@@ -5,11 +5,11 @@ ghost use mathlib.Core.List.{[]};
 ghost use Prim.Native.Nat.{_+_, _%_, _≤_, _<_};
 ghost use lib.ListN.{length, take, drop};
 ghost use lib.Dec.{leb, eqb};
-ghost use Rattle.ring.specs.Segment.{wrapped};
+ghost use Rattle.ring.specs.Segment.{wrapOffset};
 ghost use Rattle.record.specs.Setup.{badRing, badMemory, badLength};
-ghost use Rattle.record.specs.Slots.{added, ready, total, countOf, isFreeState, lowestFree};
-ghost use Rattle.record.specs.Tickets.{ticketBefore, stateHas, place, stateBatch};
-ghost use Rattle.record.specs.Clients.{isOpen, windowsOf, sharesAny, badWindow, noneBad, countsRight};
+ghost use Rattle.record.specs.Slots.{consIfReady, readyBatches, totalLength, countOf, isFreeState, lowestFree};
+ghost use Rattle.record.specs.Tickets.{ticketBefore, hasTicket, slotOfTicket, batchInState};
+ghost use Rattle.record.specs.Clients.{isOpen, windowsOf, overlapsAny, badWindow, windowsValid, pendingCountsMatch};
 ghost use Rattle.record.specs.Rules.{numberRules, batchRules, valid};
 use range::Range;
 
@@ -89,7 +89,7 @@ fn is_free(slot: Slot) -> bool
 }
 
 fn ready_one(slot: Slot) -> usize
-    ensures { λ r. ⌜ (r ≡ length (added (slot .state) [])) × (r ≤ 1) ⌝ }
+    ensures { λ r. ⌜ (r ≡ length (consIfReady (slot .state) [])) × (r ≤ 1) ⌝ }
 {
     let state = slot.state;
     match state {
@@ -99,7 +99,7 @@ fn ready_one(slot: Slot) -> usize
 }
 
 fn bytes_one(slot: Slot) -> usize
-    ensures { λ r. ⌜ r ≡ total (added (slot .state) []) ⌝ }
+    ensures { λ r. ⌜ r ≡ totalLength (consIfReady (slot .state) []) ⌝ }
 {
     let state = slot.state;
     match state {
@@ -109,7 +109,7 @@ fn bytes_one(slot: Slot) -> usize
 }
 
 fn owned_one(slot: Slot, client: u32) -> usize
-    ensures { λ r. ⌜ (r ≡ countOf client (added (slot .state) [])) × (r ≤ 1) ⌝ }
+    ensures { λ r. ⌜ (r ≡ countOf client (consIfReady (slot .state) [])) × (r ≤ 1) ⌝ }
 {
     let state = slot.state;
     match state {
@@ -119,7 +119,7 @@ fn owned_one(slot: Slot, client: u32) -> usize
 }
 
 pub fn batch_of(slot: Slot) -> Batch
-    ensures { λ r. ⌜ r ≡ stateBatch (slot .state) ⌝ }
+    ensures { λ r. ⌜ r ≡ batchInState (slot .state) ⌝ }
 {
     let state = slot.state;
     match state {
@@ -143,7 +143,7 @@ fn age(next: u32, ticket: u32) -> u32
 // Whether the slot's batch has the ticket that was given k before the next one.
 fn has_age(slot: Slot, next: u32, k: usize) -> bool
     requires { ⌜ k ≤ 8 ⌝ }
-    ensures { λ r. ⌜ r ≡ stateHas (ticketBefore next k) (slot .state) ⌝ }
+    ensures { λ r. ⌜ r ≡ hasTicket (ticketBefore next k) (slot .state) ⌝ }
 {
     let state = slot.state;
     match state {
@@ -154,7 +154,7 @@ fn has_age(slot: Slot, next: u32, k: usize) -> bool
 
 // How many slots are ready.
 pub fn taken_slots(slots: [Slot; 8]) -> usize
-    ensures { λ r. ⌜ (r ≡ length (ready slots)) × (r ≤ 8) × (length slots ≡ 8) ⌝ }
+    ensures { λ r. ⌜ (r ≡ length (readyBatches slots)) × (r ≤ 8) × (length slots ≡ 8) ⌝ }
 {
     let mut n: usize = 0;
     let mut i: usize = 0;
@@ -167,8 +167,8 @@ pub fn taken_slots(slots: [Slot; 8]) -> usize
 
 // How many ring bytes the ready batches have.
 pub fn taken_bytes(slots: [Slot; 8]) -> usize
-    requires { ⌜ total (ready slots) ≤ 32768 ⌝ }
-    ensures { λ r. ⌜ r ≡ total (ready slots) ⌝ }
+    requires { ⌜ totalLength (readyBatches slots) ≤ 32768 ⌝ }
+    ensures { λ r. ⌜ r ≡ totalLength (readyBatches slots) ⌝ }
 {
     let mut n: usize = 0;
     let mut i: usize = 0;
@@ -181,7 +181,7 @@ pub fn taken_bytes(slots: [Slot; 8]) -> usize
 
 // How many ready batches are the client's.
 fn count_of(slots: [Slot; 8], client: u32) -> usize
-    ensures { λ r. ⌜ r ≡ countOf client (ready slots) ⌝ }
+    ensures { λ r. ⌜ r ≡ countOf client (readyBatches slots) ⌝ }
 {
     let mut n: usize = 0;
     let mut i: usize = 0;
@@ -209,7 +209,7 @@ pub fn lowest_free(slots: [Slot; 8]) -> usize
 // The slot of the batch whose ticket was given k before the next one, 8 if there is none.
 pub fn place_of(slots: [Slot; 8], next: u32, k: usize) -> usize
     requires { ⌜ k ≤ 8 ⌝ }
-    ensures { λ r. ⌜ r ≡ place (ticketBefore next k) slots ⌝ }
+    ensures { λ r. ⌜ r ≡ slotOfTicket (ticketBefore next k) slots ⌝ }
 {
     let mut i: usize = 0;
     while i < 8 {
@@ -223,7 +223,7 @@ pub fn place_of(slots: [Slot; 8], next: u32, k: usize) -> usize
 
 // An offset that may have run over the ring's end goes on at byte 0.
 pub fn wrap(ring: usize, offset: usize) -> usize
-    ensures { λ r. ⌜ r ≡ wrapped ring offset ⌝ }
+    ensures { λ r. ⌜ r ≡ wrapOffset ring offset ⌝ }
 {
     if offset < ring { offset } else { offset - ring }
 }
@@ -231,7 +231,7 @@ pub fn wrap(ring: usize, offset: usize) -> usize
 // Whether some of the bytes are in a window of the clients at the places `from` up to `n`.
 fn shares_any(clients: [Client; 4], from: usize, n: usize, bytes: Range) -> bool
     requires { ⌜ n ≤ 4 ⌝ }
-    ensures { λ r. ⌜ r ≡ sharesAny bytes (windowsOf (drop from (take n clients))) ⌝ }
+    ensures { λ r. ⌜ r ≡ overlapsAny bytes (windowsOf (drop from (take n clients))) ⌝ }
 {
     let mut i = from;
     while i < n {
@@ -265,7 +265,7 @@ pub fn bad_window(setup: Setup, clients: [Client; 4], from: usize, n: usize, w: 
 
 fn none_bad(setup: Setup, clients: [Client; 4], n: usize) -> bool
     requires { ⌜ n ≤ 4 ⌝ }
-    ensures { λ r. ⌜ r ≡ noneBad setup (windowsOf (take n clients)) ⌝ }
+    ensures { λ r. ⌜ r ≡ windowsValid setup (windowsOf (take n clients)) ⌝ }
 {
     let mut k: usize = 0;
     while k < n {
@@ -282,7 +282,7 @@ fn none_bad(setup: Setup, clients: [Client; 4], n: usize) -> bool
 // Whether each open client's count is that of its ready batches.
 fn counts_right(clients: [Client; 4], n: usize, slots: [Slot; 8]) -> bool
     requires { ⌜ n ≤ 4 ⌝ }
-    ensures { λ r. ⌜ r ≡ countsRight 0 (take n clients) (ready slots) ⌝ }
+    ensures { λ r. ⌜ r ≡ pendingCountsMatch 0 (take n clients) (readyBatches slots) ⌝ }
 {
     let mut k: usize = 0;
     while k < n {

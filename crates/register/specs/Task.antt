@@ -61,8 +61,8 @@ abbrev pub isEnabled : ℕ → Bool
 isEnabled control = eqb (field 0 0 control) 1
 
 -- the colour register is A, R, G, B from bit 31 down, as a stored pixel of ARGB8888 is
-unfoldable pub sourceOf : Bank → Source
-sourceOf bank = record {
+unfoldable pub sourceOfBank : Bank → Source
+sourceOfBank bank = record {
   surface = surfaceOf (bank .source);
   mode = sourceModeOf (field 3 2 (bank .source .control));
   colour = unpacked (layoutOf Argb8888) (bank .colour);
@@ -87,7 +87,7 @@ blendingOf bank = record {
 
 unfoldable pub taskOf : Bank → Task
 taskOf bank = record {
-  source = sourceOf bank;
+  source = sourceOfBank bank;
   destination = destinationOf bank;
   output = surfaceOf (bank .output);
   blending = blendingOf bank;

@@ -1,6 +1,6 @@
 // The table of writable registers: at which offsets they stand, and which words each of them takes.
 ghost use mathlib.Core.Path.{_≡_};
-ghost use Rattle.register.specs.Table.{kindOf, isWritable, sourceTakes, destinationTakes, outputTakes, sizeTakes, strideTakes, blendingTakes, takes as takesWord};
+ghost use Rattle.register.specs.Table.{registerKindOf, isWritable, sourceControlAccepts, destinationControlAccepts, outputControlAccepts, sizeAccepts, strideAccepts, blendingAccepts, acceptsWord as takesWord};
 use pixel::AlphaMode;
 use pixel::Factor;
 use pixel::Format;
@@ -19,7 +19,7 @@ pub enum Kind {
 }
 
 fn source_takes(word: u32) -> bool
-    ensures { λ r. ⌜ r ≡ sourceTakes word ⌝ }
+    ensures { λ r. ⌜ r ≡ sourceControlAccepts word ⌝ }
 {
     AlphaMode::is_code(bits(word, 23, 22))
         & (bits(word, 21, 15) == 0)
@@ -29,7 +29,7 @@ fn source_takes(word: u32) -> bool
 }
 
 fn destination_takes(word: u32) -> bool
-    ensures { λ r. ⌜ r ≡ destinationTakes word ⌝ }
+    ensures { λ r. ⌜ r ≡ destinationControlAccepts word ⌝ }
 {
     AlphaMode::is_code(bits(word, 23, 22))
         & (bits(word, 21, 15) == 0)
@@ -38,25 +38,25 @@ fn destination_takes(word: u32) -> bool
 }
 
 fn output_takes(word: u32) -> bool
-    ensures { λ r. ⌜ r ≡ outputTakes word ⌝ }
+    ensures { λ r. ⌜ r ≡ outputControlAccepts word ⌝ }
 {
     (bits(word, 31, 15) == 0) & Format::is_code(bits(word, 14, 8)) & (bits(word, 7, 0) == 0)
 }
 
 fn size_takes(word: u32) -> bool
-    ensures { λ r. ⌜ r ≡ sizeTakes word ⌝ }
+    ensures { λ r. ⌜ r ≡ sizeAccepts word ⌝ }
 {
     (bits(word, 31, 29) == 0) & (bits(word, 15, 13) == 0)
 }
 
 fn stride_takes(word: u32) -> bool
-    ensures { λ r. ⌜ r ≡ strideTakes word ⌝ }
+    ensures { λ r. ⌜ r ≡ strideAccepts word ⌝ }
 {
     bits(word, 31, 16) == 0
 }
 
 fn blending_takes(word: u32) -> bool
-    ensures { λ r. ⌜ r ≡ blendingTakes word ⌝ }
+    ensures { λ r. ⌜ r ≡ blendingAccepts word ⌝ }
 {
     (bits(word, 31, 14) == 0)
         & Factor::is_code(bits(word, 13, 11))
@@ -67,7 +67,7 @@ fn blending_takes(word: u32) -> bool
 impl Kind {
     // The row of the register at an offset. Names as in document 002.
     pub fn at(offset: u32) -> Kind
-        ensures { λ r. ⌜ r ≡ kindOf offset ⌝ }
+        ensures { λ r. ⌜ r ≡ registerKindOf offset ⌝ }
     {
         match offset {
             0x010 => Kind::SourceControl, // SRC_SURFACE_CTRL

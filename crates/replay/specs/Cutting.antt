@@ -8,67 +8,67 @@ use Rattle.replay.specs.declared.Replay.{Replay}
 use Rattle.replay.specs.declared.Fed.{Fed}
 use Rattle.records.specs.Records.{records}
 use Rattle.replay.specs.Lines.{lines}
-use Rattle.replay.specs.Step.{Position, atStart, Step, step, finishOf}
-use Rattle.replay.specs.Calls.{replayAt, Prints, Feeds, finishedText}
+use Rattle.replay.specs.Step.{ReaderState, atStart, FeedStep, step, finishOf}
+use Rattle.replay.specs.Calls.{replayAt, Prints, FeedContract, finishedText}
 
 -- what was printed, and where the reading stands
 pub record Printed : Type 0 where
   pub text : List ℕ
-  pub last : Position
+  pub last : ReaderState
 
-abbrev pub nothing : Position → Printed
-nothing p = record { text = []; last = p }
+abbrev pub noText : ReaderState → Printed
+noText p = record { text = []; last = p }
 
 -- this text, and then the rest
-abbrev pub after : List ℕ → Printed → Printed
-after text rest = record { text = text ++ rest .text; last = rest .last }
+abbrev pub prependText : List ℕ → Printed → Printed
+prependText text rest = record { text = text ++ rest .text; last = rest .last }
 
 -- a piece, fed until it is used up, with fuel for as many steps; each uses a byte at least
-unfoldable pub fedFrom : (fuel : ℕ) → Position → (piece : List ℕ) → Printed
-fedFrom zero p piece = nothing p
-fedFrom (suc fuel) p [] = nothing p
-fedFrom (suc fuel) p (byte ∷ more) =
-    let s : Step = step p (byte ∷ more) in
-    after (s .text) (fedFrom fuel (s .next) (drop (s .used) (byte ∷ more)))
+unfoldable pub feedChunk : (fuel : ℕ) → ReaderState → (piece : List ℕ) → Printed
+feedChunk zero p piece = noText p
+feedChunk (suc fuel) p [] = noText p
+feedChunk (suc fuel) p (byte ∷ more) =
+    let s : FeedStep = step p (byte ∷ more) in
+    prependText (s .text) (feedChunk fuel (s .next) (drop (s .used) (byte ∷ more)))
 
 -- the pieces, one after the other
-unfoldable pub fedAll : Position → List (List ℕ) → Printed
-fedAll p [] = nothing p
-fedAll p (piece ∷ pieces) =
-    let one : Printed = fedFrom (length piece) p piece in
-    after (one .text) (fedAll (one .last) pieces)
+unfoldable pub feedChunks : ReaderState → List (List ℕ) → Printed
+feedChunks p [] = noText p
+feedChunks p (piece ∷ pieces) =
+    let one : Printed = feedChunk (length piece) p piece in
+    prependText (one .text) (feedChunks (one .last) pieces)
 
 -- and then the end
 abbrev pub printed : List (List ℕ) → List ℕ
-printed pieces = fedAll atStart pieces .text ++ finishOf (fedAll atStart pieces .last)
+printed pieces = feedChunks atStart pieces .text ++ finishOf (feedChunks atStart pieces .last)
 
 -- the file
-unfoldable pub joined : List (List ℕ) → List ℕ
-joined [] = []
-joined (piece ∷ pieces) = piece ++ joined pieces
+unfoldable pub concatChunks : List (List ℕ) → List ℕ
+concatChunks [] = []
+concatChunks (piece ∷ pieces) = piece ++ concatChunks pieces
 
 -- ---- the same of the calls
 
 -- Calls of feed and finish as a caller makes them, one after the other, each by its contract: a piece is fed until it is used up, and what a
 -- call wrote into the line is printed. A slice that is lent keeps its length.
-pub data Played : Replay → (held ring memory line : List ℕ) → (pieces : List (List ℕ)) → (output : List ℕ) → Type 0 where
+pub data FeedTrace : Replay → (held ring memory line : List ℕ) → (pieces : List (List ℕ)) → (output : List ℕ) → Type 0 where
   finishing : {r : Replay} {held ring memory line : List ℕ} {written : ℕ} {line′ : List ℕ}
       → Prints (finishedText r line) line written line′
-      → Played r held ring memory line [] (take written line′)
+      → FeedTrace r held ring memory line [] (take written line′)
   onto : {r : Replay} {held ring memory line : List ℕ} {pieces : List (List ℕ)} {output : List ℕ}
-      → Played r held ring memory line pieces output
-      → Played r held ring memory line ([] ∷ pieces) output
+      → FeedTrace r held ring memory line pieces output
+      → FeedTrace r held ring memory line ([] ∷ pieces) output
   feeding : {r : Replay} {held ring memory line : List ℕ} {byte : ℕ} {more : List ℕ} {pieces : List (List ℕ)} {output : List ℕ}
       {f : Fed} {held′ ring′ memory′ line′ : List ℕ}
-      → Feeds r held ring memory (byte ∷ more) line f held′ ring′ memory′ line′
+      → FeedContract r held ring memory (byte ∷ more) line f held′ ring′ memory′ line′
       → length held′ ≡ length held
       → length line′ ≡ length line
-      → Played (f .replay) held′ ring′ memory′ line′ (drop (f .used) (byte ∷ more) ∷ pieces) output
-      → Played r held ring memory line ((byte ∷ more) ∷ pieces) (take (f .written) line′ ++ output)
+      → FeedTrace (f .replay) held′ ring′ memory′ line′ (drop (f .used) (byte ∷ more) ∷ pieces) output
+      → FeedTrace r held ring memory line ((byte ∷ more) ∷ pieces) (take (f .written) line′ ++ output)
 
 -- The promise: of the steps, and of the calls, from start's replay on, with buffers that suffice.
-pub record Cutting : Type 0 where
-  pub steps : (pieces : List (List ℕ)) → printed pieces ≡ lines (records (joined pieces))
+pub record ChunkingIrrelevant : Type 0 where
+  pub steps : (pieces : List (List ℕ)) → printed pieces ≡ lines (records (concatChunks pieces))
   pub calls : (held line : List ℕ) (pieces : List (List ℕ)) (output : List ℕ) → 32773 ≤ length held → 128 ≤ length line
-      → Played (replayAt atStart) held (replicate 32768 0) (replicate 65536 0) line pieces output
-      → output ≡ lines (records (joined pieces))
+      → FeedTrace (replayAt atStart) held (replicate 32768 0) (replicate 65536 0) line pieces output
+      → output ≡ lines (records (concatChunks pieces))

@@ -5,7 +5,7 @@ use mathlib.Core.Bool.{Bool, true, false, cond, not}
 use mathlib.Core.List.{List}
 use Prim.Native.Nat.{ℕ, _+_, _-_, _*_, _≤_, _<_}
 use lib.ListN.{length}
-use Rattle.pixel.specs.Formats.{bytesOf}
+use Rattle.pixel.specs.Formats.{bytesPerPixel}
 use Rattle.pixel.specs.declared.format.Format.{Format}
 use Rattle.transform.specs.declared.Flip.{Flip}
 use Rattle.transform.specs.declared.Rotation.{Rotation}
@@ -13,26 +13,26 @@ use Rattle.transform.specs.declared.Rotation.the-variants.{Upright, Clockwise, 
 use Rattle.surface.specs.declared.Surface.{Surface}
 
 -- x steps on from an address, or back
-abbrev pub stepped : ℕ → ℕ → Bool → ℕ → ℕ
-stepped start step back x = cond back (start - x * step) (start + x * step)
+abbrev pub stridedAddress : ℕ → ℕ → Bool → ℕ → ℕ
+stridedAddress start step back x = cond back (start - x * step) (start + x * step)
 
 -- from one source pixel to the next: a pixel's bytes, or where rows have become columns the stride
-abbrev pub stepBy : Rotation → Surface → ℕ
-stepBy Upright s = bytesOf (s .format)
-stepBy Clockwise s = s .stride
-stepBy Half s = bytesOf (s .format)
-stepBy CounterClockwise s = s .stride
+abbrev pub pixelStride : Rotation → Surface → ℕ
+pixelStride Upright s = bytesPerPixel (s .format)
+pixelStride Clockwise s = s .stride
+pixelStride Half s = bytesPerPixel (s .format)
+pixelStride CounterClockwise s = s .stride
 
 -- whether they go back
-abbrev pub isBackBy : Rotation → Flip → Bool
-isBackBy Upright f = f .horizontal
-isBackBy Clockwise f = not (f .vertical)
-isBackBy Half f = not (f .horizontal)
-isBackBy CounterClockwise f = f .vertical
+abbrev pub isReversed : Rotation → Flip → Bool
+isReversed Upright f = f .horizontal
+isReversed Clockwise f = not (f .vertical)
+isReversed Half f = not (f .horizontal)
+isReversed CounterClockwise f = f .vertical
 
 -- what is asked where pixels are fetched in steps
-pub record Steps (memory buffer : List ℕ) (start step : ℕ) (back : Bool) (width : ℕ) (f : Format) : Type 0 where
-  pub inside : (x : ℕ) → x < width → stepped start step back x + bytesOf f ≤ length memory
+pub record StridedFetchInBounds (memory buffer : List ℕ) (start step : ℕ) (back : Bool) (width : ℕ) (f : Format) : Type 0 where
+  pub inside : (x : ℕ) → x < width → stridedAddress start step back x + bytesPerPixel f ≤ length memory
   pub above : (x : ℕ) → x < width → back ≡ true → x * step ≤ start
   pub room : width * 4 ≤ length buffer
 

@@ -2,11 +2,11 @@
 ghost use mathlib.Core.Path.{_≡_};
 ghost use mathlib.Core.Bool.{true, false};
 ghost use Prim.Native.Nat.{_+_, _*_, _≤_};
-ghost use Rattle.transform.specs.Transform.{Within, rotatedSize};
+ghost use Rattle.transform.specs.Transform.{InPicture, rotatedSize};
 ghost use Rattle.surface.specs.Surface.{pixelStart};
 ghost use Rattle.register.specs.Size.{sizeOf};
-ghost use Rattle.rows.specs.Row.{originOf};
-ghost use Rattle.rows.specs.Step.{stepped, stepBy, isBackBy, isStraight};
+ghost use Rattle.rows.specs.Row.{sourcePixelOf};
+ghost use Rattle.rows.specs.Step.{stridedAddress, pixelStride, isReversed, isStraight};
 use surface::Surface;
 use transform::Point;
 use transform::Rotation;
@@ -15,8 +15,8 @@ use transform::Transform;
 
 // Where the pixel of a surface lies that is output pixel (x, y).
 pub fn origin(s: Surface, transform: Transform, x: usize, y: usize) -> usize
-    requires { ⌜ Within (rotatedSize (transform .rotation) (sizeOf s)) (record { x = x; y = y }) ⌝ }
-    ensures { λ r. ⌜ r ≡ pixelStart s (originOf s transform x y .x) (originOf s transform x y .y) ⌝ }
+    requires { ⌜ InPicture (rotatedSize (transform .rotation) (sizeOf s)) (record { x = x; y = y }) ⌝ }
+    ensures { λ r. ⌜ r ≡ pixelStart s (sourcePixelOf s transform x y .x) (sourcePixelOf s transform x y .y) ⌝ }
 {
     let size = Size {
         width: s.width as usize,
@@ -42,7 +42,7 @@ pub fn is_straight(transform: Transform) -> bool
 
 // Whether the source pixels of an output row go back from its first one.
 pub fn is_back(transform: Transform) -> bool
-    ensures { λ r. ⌜ r ≡ isBackBy (transform .rotation) (transform .flip) ⌝ }
+    ensures { λ r. ⌜ r ≡ isReversed (transform .rotation) (transform .flip) ⌝ }
 {
     let flip = transform.flip;
     let rotation = transform.rotation;
@@ -56,7 +56,7 @@ pub fn is_back(transform: Transform) -> bool
 
 // Bytes from one of them to the next.
 pub fn step_of(s: Surface, rotation: Rotation) -> usize
-    ensures { λ r. ⌜ r ≡ stepBy rotation s ⌝ }
+    ensures { λ r. ⌜ r ≡ pixelStride rotation s ⌝ }
 {
     let format = s.format;
     match rotation {
@@ -70,7 +70,7 @@ pub fn step_of(s: Surface, rotation: Rotation) -> usize
 // The address that lies x steps on from another, or back.
 pub fn place(start: usize, step: usize, back: bool, x: usize) -> usize
     requires { ⌜ (back ≡ true → x * step ≤ start) × (back ≡ false → start + x * step ≤ 18446744073709551615) ⌝ }
-    ensures { λ r. ⌜ r ≡ stepped start step back x ⌝ }
+    ensures { λ r. ⌜ r ≡ stridedAddress start step back x ⌝ }
 {
     if back {
         start - x * step

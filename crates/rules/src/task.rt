@@ -1,6 +1,6 @@
 // The rules of a task. Each test is true where the task breaks the rule.
 ghost use mathlib.Core.Path.{_≡_};
-ghost use Rattle.rules.specs.Rules.{badSide, badSides, badStride, badSource, badOutput, badDestination, badSurface, isUpright, turnedColour, turnedSize, sameSize, sizeMismatch, inWindow, inReach, outOfBounds, sameFormat, samePlace, overlap, taskFault};
+ghost use Rattle.rules.specs.Rules.{badSide, badSides, badStride, badSource, badOutput, badDestination, badSurface, isUnrotated, rotatedFill, rotatedSourceSize, sameSize, sizeMismatch, isWritableSpan, isReadable, outOfBounds, sameFormat, aliases, outputOverlaps, checkTask};
 use crate::fault::Fault;
 use pixel::Format;
 use range::Range;
@@ -68,7 +68,7 @@ fn bad_surface(t: Task) -> bool
 }
 
 fn is_upright(rotation: Rotation) -> bool
-    ensures { λ r. ⌜ r ≡ isUpright rotation ⌝ }
+    ensures { λ r. ⌜ r ≡ isUnrotated rotation ⌝ }
 {
     match rotation {
         Rotation::Upright => true,
@@ -80,7 +80,7 @@ fn is_upright(rotation: Rotation) -> bool
 
 // A colour has no direction, so nothing can be turned.
 fn turned_colour(s: Source) -> bool
-    ensures { λ r. ⌜ r ≡ turnedColour s ⌝ }
+    ensures { λ r. ⌜ r ≡ rotatedFill s ⌝ }
 {
     let mode = s.mode;
     let transform = s.transform;
@@ -98,7 +98,7 @@ fn size_of(s: Surface) -> Size
 }
 
 fn turned_size(s: Source) -> Size
-    ensures { λ r. ⌜ r ≡ turnedSize s ⌝ }
+    ensures { λ r. ⌜ r ≡ rotatedSourceSize s ⌝ }
 {
     let transform = s.transform;
     let rotation = transform.rotation;
@@ -120,13 +120,13 @@ fn size_mismatch(t: Task) -> bool
 }
 
 fn in_window(bounds: Bounds, s: Surface) -> bool
-    ensures { λ r. ⌜ r ≡ inWindow bounds s ⌝ }
+    ensures { λ r. ⌜ r ≡ isWritableSpan bounds s ⌝ }
 {
     s.is_inside(bounds.window)
 }
 
 fn in_reach(bounds: Bounds, s: Surface) -> bool
-    ensures { λ r. ⌜ r ≡ inReach bounds s ⌝ }
+    ensures { λ r. ⌜ r ≡ isReadable bounds s ⌝ }
 {
     in_window(bounds, s)
         | s.is_inside(Range {
@@ -152,7 +152,7 @@ fn same_format(a: Format, b: Format) -> bool
 }
 
 fn same_place(a: Surface, b: Surface) -> bool
-    ensures { λ r. ⌜ r ≡ samePlace a b ⌝ }
+    ensures { λ r. ⌜ r ≡ aliases a b ⌝ }
 {
     let f = a.format;
     let g = b.format;
@@ -160,7 +160,7 @@ fn same_place(a: Surface, b: Surface) -> bool
 }
 
 fn overlaps(t: Task) -> bool
-    ensures { λ r. ⌜ r ≡ overlap t ⌝ }
+    ensures { λ r. ⌜ r ≡ outputOverlaps t ⌝ }
 {
     let source = t.source;
     let mode = source.mode;
@@ -171,7 +171,7 @@ fn overlaps(t: Task) -> bool
 
 // The first rule, in the order of their numbers, that a task breaks.
 pub fn check_task(bounds: Bounds, t: Task) -> Check
-    ensures { λ r. ⌜ r ≡ taskFault bounds t ⌝ }
+    ensures { λ r. ⌜ r ≡ checkTask bounds t ⌝ }
 {
     if bad_surface(t) {
         return Check::Wrong(Fault::BadSurface);

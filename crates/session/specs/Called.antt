@@ -5,16 +5,16 @@ use mathlib.Core.List.{List, _++_}
 use Prim.Native.Nat.{ℕ}
 use lib.ListN.{length, drop}
 use Rattle.model.specs.Calls.{Call}
-use Rattle.claims.specs.Engine.{State, called, answersOf, stateAfter}
-use Rattle.session.specs.Answers.{wordsOf, answerBytes}
+use Rattle.claims.specs.Engine.{State, performCall, answersOf, stateAfter}
+use Rattle.session.specs.Answers.{answerWords, answerBytes}
 
 -- one call: its answer's words, and record, ring and memory after it
-pub record Plays (call : Call) (s after : State) (words : List ℕ) : Type 0 where
-  pub says : words ≡ wordsOf (called call s .answer)
-  pub leaves : after ≡ called call s .after
+pub record CallMatches (call : Call) (s after : State) (words : List ℕ) : Type 0 where
+  pub says : words ≡ answerWords (performCall call s .answer)
+  pub leaves : after ≡ performCall call s .after
 
 -- all of them, from any state: the answers are at the start of the buffer
-pub record PlaysAll (played : List Call) (s : State) (buffer : List ℕ) (count : ℕ) (ringNow memoryNow bufferNow : List ℕ) : Type 0 where
+pub record CallsMatch (played : List Call) (s : State) (buffer : List ℕ) (count : ℕ) (ringNow memoryNow bufferNow : List ℕ) : Type 0 where
   pub returned : count ≡ length (answerBytes (answersOf played s))
   pub bytes : bufferNow ≡ answerBytes (answersOf played s) ++ drop count buffer
   pub memory-end : memoryNow ≡ stateAfter played s .memory

@@ -18,21 +18,21 @@ callOf bytes Run = run
 callOf bytes (Pending client) = pending client
 
 -- these bytes lie inside the script
-abbrev pub Lies : (size : ℕ) → Request → Type 0
-Lies size (Open start length) = Unit {0}
-Lies size (Submit client from to) = (from ≤ to) × (to ≤ size)
-Lies size Run = Unit {0}
-Lies size (Pending client) = Unit {0}
+abbrev pub BatchInBounds : (size : ℕ) → Request → Type 0
+BatchInBounds size (Open start length) = Unit {0}
+BatchInBounds size (Submit client from to) = (from ≤ to) × (to ≤ size)
+BatchInBounds size Run = Unit {0}
+BatchInBounds size (Pending client) = Unit {0}
 
-abbrev pub meant : List ℕ → Next → Parsed
-meant bytes End = ended
-meant bytes (Begins found) = parsed (callOf bytes (found .request)) (drop (found .size) bytes)
+abbrev pub parsedOf : List ℕ → Next → Parsed
+parsedOf bytes End = ended
+parsedOf bytes (Begins found) = parsed (callOf bytes (found .request)) (drop (found .size) bytes)
 
-abbrev pub Within : (size : ℕ) → Next → Type 0
-Within size End = Unit {0}
-Within size (Begins found) = (found .size ≤ size) × Lies size (found .request)
+abbrev pub CallInBounds : (size : ℕ) → Next → Type 0
+CallInBounds size End = Unit {0}
+CallInBounds size (Begins found) = (found .size ≤ size) × BatchInBounds size (found .request)
 
 -- the code's value stands for what is parsed, and lies in the bytes
-pub record Reads (bytes : List ℕ) (p : Parsed) (r : Next) : Type 0 where
-  pub means : meant bytes r ≡ p
-  pub within : Within (length bytes) r
+pub record ParsesAs (bytes : List ℕ) (p : Parsed) (r : Next) : Type 0 where
+  pub means : parsedOf bytes r ≡ p
+  pub within : CallInBounds (length bytes) r

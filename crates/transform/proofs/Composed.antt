@@ -10,7 +10,7 @@ use Rattle.transform.specs.declared.Flip.{Flip}
 use Rattle.transform.specs.declared.Transform.{Transform}
 use Rattle.transform.specs.declared.Size.{Size}
 use Rattle.transform.specs.declared.Point.{Point}
-use Rattle.transform.specs.Transform.{Within, rotatedSize, unrotated, mirrored, unflipped, sourceOf}
+use Rattle.transform.specs.Transform.{InPicture, rotatedSize, unrotated, mirrored, unflipped, sourcePixel}
 use Rattle.transform.specs.Compose.{quarter, added, isOdd, either, flippedTwice, exchanged, compose}
 use Rattle.transform.specs.Laws.{Composes}
 use Rattle.transform.proofs.Inside.{unrotated-within}
@@ -33,14 +33,14 @@ added-size Half b s = quarter-size (quarter b) s ∙ quarter-size b (rotatedSize
 added-size CounterClockwise b s =
     quarter-size (quarter (quarter b)) s ∙ quarter-size (quarter b) (rotatedSize Clockwise s) ∙ quarter-size b s
 
-quarter-turn : (r : Rotation) (s : Size) (p : Point) → Within (rotatedSize (quarter r) s) p →
+quarter-turn : (r : Rotation) (s : Size) (p : Point) → InPicture (rotatedSize (quarter r) s) p →
     unrotated (quarter r) s p ≡ unrotated Clockwise s (unrotated r (rotatedSize Clockwise s) p)
 quarter-turn Upright s p h = refl
 quarter-turn Clockwise s p h = refl
 quarter-turn Half s p h = point refl (omega (arith, h .across))
 quarter-turn CounterClockwise s p h = point refl (omega (arith, h .down))
 
-turn-turn : (a b : Rotation) (s : Size) (p : Point) → Within (rotatedSize (added a b) s) p →
+turn-turn : (a b : Rotation) (s : Size) (p : Point) → InPicture (rotatedSize (added a b) s) p →
     unrotated (added a b) s p ≡ unrotated a s (unrotated b (rotatedSize a s) p)
 turn-turn Upright b s p h = refl
 turn-turn Clockwise b s p h = quarter-turn b s p h
@@ -49,9 +49,9 @@ turn-turn Half b s p h =
     quarter-turn (quarter b) s p h ∙ ap (unrotated Clockwise s) (quarter-turn b s′ p (rw (quarter-size (quarter b) s) at h))
 turn-turn CounterClockwise b s p h =
     let s′ = rotatedSize Clockwise s in
-    let h′ : Within (rotatedSize (quarter (quarter b)) s′) p = rw (quarter-size (quarter (quarter b)) s) at h in
-    let h″ : Within (rotatedSize (quarter b) s) p = rw (quarter-size (quarter b) s′) at h′ in
-    let h‴ : Within (rotatedSize b s′) p = rw (quarter-size b s) at h″ in
+    let h′ : InPicture (rotatedSize (quarter (quarter b)) s′) p = rw (quarter-size (quarter (quarter b)) s) at h in
+    let h″ : InPicture (rotatedSize (quarter b) s) p = rw (quarter-size (quarter b) s′) at h′ in
+    let h‴ : InPicture (rotatedSize b s′) p = rw (quarter-size b s) at h″ in
     quarter-turn (quarter (quarter b)) s p h
     ∙ ap (unrotated Clockwise s) (quarter-turn (quarter b) s′ p h′ ∙ ap (unrotated Clockwise s′) (quarter-turn b s p h″))
     ∙ sym (quarter-turn Half s (unrotated b s′ p) (unrotated-within b s′ p h‴))
@@ -64,7 +64,7 @@ mirrored-twice true false n i h = refl
 mirrored-twice false true n i h = refl
 mirrored-twice false false n i h = refl
 
-flip-flip : (f g : Flip) (s : Size) (p : Point) → Within s p → unflipped f s (unflipped g s p) ≡ unflipped (flippedTwice f g) s p
+flip-flip : (f g : Flip) (s : Size) (p : Point) → InPicture s p → unflipped f s (unflipped g s p) ≡ unflipped (flippedTwice f g) s p
 flip-flip f g s p h =
     point
     (mirrored-twice (f .horizontal) (g .horizontal) (s .width) (p .x) (h .across))
@@ -86,9 +86,9 @@ turn-flip CounterClockwise f s p = point (mirrored-mirror (f .vertical) (s .widt
 
 -- ---- all together
 
-pub composed-source : (a b : Transform) (s : Size) (p : Point) → Within (rotatedSize (compose a b .rotation) s) p →
-    sourceOf (compose a b) s p ≡ sourceOf a s (sourceOf b (rotatedSize (a .rotation) s) p)
-unfolding compose sourceOf
+pub composed-source : (a b : Transform) (s : Size) (p : Point) → InPicture (rotatedSize (compose a b .rotation) s) p →
+    sourcePixel (compose a b) s p ≡ sourcePixel a s (sourcePixel b (rotatedSize (a .rotation) s) p)
+unfolding compose sourcePixel
 composed-source a b s p h =
     let f = a .flip in
     let g = exchanged (isOdd (a .rotation)) (b .flip) in

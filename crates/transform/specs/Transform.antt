@@ -32,10 +32,10 @@ abbrev pub unflipped : Flip → Size → Point → Point
 unflipped f s p = record { x = mirrored (f .horizontal) (s .width) (p .x); y = mirrored (f .vertical) (s .height) (p .y) }
 
 -- the source pixel that is output pixel p
-unfoldable pub sourceOf : Transform → Size → Point → Point
-sourceOf t s p = unflipped (t .flip) s (unrotated (t .rotation) s p)
+unfoldable pub sourcePixel : Transform → Size → Point → Point
+sourcePixel t s p = unflipped (t .flip) s (unrotated (t .rotation) s p)
 
 -- a pixel of a picture of this size
-pub record Within (s : Size) (p : Point) : Type 0 where
+pub record InPicture (s : Size) (p : Point) : Type 0 where
   pub across : p .x < s .width
   pub down : p .y < s .height

@@ -1,7 +1,7 @@
 // Flips and rotation by quarter turns: where each output pixel comes from.
 ghost use mathlib.Core.Path.{_≡_};
 ghost use Prim.Native.Nat.{_<_};
-ghost use Rattle.transform.specs.Transform.{Within, rotatedSize, unrotated, mirrored, unflipped, sourceOf};
+ghost use Rattle.transform.specs.Transform.{InPicture, rotatedSize, unrotated, mirrored, unflipped, sourcePixel};
 ghost use Rattle.transform.specs.Bits.{turns, rotationOf, weight, settingOf, bitsOf};
 ghost use Rattle.transform.specs.Compose.{quarter, added, turnedBack, isOdd, either, flippedTwice, exchanged, compose, neutral, inverse, opposite, orientation};
 
@@ -65,7 +65,7 @@ fn mirror(on: bool, n: usize, i: usize) -> usize
 impl Rotation {
     // The pixel of the unrotated picture, of this size, that is pixel `at` of the rotated one.
     fn origin(self, size: Size, at: Point) -> Point
-        requires { ⌜ Within (rotatedSize self size) at ⌝ }
+        requires { ⌜ InPicture (rotatedSize self size) at ⌝ }
         ensures { λ r. ⌜ r ≡ unrotated self size at ⌝ }
     {
         let w = size.width;
@@ -87,7 +87,7 @@ impl Rotation {
 impl Flip {
     // The pixel of the unflipped picture, of this size, that is pixel `at` of the flipped one.
     fn origin(self, size: Size, at: Point) -> Point
-        requires { ⌜ Within size at ⌝ }
+        requires { ⌜ InPicture size at ⌝ }
         ensures { λ r. ⌜ r ≡ unflipped self size at ⌝ }
     {
         Point {
@@ -100,8 +100,8 @@ impl Flip {
 impl Transform {
     // The source pixel, of a source of this size, that is output pixel `at`. The flip comes first, so it is undone last.
     pub fn source_of(self, size: Size, at: Point) -> Point
-        requires { ⌜ Within (rotatedSize (self .rotation) size) at ⌝ }
-        ensures { λ r. ⌜ r ≡ sourceOf self size at ⌝ }
+        requires { ⌜ InPicture (rotatedSize (self .rotation) size) at ⌝ }
+        ensures { λ r. ⌜ r ≡ sourcePixel self size at ⌝ }
     {
         let flip = self.flip;
         let rotation = self.rotation;

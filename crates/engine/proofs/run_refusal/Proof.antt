@@ -1,4 +1,4 @@
-use Rattle.queue.specs.Refusals.{firstOf}
+use Rattle.queue.specs.Refusals.{firstRefusal}
 use borrow.Author.Needs.{needs}
 use Rattle.engine.proofs.run_refusal.Statement.{statement}
 use Rattle.engine.proofs.run_refusal.Tie as tie
@@ -19,7 +19,7 @@ first-of-requires-3 : tie.Need-first-of-requires-3
 first-of-requires-3 c κs = search needs
 
 returns : tie.Need-returns
-unfolding firstOf
+unfolding firstRefusal
 returns c = rw (c .first-of3 .ensures, c .before .is-valid .ensures, c .before .before .first-of2 .ensures, c .before .before .before .first-of .ensures, c .before .before .before .before .taken-slots .ensures .0)
 
 pub run-refusal-spec : {M : Type 1} → statement M

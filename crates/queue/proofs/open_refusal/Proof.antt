@@ -4,7 +4,7 @@ use borrow.Author.Tests.{not-true, not-false}
 use Rattle.record.specs.Rules.{valid}
 use Rattle.record.proofs.Rules.{valid-facts}
 use Rattle.queue.proofs.Refusals.{eleven}
-use Rattle.queue.specs.Refusals.{firstOf}
+use Rattle.queue.specs.Refusals.{firstRefusal}
 use borrow.Author.Needs.{needs}
 use Rattle.queue.proofs.open_refusal.Statement.{statement}
 use Rattle.queue.proofs.open_refusal.Tie as tie
@@ -28,7 +28,7 @@ first-of-requires-2 : tie.Need-first-of-requires-2
 first-of-requires-2 c κs = search needs
 
 returns-2 : tie.Need-returns-2
-unfolding firstOf
+unfolding firstRefusal
 returns-2 c = rw (right (c .before .before .before .before .before), c .first-of2 .ensures, c .before .first-of .ensures, c .before .before .bad-window .ensures)
 
 pub open-refusal-spec : {M : Type 1} → statement M

@@ -1,4 +1,4 @@
-use Rattle.queue.specs.Refusals.{firstOf}
+use Rattle.queue.specs.Refusals.{firstRefusal}
 use borrow.Author.Needs.{needs}
 use Rattle.queue.proofs.set_up_refusal.Statement.{statement}
 use Rattle.queue.proofs.set_up_refusal.Tie as tie
@@ -16,7 +16,7 @@ first-of-requires-2 : tie.Need-first-of-requires-2
 first-of-requires-2 c κs = search needs
 
 returns : tie.Need-returns
-unfolding firstOf
+unfolding firstRefusal
 returns c = rw (c .first-of2 .ensures, c .before .bad-ring .ensures, c .before .before .first-of .ensures, c .before .before .before .bad-memory .ensures)
 
 pub set-up-refusal-spec : {M : Type 1} → statement M

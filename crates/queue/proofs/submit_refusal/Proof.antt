@@ -3,7 +3,7 @@ use mathlib.Core.Bool.{true}
 use borrow.Author.Tests.{not-true, not-false}
 use Rattle.record.specs.Rules.{valid}
 use Rattle.queue.proofs.Refusals.{eleven}
-use Rattle.queue.specs.Refusals.{firstOf}
+use Rattle.queue.specs.Refusals.{firstRefusal}
 use borrow.Author.Needs.{needs}
 use Rattle.queue.proofs.submit_refusal.Statement.{statement}
 use Rattle.queue.proofs.submit_refusal.Tie as tie
@@ -45,7 +45,7 @@ first-of-requires-5 : tie.Need-first-of-requires-5
 first-of-requires-5 c κs = search needs
 
 returns-2 : tie.Need-returns-2
-unfolding firstOf
+unfolding firstRefusal
 returns-2 c = rw (right (c .before .before .before .before .before .before .before .before .before .before .before), c .first-of5 .ensures, c .before .first-of4 .ensures, c .before .before .is-open .ensures, c .before .before .before .first-of3 .ensures, c .before .before .before .before .bad-length .ensures, c .before .before .before .before .before .first-of2 .ensures, c .before .before .before .before .before .before .first-of .ensures, c .before .before .before .before .before .before .before .free-bytes .ensures, c .before .before .before .before .before .before .before .before .taken-slots .ensures .0)
 
 pub submit-refusal-spec : {M : Type 1} → statement M

@@ -1,5 +1,5 @@
 use native.Mathlib.Omega.{arith}
-use Rattle.record.specs.Slots.{sum}
+use Rattle.record.specs.Slots.{sumOver}
 use borrow.Author.Needs.{needs}
 use Rattle.record.proofs.bytes_one.Statement.{statement}
 use Rattle.record.proofs.bytes_one.Tie as tie
@@ -11,11 +11,11 @@ enum-known-state : tie.Need-enum-known-state
 enum-known-state c = search needs
 
 returns : tie.Need-returns
-unfolding sum
+unfolding sumOver
 returns c = rw (c .enum-told .given .1)
 
 returns-2 : tie.Need-returns-2
-unfolding sum
+unfolding sumOver
 returns-2 c = rw (c .before .state .given .1) (omega arith)
 
 pub bytes-one-spec : {M : Type 1} → statement M

@@ -5,13 +5,13 @@ use lib.ListN.{length, drop}
 use lib.Dec.{eqb}
 use native.Mathlib.Omega.{arith}
 use borrow.Author.Needs.{needs}
-use Rattle.record.specs.Slots.{ready, countOf}
+use Rattle.record.specs.Slots.{readyBatches, countOf}
 use Rattle.record.proofs.Slots.{sum-step, sum-end}
 use Rattle.record.proofs.count_of.Statement.{statement}
 use Rattle.record.proofs.count_of.Tie as tie
 
 abbrev Inv-loop : tie.InvT-loop
-Inv-loop client slots n₀ i₀ n i = (i ≤ 8) × (n ≤ i) × (n + countOf client (ready (drop i slots)) ≡ countOf client (ready slots))
+Inv-loop client slots n₀ i₀ n i = (i ≤ 8) × (n ≤ i) × (n + countOf client (readyBatches (drop i slots)) ≡ countOf client (readyBatches slots))
 
 abbrev μ-loop : tie.MeasureT-loop
 μ-loop client slots n₀ i₀ n i = 8 - i

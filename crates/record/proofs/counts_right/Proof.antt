@@ -3,14 +3,14 @@ use Prim.Native.Nat.{_-_}
 use lib.ListN.{take, drop}
 use native.Mathlib.Omega.{arith}
 use borrow.Author.Needs.{needs}
-use Rattle.record.specs.Slots.{ready}
-use Rattle.record.specs.Clients.{countsRight}
+use Rattle.record.specs.Slots.{readyBatches}
+use Rattle.record.specs.Clients.{pendingCountsMatch}
 use Rattle.record.proofs.Clients.{counts-found, counts-next, counts-end}
 use Rattle.record.proofs.counts_right.Statement.{statement}
 use Rattle.record.proofs.counts_right.Tie as tie
 
 abbrev Inv-loop : tie.InvT-loop
-Inv-loop n slots clients k₀ k = countsRight k (drop k (take n clients)) (ready slots) ≡ countsRight 0 (take n clients) (ready slots)
+Inv-loop n slots clients k₀ k = pendingCountsMatch k (drop k (take n clients)) (readyBatches slots) ≡ pendingCountsMatch 0 (take n clients) (readyBatches slots)
 
 abbrev μ-loop : tie.MeasureT-loop
 μ-loop n slots clients k₀ k = n - k
@@ -37,7 +37,7 @@ returns : tie.Need-returns Inv-loop μ-loop
 returns c = let st = c .before .before .before .before .before .before in
     let l = c .before .before .before .before .before in
     let g = st .good .0 .1 .0 .1 in
-    counts-found (st .args .t1) (st .args .n) (l .loop .k) (omega arith) (omega arith) (ready (st .args .slots)) (c .before .count-of .result) (c .before .count-of .ensures) (c .if1 .taken) ∙ l .loop .inv
+    counts-found (st .args .t1) (st .args .n) (l .loop .k) (omega arith) (omega arith) (readyBatches (st .args .slots)) (c .before .count-of .result) (c .before .count-of .ensures) (c .if1 .taken) ∙ l .loop .inv
 
 add-k : tie.Need-add-k Inv-loop μ-loop
 add-k c = omega arith
@@ -49,7 +49,7 @@ loop-again : tie.Need-loop-again Inv-loop μ-loop
 loop-again c = let st = c .before .before .before .before .before .before in
     let l = c .before .before .before .before .before in
     let g = st .good .0 .1 .0 .1 in
-    counts-next (st .args .t1) (st .args .n) (l .loop .k) (omega arith) (omega arith) (ready (st .args .slots)) (c .before .count-of .result) (c .before .count-of .ensures) (c .if1 .left) ∙ l .loop .inv
+    counts-next (st .args .t1) (st .args .n) (l .loop .k) (omega arith) (omega arith) (readyBatches (st .args .slots)) (c .before .count-of .result) (c .before .count-of .ensures) (c .if1 .left) ∙ l .loop .inv
 
 returns-2 : tie.Need-returns-2 Inv-loop μ-loop
 returns-2 c = sym (counts-end _ _ _ (c .loop-test .left) _) ∙ c .before .loop .inv

@@ -3,13 +3,13 @@ use Prim.Native.Nat.{_-_}
 use lib.ListN.{take, drop}
 use native.Mathlib.Omega.{arith}
 use borrow.Author.Needs.{needs}
-use Rattle.record.specs.Clients.{windowsOf, noneBad}
+use Rattle.record.specs.Clients.{windowsOf, windowsValid}
 use Rattle.record.proofs.Clients.{none-found, none-next, none-end}
 use Rattle.record.proofs.none_bad.Statement.{statement}
 use Rattle.record.proofs.none_bad.Tie as tie
 
 abbrev Inv-loop : tie.InvT-loop
-Inv-loop setup n clients k₀ k = noneBad setup (windowsOf (drop k (take n clients))) ≡ noneBad setup (windowsOf (take n clients))
+Inv-loop setup n clients k₀ k = windowsValid setup (windowsOf (drop k (take n clients))) ≡ windowsValid setup (windowsOf (take n clients))
 
 abbrev μ-loop : tie.MeasureT-loop
 μ-loop setup n clients k₀ k = n - k

@@ -1,6 +1,6 @@
 use native.Mathlib.Omega.{arith}
 use borrow.Author.Tests.{eq-eqb, ne-eqb}
-use Rattle.record.specs.Slots.{sum}
+use Rattle.record.specs.Slots.{sumOver}
 use borrow.Author.Needs.{needs}
 use Rattle.record.proofs.owned_one.Statement.{statement}
 use Rattle.record.proofs.owned_one.Tie as tie
@@ -12,15 +12,15 @@ enum-known-state : tie.Need-enum-known-state
 enum-known-state c = search needs
 
 returns : tie.Need-returns
-unfolding sum
+unfolding sumOver
 returns c = (rw (c .enum-told .given .1), omega arith)
 
 returns-2 : tie.Need-returns-2
-unfolding sum
+unfolding sumOver
 returns-2 c = (rw (c .before .before .before .state .given .1, eq-eqb _ _ (c .if1 .taken)) (omega arith), omega arith)
 
 returns-3 : tie.Need-returns-3
-unfolding sum
+unfolding sumOver
 returns-3 c = (rw (c .before .before .before .state .given .1, ne-eqb _ _ (c .if1 .left)) (omega arith), omega arith)
 
 pub owned-one-spec : {M : Type 1} → statement M

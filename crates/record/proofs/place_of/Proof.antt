@@ -3,13 +3,13 @@ use Prim.Native.Nat.{ℕ, _+_, _-_, _≤_, _<_}
 use lib.ListN.{length, drop}
 use native.Mathlib.Omega.{arith}
 use borrow.Author.Needs.{needs}
-use Rattle.record.specs.Tickets.{ticketBefore, place}
+use Rattle.record.specs.Tickets.{ticketBefore, slotOfTicket}
 use Rattle.record.proofs.Slots.{place-step, place-end}
 use Rattle.record.proofs.place_of.Statement.{statement}
 use Rattle.record.proofs.place_of.Tie as tie
 
 abbrev Inv-loop : tie.InvT-loop
-Inv-loop next k slots i₀ i = (i ≤ 8) × (i + place (ticketBefore next k) (drop i slots) ≡ place (ticketBefore next k) slots)
+Inv-loop next k slots i₀ i = (i ≤ 8) × (i + slotOfTicket (ticketBefore next k) (drop i slots) ≡ slotOfTicket (ticketBefore next k) slots)
 
 abbrev μ-loop : tie.MeasureT-loop
 μ-loop next k slots i₀ i = 8 - i

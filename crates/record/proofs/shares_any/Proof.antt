@@ -3,13 +3,13 @@ use Prim.Native.Nat.{_-_}
 use lib.ListN.{take, drop}
 use native.Mathlib.Omega.{arith}
 use borrow.Author.Needs.{needs}
-use Rattle.record.specs.Clients.{windowsOf, sharesAny}
+use Rattle.record.specs.Clients.{windowsOf, overlapsAny}
 use Rattle.record.proofs.Clients.{shares-found, shares-next, shares-end}
 use Rattle.record.proofs.shares_any.Statement.{statement}
 use Rattle.record.proofs.shares_any.Tie as tie
 
 abbrev Inv-loop : tie.InvT-loop
-Inv-loop from n bytes clients i₀ i = sharesAny bytes (windowsOf (drop i (take n clients))) ≡ sharesAny bytes (windowsOf (drop from (take n clients)))
+Inv-loop from n bytes clients i₀ i = overlapsAny bytes (windowsOf (drop i (take n clients))) ≡ overlapsAny bytes (windowsOf (drop from (take n clients)))
 
 abbrev μ-loop : tie.MeasureT-loop
 μ-loop from n bytes clients i₀ i = n - i

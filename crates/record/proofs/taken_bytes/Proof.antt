@@ -3,13 +3,13 @@ use Prim.Native.Nat.{ℕ, _+_, _-_, _≤_, _<_}
 use lib.ListN.{length, drop}
 use native.Mathlib.Omega.{arith}
 use borrow.Author.Needs.{needs}
-use Rattle.record.specs.Slots.{ready, total}
+use Rattle.record.specs.Slots.{readyBatches, totalLength}
 use Rattle.record.proofs.Slots.{sum-step, sum-end}
 use Rattle.record.proofs.taken_bytes.Statement.{statement}
 use Rattle.record.proofs.taken_bytes.Tie as tie
 
 abbrev Inv-loop : tie.InvT-loop
-Inv-loop slots n₀ i₀ n i = (i ≤ 8) × (n + total (ready (drop i slots)) ≡ total (ready slots))
+Inv-loop slots n₀ i₀ n i = (i ≤ 8) × (n + totalLength (readyBatches (drop i slots)) ≡ totalLength (readyBatches slots))
 
 abbrev μ-loop : tie.MeasureT-loop
 μ-loop slots n₀ i₀ n i = 8 - i

@@ -3,13 +3,13 @@ use Prim.Native.Nat.{ℕ, _+_, _-_, _≤_, _<_}
 use lib.ListN.{length, drop}
 use native.Mathlib.Omega.{arith}
 use borrow.Author.Needs.{needs}
-use Rattle.record.specs.Slots.{ready}
+use Rattle.record.specs.Slots.{readyBatches}
 use Rattle.record.proofs.Slots.{count-step, count-end}
 use Rattle.record.proofs.taken_slots.Statement.{statement}
 use Rattle.record.proofs.taken_slots.Tie as tie
 
 abbrev Inv-loop : tie.InvT-loop
-Inv-loop slots n₀ i₀ n i = (i ≤ 8) × (n ≤ i) × (n + length (ready (drop i slots)) ≡ length (ready slots))
+Inv-loop slots n₀ i₀ n i = (i ≤ 8) × (n ≤ i) × (n + length (readyBatches (drop i slots)) ≡ length (readyBatches slots))
 
 abbrev μ-loop : tie.MeasureT-loop
 μ-loop slots n₀ i₀ n i = 8 - i

@@ -1,14 +1,14 @@
 use mathlib.Core.Path.{_≡_, refl, sym, _∙_}
 use Prim.Native.Nat.{_-_, _≤_}
 use lib.ListN.{length, drop}
-use Rattle.ppm.specs.Words.{isWord}
+use Rattle.ppm.specs.Words.{equalsIgnoringCase}
 use Rattle.ppm.proofs.Texts.{word-lengths, word-differs, word-goes-on, word-end}
 use borrow.Author.Needs.{needs}
 use Rattle.ppm.proofs.words.is_word.Statement.{statement}
 use Rattle.ppm.proofs.words.is_word.Tie as tie
 
 abbrev Inv-loop : tie.InvT-loop
-Inv-loop text word i₀ i = (i ≤ length text) × (length text ≡ length word) × (isWord text word ≡ isWord (drop i text) (drop i word))
+Inv-loop text word i₀ i = (i ≤ length text) × (length text ≡ length word) × (equalsIgnoringCase text word ≡ equalsIgnoringCase (drop i text) (drop i word))
 
 abbrev μ-loop : tie.MeasureT-loop
 μ-loop text word i₀ i = length text - i

@@ -1,4 +1,4 @@
-use Rattle.rules.specs.Rules.{overlap}
+use Rattle.rules.specs.Rules.{outputOverlaps}
 use borrow.Author.Needs.{needs}
 use Rattle.rules.proofs.task.overlaps.Statement.{statement}
 use Rattle.rules.proofs.task.overlaps.Tie as tie
@@ -16,7 +16,7 @@ same-place-requires : tie.Need-same-place-requires
 same-place-requires c κs = search needs
 
 returns : tie.Need-returns
-unfolding overlap
+unfolding outputOverlaps
 returns c =
     simp (
       c .before .before .before .before .is-buffer .ensures,
