@@ -12,7 +12,7 @@ use Rattle.rules.specs.declared.fault.Fault.{Fault}
 use Rattle.rules.specs.declared.fault.Fault.the-variants.{ReservedBits, GroupLength}
 use Rattle.rules.specs.declared.task.Bounds.{Bounds}
 use Rattle.rules.specs.declared.task.Check.{Check}
-use Rattle.rules.specs.declared.task.Check.the-variants.{Fine, Wrong}
+use Rattle.rules.specs.declared.task.Check.the-variants.{Valid, Invalid}
 use Rattle.rules.specs.Faults.{writeFault}
 use Rattle.batch.specs.Batch.{DecodedBatch, faulty, stopWith, consTask, DecoderState, reservedBits, badGroupLength, decodeHeader, afterWrite, afterTaskCheck, groupOf, decodeFrom}
 
@@ -37,6 +37,6 @@ module _ (P : DecodedBatch → Type 0) (b : Bank) (k : ℕ) (stops : (f : Fault)
   wrote-all (Taken next) go on = on next
   wrote-all (Refused f) go on = stops (writeFault f)
 
-  pub judged-all : (check : Check) (after : DecodedBatch) → (check ≡ Fine → P (consTask (taskOf b) after)) → P (afterTaskCheck check b k after)
-  judged-all Fine after on = on refl
-  judged-all (Wrong f) after on = stops f
+  pub judged-all : (check : Check) (after : DecodedBatch) → (check ≡ Valid → P (consTask (taskOf b) after)) → P (afterTaskCheck check b k after)
+  judged-all Valid after on = on refl
+  judged-all (Invalid f) after on = stops f

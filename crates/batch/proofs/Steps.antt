@@ -10,7 +10,7 @@ use Rattle.register.specs.declared.task.Task.{Task}
 use Rattle.rules.specs.declared.fault.Fault.{Fault}
 use Rattle.rules.specs.declared.task.Bounds.{Bounds}
 use Rattle.rules.specs.declared.task.Check.{Check}
-use Rattle.rules.specs.declared.task.Check.the-variants.{Fine, Wrong}
+use Rattle.rules.specs.declared.task.Check.the-variants.{Valid, Invalid}
 use Rattle.batch.specs.declared.walk.Step.{Step}
 use Rattle.batch.specs.declared.walk.Step.the-variants.{Task as Next, Faulty as Stop, End}
 use Rattle.batch.specs.declared.verdict.Judgement.{Judgement}
@@ -21,12 +21,12 @@ use Rattle.batch.specs.Walk.{decodeRest, stepAfterCheck, decodeAfterStep
 -- a task that was judged is the step that follows it
 pub judged-step : (bounds : Bounds) (ws : List ℕ) (check : Check) (b : Bank) (k head : ℕ)
     → (first : Bank) → afterTaskCheck check b head (decodeRest bounds ws b k) ≡ decodeAfterStep bounds ws first (stepAfterCheck check b k (4 * head))
-judged-step bounds ws Fine b k head first = refl
-judged-step bounds ws (Wrong f) b k head first = refl
+judged-step bounds ws Valid b k head first = refl
+judged-step bounds ws (Invalid f) b k head first = refl
 
 pub judged-onward : (ws : List ℕ) (check : Check) (b : Bank) (k next offset : ℕ) → k < next → next ≤ length ws → StepAdvances k ws (stepAfterCheck check b next offset)
-judged-onward ws Fine b k next offset h l = (h, l)
-judged-onward ws (Wrong f) b k next offset h l = tt
+judged-onward ws Valid b k next offset h l = (h, l)
+judged-onward ws (Invalid f) b k next offset h l = tt
 
 -- the judgement of m tasks, where the reading ended like this
 abbrev told : ℕ → DecodedBatch → Judgement

@@ -16,7 +16,7 @@ use Rattle.rules.specs.declared.fault.Fault.{Fault}
 use Rattle.rules.specs.declared.fault.Fault.the-variants.{ReservedBits, GroupLength, OpenTask}
 use Rattle.rules.specs.declared.task.Bounds.{Bounds}
 use Rattle.rules.specs.declared.task.Check.{Check}
-use Rattle.rules.specs.declared.task.Check.the-variants.{Fine, Wrong}
+use Rattle.rules.specs.declared.task.Check.the-variants.{Valid, Invalid}
 use Rattle.batch.specs.declared.verdict.Judgement.{Judgement}
 use Rattle.batch.specs.declared.verdict.Verdict.{Verdict}
 use Rattle.batch.specs.declared.verdict.Verdict.the-variants.{Faultless, Faulty}
@@ -75,8 +75,8 @@ afterWrite bank k (Refused f) go = stopWith bank (faulty (writeFault f) (4 * k))
 
 -- the group at word `head` ended the task: 25 to 28
 abbrev pub afterTaskCheck : Check → Bank → ℕ → DecodedBatch → DecodedBatch
-afterTaskCheck Fine bank head rest = consTask (taskOf bank) rest
-afterTaskCheck (Wrong f) bank head rest = stopWith bank (faulty f (4 * head))
+afterTaskCheck Valid bank head rest = consTask (taskOf bank) rest
+afterTaskCheck (Invalid f) bank head rest = stopWith bank (faulty f (4 * head))
 
 -- the words from word k on. The bank is kept from group to group and from task to task
 unfoldable pub decodeFrom : Bounds → Bank → ℕ → DecoderState → List ℕ → DecodedBatch

@@ -8,7 +8,7 @@ use Rattle.register.specs.Task.{taskOf}
 use Rattle.register.specs.declared.bank.Bank.{Bank}
 use Rattle.rules.specs.declared.task.Bounds.{Bounds}
 use Rattle.rules.specs.declared.task.Check.{Check}
-use Rattle.rules.specs.declared.task.Check.the-variants.{Fine, Wrong}
+use Rattle.rules.specs.declared.task.Check.the-variants.{Valid, Invalid}
 use Rattle.batch.specs.declared.walk.Step.{Step}
 use Rattle.batch.specs.declared.walk.Step.the-variants.{Task, Faulty, End}
 use Rattle.batch.specs.Batch.{DecodedBatch, finished, faulty, stopWith, consTask, start, decodeFrom}
@@ -19,8 +19,8 @@ decodeRest bounds words bank k = decodeFrom bounds bank k start (drop k words)
 
 -- the step at the end of a task that was judged: the word after it is word `next`, a fault of it has this offset
 abbrev pub stepAfterCheck : Check → Bank → ℕ → ℕ → Step
-stepAfterCheck Fine bank next offset = Task (taskOf bank) bank next
-stepAfterCheck (Wrong f) bank next offset = Faulty f offset bank
+stepAfterCheck Valid bank next offset = Task (taskOf bank) bank next
+stepAfterCheck (Invalid f) bank next offset = Faulty f offset bank
 
 -- what a step from this bank on says of the reading
 abbrev pub decodeAfterStep : Bounds → List ℕ → Bank → Step → DecodedBatch

@@ -20,7 +20,7 @@ use Rattle.engine.specs.Run.{outcomeUnlessRefused, runResult, runMemory}
 use Rattle.engine.proofs.Calls.{completion as completionOf}
 use Rattle.model.specs.Windows.{Window}
 use Rattle.model.specs.Calls.{Call, opens, submit, run, pending, opened, accepted, completed, ready, refused}
-use Rattle.claims.specs.Way.{completionStatusOf}
+use Rattle.claims.specs.BatchSemantics.{completionStatusOf}
 use Rattle.claims.specs.Engine.{State, mkState, CallResult, answerOrRefusal, completion, performCall}
 use Rattle.claims.specs.Demand1.{refusalTableOf, Harmless}
 use Rattle.claims.specs.Demand2.{executed}

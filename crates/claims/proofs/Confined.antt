@@ -21,7 +21,7 @@ use Rattle.rules.proofs.Sound.{Within, Sound, AllSound}
 use Rattle.batch.specs.Batch.{decodeBatch, tasksDrawn}
 use Rattle.batch.proofs.Tasks.{drawn-sound}
 use Rattle.model.specs.Windows.{Window}
-use Rattle.model.specs.Drawing.{SameReadable, LocalAction, Confined}
+use Rattle.model.specs.BatchSemantics.{SameReadable, LocalAction, Confined}
 use Rattle.model.proofs.Locality.{All, local-tasks}
 use Rattle.rows.specs.Row.{colourAt}
 use Rattle.raster.specs.Task.{pixelColour, drawTask, drawTasks}
@@ -29,7 +29,7 @@ use Rattle.raster.specs.Batch.{drawBatch}
 use Rattle.raster.proofs.Turn.{stride-some}
 use Rattle.raster.proofs.Pixel.{pixel-same, origin-within, destination-within}
 use Rattle.raster.proofs.Judged.{Reach, clear}
-use Rattle.claims.specs.Way.{boundsOf, semanticsFrom}
+use Rattle.claims.specs.BatchSemantics.{boundsOf, semanticsFrom}
 
 module _ (w : Window) (common : ℕ) where
   -- a client's bounds

@@ -14,7 +14,7 @@ use Rattle.model.specs.Calls.{Setup, Call, opens, submit, run, pending, Answer}
 use Rattle.model.specs.State.{Model, initialModel}
 use Rattle.model.specs.Refusals.{refusal}
 use Rattle.model.specs.Model.{step, effect, answers, after, modelAfterAll}
-use Rattle.claims.specs.OfModel.{batchSemantics}
+use Rattle.claims.specs.ModelProperties.{batchSemantics}
 use Rattle.claims.specs.Engine.{State, mkState, performCall, answersOf, stateAfter, SetUpAccepted, initialState}
 use Rattle.claims.specs.Demand3.{RefinesModel}
 use Rattle.claims.proofs.Cases.{number, done, by-number}

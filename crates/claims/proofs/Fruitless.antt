@@ -16,7 +16,7 @@ use Rattle.engine.specs.Run.{oldest, boundsOfClient, oldestWords, oldestVerdict
 use Rattle.engine.proofs.Refusals.{run-allowed}
 use Rattle.engine.proofs.Stays.{run-waiting}
 use Rattle.model.specs.Calls.{Setup, Call, run, CompletionStatus, completed}
-use Rattle.claims.specs.Way.{completionStatusOf}
+use Rattle.claims.specs.BatchSemantics.{completionStatusOf}
 use Rattle.claims.specs.Engine.{State, CallResult, performCall, SetUpAccepted}
 use Rattle.claims.specs.Demand3.{finalState, FaultyBatchNoOp}
 use Rattle.claims.proofs.Cases.{number, done, either, by-number}

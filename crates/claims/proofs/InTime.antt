@@ -5,12 +5,12 @@ use mathlib.Core.Logic.{_⊎_, inl, inr}
 use Prim.Native.Nat.{ℕ, zero, suc}
 use lib.ListN.{length, take}
 use Rattle.model.specs.Calls.{Setup, Call, opens, submit, run, pending, CompletionStatus, Answer, completed}
-use Rattle.model.specs.Drawing.{BatchSemantics}
+use Rattle.model.specs.BatchSemantics.{BatchSemantics}
 use Rattle.model.specs.State.{Batch, batch, Model}
 use Rattle.model.specs.Refusals.{refusal}
 use Rattle.model.specs.Model.{Step, runStep, effect, step, answers, executed, modelAfterAll}
 use Rattle.model.proofs.Refusals.{unless-cases}
-use Rattle.claims.specs.OfModel.{batchSemantics}
+use Rattle.claims.specs.ModelProperties.{batchSemantics}
 use Rattle.claims.specs.Engine.{performCall, SetUpAccepted}
 use Rattle.claims.specs.Demand3.{completedOf, finalState, BoundedWaiting}
 use Rattle.claims.proofs.OfModel.{of-model}

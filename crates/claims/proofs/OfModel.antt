@@ -3,7 +3,7 @@ use Prim.Native.Nat.{ℕ}
 use Rattle.register.specs.Bank.{resetBank}
 use Rattle.model.specs.Calls.{Setup}
 use Rattle.model.proofs.Theorems.{claims}
-use Rattle.claims.specs.OfModel.{ModelPropertiesHold, batchSemantics}
+use Rattle.claims.specs.ModelProperties.{ModelPropertiesHold, batchSemantics}
 use Rattle.claims.proofs.Confined.{confined}
 
 pub of-model : (setup : Setup) (ring : ℕ) → ModelPropertiesHold setup ring

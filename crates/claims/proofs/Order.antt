@@ -7,9 +7,9 @@ use Rattle.register.specs.Bank.{resetBank}
 use Rattle.model.specs.Calls.{Setup, Call}
 use Rattle.model.specs.State.{initialModel}
 use Rattle.model.specs.Order.{verdictsOf, SameOutcome as SameInModel}
-use Rattle.model.specs.Claims.{ModelProperties}
+use Rattle.model.specs.Properties.{ModelProperties}
 use Rattle.model.proofs.Theorems.{claims}
-use Rattle.claims.specs.OfModel.{batchSemantics}
+use Rattle.claims.specs.ModelProperties.{batchSemantics}
 use Rattle.claims.specs.Engine.{SetUpAccepted}
 use Rattle.claims.specs.Order.{SameOutcome, Promise}
 use Rattle.claims.proofs.Confined.{confined}

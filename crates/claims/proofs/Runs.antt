@@ -15,8 +15,8 @@ use Rattle.engine.proofs.Stays.{run-sized, run-valid, oldest-owner, run-windows
 use Rattle.model.specs.Calls.{Setup, run, completed}
 use Rattle.model.specs.State.{Batch, windowOf}
 use Rattle.model.specs.Model.{runStep, effect}
-use Rattle.claims.specs.Way.{boundsOf, completionStatusOf}
-use Rattle.claims.specs.OfModel.{batchSemantics}
+use Rattle.claims.specs.BatchSemantics.{boundsOf, completionStatusOf}
+use Rattle.claims.specs.ModelProperties.{batchSemantics}
 use Rattle.claims.specs.Engine.{State}
 use Rattle.claims.proofs.Cases.{number, done}
 use Rattle.claims.proofs.Seen.{seenBatch, seenWaiting}

@@ -16,7 +16,7 @@ use Rattle.model.specs.Windows.{Window}
 use Rattle.model.specs.Calls.{Setup, opens, submit, pending, opened, accepted, ready}
 use Rattle.model.specs.State.{Model}
 use Rattle.model.specs.Model.{Step, refuseOr, effect}
-use Rattle.claims.specs.OfModel.{batchSemantics}
+use Rattle.claims.specs.ModelProperties.{batchSemantics}
 use Rattle.claims.specs.Engine.{State, CallResult}
 use Rattle.claims.proofs.Cases.{given, number, done, either}
 use Rattle.claims.proofs.Seen.{seen-snoc, seenBatch}

@@ -4,8 +4,8 @@ use mathlib.Core.List.{List}
 use Prim.Native.Nat.{ℕ}
 use lib.ListN.{length}
 use Rattle.model.specs.Calls.{Setup, Call}
-use Rattle.model.specs.TwoRuns.{LowEquivalent}
-use Rattle.claims.specs.OfModel.{batchSemantics}
+use Rattle.model.specs.Noninterference.{LowEquivalent}
+use Rattle.claims.specs.ModelProperties.{batchSemantics}
 use Rattle.claims.specs.Engine.{SetUpAccepted}
 use Rattle.claims.specs.Demand3.{Isolation, Noninterference, Demand3Holds}
 use Rattle.claims.proofs.OfModel.{of-model}

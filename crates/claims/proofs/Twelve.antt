@@ -11,7 +11,7 @@ use Rattle.register.specs.Bank.{surfaceAfterWrite, bankAfterWrite, writeRegiste
 use Rattle.register.specs.Task.{surfaceOf, transformOf, alphaOf, sourceOfBank as sourceIn, destinationOf, blendingOf, taskOf}
 use Rattle.rules.specs.Rules.{badSides, badStride, badSource, badOutput, badDestination, badSurface, sizeMismatch, outOfBounds, aliases, outputOverlaps, checkTask}
 use Rattle.batch.specs.Batch.{decodeFrom}
-use Rattle.claims.specs.Twelve.{actual, expected, WorkedExamples}
+use Rattle.claims.specs.WorkedExamples.{actual, expected, WorkedExamples}
 
 pub twelve : WorkedExamples
 unfolding actual expected segment span widened narrowed unpacked packed div255 blendedChannel blended sourcePixel decodeFrom writeRegister registerKindOf bankAfterWrite surfaceAfterWrite taskOf sourceIn destinationOf blendingOf surfaceOf transformOf alphaOf checkTask badSurface badSource badOutput badDestination badSides badStride sizeMismatch outOfBounds aliases outputOverlaps

@@ -18,12 +18,12 @@ use Rattle.encoder.specs.Encoder.{answerOf, taskBytes, bufferAfter}
 use Rattle.encoder.specs.ReadsBack.{EncodeDecodeRoundTrip}
 use Rattle.raster.specs.Task.{drawTasks}
 use Rattle.raster.specs.Batch.{drawBatch}
-use Rattle.raster.specs.Written.{WriteFrame}
+use Rattle.raster.specs.WriteFrame.{WriteFrame}
 use Rattle.queue.specs.Refusals.{firstRefusal}
 use Rattle.engine.specs.Run.{oldest, boundsOfClient, oldestWords, oldestVerdict, withoutOldest}
 use Rattle.model.specs.Calls.{run, completed}
-use Rattle.model.specs.Drawing.{Confined}
-use Rattle.claims.specs.Way.{completionStatusOf, semanticsFrom}
+use Rattle.model.specs.BatchSemantics.{Confined}
+use Rattle.claims.specs.BatchSemantics.{completionStatusOf, semanticsFrom}
 use Rattle.claims.specs.Engine.{State, mkState, CallResult, performCall}
 use Rattle.claims.specs.Demand1.{refusalTableOf}
 

@@ -11,9 +11,9 @@ use Rattle.model.specs.Windows.{byte}
 use Rattle.model.specs.Calls.{Setup, Call, submit, run, CompletionStatus, Answer, opened, accepted, completed, ready, refused, completions}
 use Rattle.model.specs.State.{Model, initialModel, Owns}
 use Rattle.model.specs.Model.{answers, modelAfterAll}
-use Rattle.model.specs.Alone.{replayedAlone}
-use Rattle.model.specs.TwoRuns.{Pointwise, LowEqualAnswer, LowEquivalent}
-use Rattle.claims.specs.OfModel.{batchSemantics}
+use Rattle.model.specs.ReplayedAlone.{replayedAlone}
+use Rattle.model.specs.Noninterference.{Pointwise, LowEqualAnswer, LowEquivalent}
+use Rattle.claims.specs.ModelProperties.{batchSemantics}
 use Rattle.claims.specs.Engine.{State, CallResult, performCall, answersOf, stateAfter, SetUpAccepted, initialState}
 use Rattle.claims.specs.Demand1.{Harmless}
 

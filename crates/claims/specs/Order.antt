@@ -8,8 +8,8 @@ use lib.ListN.{length}
 use Rattle.model.specs.Calls.{Setup, Call}
 use Rattle.model.specs.State.{initialModel}
 use Rattle.model.specs.Order.{SameSequences, submitted, verdictsOf}
-use Rattle.model.specs.Claims.{finalModel, executedBatches, Exchange, AnyOrder, AnySubmissions, ReorderedByHand}
-use Rattle.claims.specs.OfModel.{batchSemantics}
+use Rattle.model.specs.Properties.{finalModel, executedBatches, Exchange, AnyOrder, AnySubmissions, ReorderedByHand}
+use Rattle.claims.specs.ModelProperties.{batchSemantics}
 use Rattle.claims.specs.Engine.{State, answersOf, stateAfter, SetUpAccepted, initialState}
 
 -- Two lists of calls that the engine is given, from the same record, ring and memory. What they open, accept and execute, and what waits, is given by

@@ -19,7 +19,7 @@ use Rattle.register.specs.declared.task.Destination.{Destination}
 use Rattle.register.specs.declared.task.Blending.{Blending}
 use Rattle.register.specs.declared.task.Task.{Task}
 use Rattle.rules.specs.declared.task.Bounds.{Bounds}
-use Rattle.rules.specs.declared.task.Check.the-variants.{Fine}
+use Rattle.rules.specs.declared.task.Check.the-variants.{Valid}
 use Rattle.rules.specs.Rules.{checkTask}
 use Rattle.batch.specs.Batch.{DecodedBatch, finished, stopWith, afterTaskCheck}
 use Rattle.encoder.specs.declared.fields.SurfaceFields.{SurfaceFields}
@@ -111,7 +111,7 @@ AllFit32Bits (f ∷ fs) = Fits32Bits f × AllFit32Bits fs
 -- 25 to 28 do not come of any of them
 abbrev pub AllPassTaskCheck : Bounds → List Fields → Type 0
 AllPassTaskCheck bounds [] = Unit
-AllPassTaskCheck bounds (f ∷ fs) = (checkTask bounds (taskWith f) ≡ Fine) × AllPassTaskCheck bounds fs
+AllPassTaskCheck bounds (f ∷ fs) = (checkTask bounds (taskWith f) ≡ Valid) × AllPassTaskCheck bounds fs
 
 -- what the tasks of these fields are read as from a bank on, the first of them at word k: each in order, 25 to 28 judged of its
 -- fields, a fault at the task-end header, which is 18 words after the task's first. Each leaves its own registers in the bank

@@ -10,7 +10,7 @@ use borrow.Author.Tests.{ltb-true, eq-eqb}
 use Rattle.word.proofs.Tests.{and-true}
 use Rattle.ring.specs.Segment.{wrapOffset}
 use Rattle.rules.specs.declared.task.Bounds.{Bounds}
-use Rattle.raster.specs.Clear.{BoundsInMemory}
+use Rattle.raster.specs.Preconditions.{BoundsInMemory}
 use Rattle.record.specs.declared.Batch.{Batch}
 use Rattle.record.specs.declared.Client.{Client}
 use Rattle.record.specs.declared.Slot.{Slot}

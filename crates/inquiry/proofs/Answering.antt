@@ -17,7 +17,7 @@ use Rattle.register.specs.Bank.{resetBank}
 use Rattle.rules.specs.declared.task.Bounds.{Bounds}
 use Rattle.batch.specs.Batch.{decodeBatch, tasksDrawn}
 use Rattle.model.specs.Refusals.{badLength}
-use Rattle.claims.specs.Way.{boundsOf}
+use Rattle.claims.specs.BatchSemantics.{boundsOf}
 use Rattle.records.specs.declared.Stage.the-variants.{Version}
 use Rattle.records.specs.declared.Found.{Found}
 use Rattle.records.specs.declared.Found.the-variants.{Nothing, Record, BadVersion, BadRecord}

@@ -9,7 +9,7 @@ ghost use lib.Dec.{eqb, ltb};
 ghost use Rattle.ring.specs.Segment.{batchWords};
 ghost use Rattle.register.specs.Bank.{resetBank};
 ghost use Rattle.batch.specs.Batch.{decodeBatch};
-ghost use Rattle.claims.specs.Way.{boundsOf};
+ghost use Rattle.claims.specs.BatchSemantics.{boundsOf};
 ghost use Rattle.records.specs.Records.{records};
 ghost use Rattle.records.specs.Reading.{Lies};
 ghost use Rattle.replay.specs.Answered.{recordRefusal, replayWindow};

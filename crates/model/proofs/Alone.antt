@@ -10,12 +10,12 @@ use lib.Dec.{eqb}
 use borrow.Author.Tests.{eq-eqb, ne-eqb}
 use Rattle.model.specs.Windows.{Window, In, byte}
 use Rattle.model.specs.Calls.{Setup, Call, opens, submit, run, pending}
-use Rattle.model.specs.Drawing.{BatchSemantics, WindowInMemory, Confined}
+use Rattle.model.specs.BatchSemantics.{BatchSemantics, WindowInMemory, Confined}
 use Rattle.model.specs.State.{Batch, Model, initialModel, isOpen, windowOf, nextClient, Owns}
 use Rattle.model.specs.Refusals.{refusal}
 use Rattle.model.specs.Model.{Step, openStep, runStep, effect, step, after, executed}
-use Rattle.model.specs.Alone.{batchesOf, drawBatches}
-use Rattle.model.specs.Claims.{Isolation}
+use Rattle.model.specs.ReplayedAlone.{batchesOf, drawBatches}
+use Rattle.model.specs.Properties.{Isolation}
 use Rattle.model.proofs.Tests.{by-eq}
 use Rattle.model.proofs.Refusals.{unless-cases, open-allowed, run-allowed}
 use Rattle.model.proofs.Clients.{none-open, next-closed, stays-open, same-window, old-or-new, not-next}

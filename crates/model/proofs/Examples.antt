@@ -11,14 +11,14 @@ use borrow.Author.Tests.{ne-eqb}
 use borrow.Rule.Slice.PartMut.{midOf, putMid}
 use Rattle.model.specs.Windows.{window, byte, overlapAny}
 use Rattle.model.specs.Calls.{Setup, Call, opens, submit, run, pending, CompletionStatus, opened, accepted, completed, ready, refused}
-use Rattle.model.specs.Drawing.{BatchSemantics, Confined}
+use Rattle.model.specs.BatchSemantics.{BatchSemantics, Confined}
 use Rattle.model.specs.State.{Model, initialModel, Owns, totalBytes, countOf}
 use Rattle.model.specs.Refusals.{refusalTable, firstHolding}
 use Rattle.model.specs.Model.{refuseOr, effect, answers, after, executed, modelAfterAll}
-use Rattle.model.specs.Alone.{batchesOf, drawBatches, replayedAlone}
+use Rattle.model.specs.ReplayedAlone.{batchesOf, drawBatches, replayedAlone}
 use Rattle.model.specs.Order.{SameSequences, submitted, SameOutcome}
-use Rattle.model.specs.TwoRuns.{none, more, same, rewritten, LowEquivalent}
-use Rattle.model.specs.Claims.{Noninterference}
+use Rattle.model.specs.Noninterference.{none, more, same, rewritten, LowEquivalent}
+use Rattle.model.specs.Properties.{Noninterference}
 use Rattle.model.proofs.Locality.{local-if, local-window}
 use Rattle.model.proofs.Theorems.{claims}
 

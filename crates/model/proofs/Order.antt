@@ -12,12 +12,12 @@ use lib.Seq.{ext-getD, drop-length, drop-append-seam}
 use borrow.Author.Tests.{eq-eqb, ne-eqb, ltb-true, lt-ltb}
 use Rattle.model.specs.Windows.{Window, window, In, byte}
 use Rattle.model.specs.Calls.{Setup, Call, opens, submit, run, pending, CompletionStatus, Answer, opened, accepted, completed, ready, refused}
-use Rattle.model.specs.Drawing.{BatchSemantics, Confined}
+use Rattle.model.specs.BatchSemantics.{BatchSemantics, Confined}
 use Rattle.model.specs.State.{Batch, batch, Model, initialModel, isOpen, windowOf, Owns}
 use Rattle.model.specs.Refusals.{refusal, refusalTable, firstHolding}
 use Rattle.model.specs.Model.{Step, refuse, refuseOr, openStep, submitStep, runStep, effect, step, answers, after, executed, modelAfterAll}
-use Rattle.model.specs.Claims.{Exchange, AnyOrder, AnySubmissions, ReorderedByHand}
-use Rattle.model.specs.Alone.{batchesOf, drawBatches}
+use Rattle.model.specs.Properties.{Exchange, AnyOrder, AnySubmissions, ReorderedByHand}
+use Rattle.model.specs.ReplayedAlone.{batchesOf, drawBatches}
 use Rattle.model.specs.Order.{SameSequences, verdictsOf, submitted, SameOutcome, Exchanged, ByHand, Lent, runEach, withWaiting}
 use Rattle.model.proofs.Tests.{by-eq, by-in}
 use Rattle.model.proofs.Refusals.{unless-cases}

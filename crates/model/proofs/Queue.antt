@@ -7,11 +7,11 @@ use native.Mathlib.Nat.{not-suc-le-zero, le-of-suc-le-suc}
 use lib.ListN.{length, take, length-append}
 use lib.Seq.{take-append-le}
 use Rattle.model.specs.Calls.{Setup, Call, opens, submit, run, pending, Answer, accepted, completions}
-use Rattle.model.specs.Drawing.{BatchSemantics}
+use Rattle.model.specs.BatchSemantics.{BatchSemantics}
 use Rattle.model.specs.State.{Batch, batch, Model, initialModel, totalBytes, takenSlots, takenBytes}
 use Rattle.model.specs.Refusals.{refusal}
 use Rattle.model.specs.Model.{Step, runStep, effect, step, answers, after, executed, modelAfterAll}
-use Rattle.model.specs.Claims.{ConsecutiveTickets, FifoOrder, BoundedWaiting}
+use Rattle.model.specs.Properties.{ConsecutiveTickets, FifoOrder, BoundedWaiting}
 use Rattle.model.proofs.Refusals.{unless-cases, submit-allowed}
 
 -- ---- lists of batches

@@ -13,8 +13,8 @@ use Rattle.model.specs.Calls.{Setup, opens, submit, run, Call, pending, 
 use Rattle.model.specs.State.{Model, isOpen, openWindows, takenSlots, takenBytes, Batch}
 use Rattle.model.specs.Refusals.{RefusalRow, _when_, refusalTable, firstHolding, refusal}
 use Rattle.model.specs.Model.{Step, refuse, refuseOr, runStep, effect}
-use Rattle.model.specs.Drawing.{BatchSemantics}
-use Rattle.model.specs.Claims.{RefusalNoOp}
+use Rattle.model.specs.BatchSemantics.{BatchSemantics}
+use Rattle.model.specs.Properties.{RefusalNoOp}
 use Rattle.model.proofs.Tests.{by-lt, neither, apart-of}
 
 -- ---- a step that may be refused

@@ -9,11 +9,11 @@ use native.Mathlib.Omega.{arith}
 use lib.ListN.{length}
 use Rattle.model.specs.Windows.{Window, In}
 use Rattle.model.specs.Calls.{Setup, Call, opens, submit, run, pending, opened}
-use Rattle.model.specs.Drawing.{BatchSemantics, WindowInMemory}
+use Rattle.model.specs.BatchSemantics.{BatchSemantics, WindowInMemory}
 use Rattle.model.specs.State.{Batch, Model, initialModel, isOpen, windowOf, nextClient}
 use Rattle.model.specs.Refusals.{refusal}
 use Rattle.model.specs.Model.{Step, modelAfterAll, openStep, runStep, effect, step, after}
-use Rattle.model.specs.Claims.{WindowStable}
+use Rattle.model.specs.Properties.{WindowStable}
 use Rattle.model.proofs.Tests.{apart-of}
 use Rattle.model.proofs.Refusals.{unless-cases, OpenAllowed, open-allowed, submit-allowed}
 use Rattle.model.proofs.Clients.{none-open, open-apart, stays-open, same-window, new-open, new-window, old-or-new}

@@ -1,8 +1,8 @@
 -- The claims hold.
 use Prim.Native.Nat.{ℕ}
 use Rattle.model.specs.Calls.{Setup}
-use Rattle.model.specs.Drawing.{BatchSemantics}
-use Rattle.model.specs.Claims.{ModelProperties}
+use Rattle.model.specs.BatchSemantics.{BatchSemantics}
+use Rattle.model.specs.Properties.{ModelProperties}
 use Rattle.model.proofs.Sound as sound
 use Rattle.model.proofs.Alone as alone
 use Rattle.model.proofs.TwoRuns as two-runs

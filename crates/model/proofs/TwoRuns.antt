@@ -8,12 +8,12 @@ use native.Mathlib.Omega.{arith}
 use lib.ListN.{length}
 use Rattle.model.specs.Windows.{Window, In, byte}
 use Rattle.model.specs.Calls.{Setup, Call, opens, submit, run, pending, CompletionStatus, completed}
-use Rattle.model.specs.Drawing.{BatchSemantics, WindowInMemory, Confined}
+use Rattle.model.specs.BatchSemantics.{BatchSemantics, WindowInMemory, Confined}
 use Rattle.model.specs.State.{Batch, Model, initialModel, isOpen, windowOf, Owns, totalBytes, countOf}
 use Rattle.model.specs.Refusals.{refusalTable, refusal}
 use Rattle.model.specs.Model.{Step, refuse, runStep, effect, step, answers, after}
-use Rattle.model.specs.TwoRuns.{Pointwise, none, more, LowEqualCall, same, rewritten, LowEqualAnswer, equal, verdicts, LowEquivalent}
-use Rattle.model.specs.Claims.{Noninterference}
+use Rattle.model.specs.Noninterference.{Pointwise, none, more, LowEqualCall, same, rewritten, LowEqualAnswer, equal, verdicts, LowEquivalent}
+use Rattle.model.specs.Properties.{Noninterference}
 use Rattle.model.proofs.Tests.{by-eq, by-in}
 use Rattle.model.proofs.Refusals.{unless-both, run-allowed}
 use Rattle.model.proofs.Sound.{Named, Sound, fresh-sound, within, step-sound, after-sound, after-stays}

@@ -3,7 +3,7 @@ use mathlib.Core.List.{List, [], _∷_, _++_}
 use Prim.Native.Nat.{ℕ, zero, suc, _%_}
 use Rattle.model.specs.Windows.{Window}
 use Rattle.model.specs.Calls.{Setup, Call, opens, submit, run, pending, Answer, opened, accepted, completed, ready, refused}
-use Rattle.model.specs.Drawing.{BatchSemantics}
+use Rattle.model.specs.BatchSemantics.{BatchSemantics}
 use Rattle.model.specs.State.{Batch, batch, Model, initialModel, windowOf, nextClient, countOf}
 use Rattle.model.specs.Refusals.{refusal}
 

@@ -6,10 +6,10 @@ use Prim.Native.Nat.{ℕ}
 use lib.ListN.{length, drop}
 use lib.Dec.{eqb}
 use Rattle.model.specs.Calls.{Setup, Call, run, CompletionStatus, Answer, opened, accepted, completed, ready, refused}
-use Rattle.model.specs.Drawing.{BatchSemantics}
+use Rattle.model.specs.BatchSemantics.{BatchSemantics}
 use Rattle.model.specs.State.{Batch, Model}
 use Rattle.model.specs.Model.{step, answers, after}
-use Rattle.model.specs.Alone.{batchesOf}
+use Rattle.model.specs.ReplayedAlone.{batchesOf}
 
 -- An "order that keeps each desk's own sequence": of each client the same batches in the same order, but for their tickets (02, 9: "Tickets follow
 -- the order of submission and are excepted").

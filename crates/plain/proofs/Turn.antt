@@ -29,7 +29,7 @@ use Rattle.register.specs.declared.task.Task.{Task}
 use Rattle.register.specs.Size.{sizeOf}
 use Rattle.rows.specs.Row.{colourAt}
 use Rattle.raster.specs.Task.{pixelColour}
-use Rattle.raster.specs.Clear.{TaskInBounds, Drawable}
+use Rattle.raster.specs.Preconditions.{TaskInBounds, Drawable}
 use Rattle.raster.specs.Row.{rowDrawn, drawRow}
 use Rattle.raster.proofs.Pixel.{pixel-same, origin-within, destination-within}
 

@@ -12,7 +12,7 @@ use Rattle.register.specs.declared.task.Source.{Source}
 use Rattle.register.specs.declared.task.Destination.{Destination}
 use Rattle.register.specs.declared.task.Task.{Task}
 use Rattle.register.specs.Size.{sizeOf}
-use Rattle.raster.specs.Clear.{Drawable}
+use Rattle.raster.specs.Preconditions.{Drawable}
 
 -- a pixel of the turned source, which lies in memory if it is read
 pub record SourcePixel (memory : List ℕ) (s : Source) (x y : ℕ) : Type 0 where

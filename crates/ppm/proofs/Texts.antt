@@ -9,7 +9,7 @@ use lib.Dec.{eqb, ltb}
 use borrow.Author.Tests.{lt-ltb, le-ltb, ltb-false, eq-eqb, ne-eqb}
 use Rattle.word.proofs.Tests.{and-false}
 use Rattle.text.proofs.Typing.{rest-next}
-use Rattle.ppm.specs.declared.words.Number.the-variants.{Value, Wrong}
+use Rattle.ppm.specs.declared.words.Number.the-variants.{Value, Invalid}
 use Rattle.ppm.specs.Words.{isDigit, allDigits, decimalValue, parseNumber, toLower, equalsIgnoringCase}
 
 -- ---- numbers
@@ -38,7 +38,7 @@ no-third true false = refl
 no-third false true = refl
 no-third false false = refl
 
-pub number-empty : (text : List ℕ) → length text ≡ 0 → parseNumber text ≡ Wrong
+pub number-empty : (text : List ℕ) → length text ≡ 0 → parseNumber text ≡ Invalid
 unfolding parseNumber
 number-empty text none = rw (le-ltb 0 (length text) (omega arith))
 
@@ -58,22 +58,22 @@ module _ (text : List ℕ) (value i : ℕ) (so : Read text value i) where
     unfolding allDigits
     read-more d = record { digits = so .digits ∙ rw (rest-next text i h, d); number = number-on }
 
-    not-digit : isDigit byte ≡ false → parseNumber text ≡ Wrong
+    not-digit : isDigit byte ≡ false → parseNumber text ≡ Invalid
     unfolding parseNumber allDigits
     not-digit d =
         let e : allDigits text ≡ false = so .digits ∙ rw (rest-next text i h, d) in
         rw (e, no-second (ltb 0 (length text)) (ltb (decimalValue 0 text) 4294967296))
 
-    too-large : 4294967296 ≤ more → parseNumber text ≡ Wrong
+    too-large : 4294967296 ≤ more → parseNumber text ≡ Invalid
     unfolding parseNumber
     too-large l =
         let e : ltb (decimalValue 0 text) 4294967296 ≡ false = le-ltb (decimalValue 0 text) 4294967296 (omega (arith, number-on, grows more (drop (i + 1) text))) in
         rw (e, no-third (ltb 0 (length text)) (allDigits text))
 
-    pub read-wrong : isDigit byte && ltb more 4294967296 ≡ false → parseNumber text ≡ Wrong
+    pub read-wrong : isDigit byte && ltb more 4294967296 ≡ false → parseNumber text ≡ Invalid
     read-wrong e = go (isDigit byte) refl
       where
-        go : (t : Bool) → isDigit byte ≡ t → parseNumber text ≡ Wrong
+        go : (t : Bool) → isDigit byte ≡ t → parseNumber text ≡ Invalid
         go true d = too-large (ltb-false _ _ (and-false _ _ d e))
         go false d = not-digit d
 

@@ -7,7 +7,7 @@ use lib.Dec.{eqb, leb, ltb}
 use Rattle.pixel.specs.declared.format.Format.{Format}
 use Rattle.pixel.specs.declared.format.Format.the-variants.{Argb8888, Rgb888, Rgb565}
 use Rattle.ppm.specs.declared.words.Number.{Number}
-use Rattle.ppm.specs.declared.words.Number.the-variants.{Value, Wrong}
+use Rattle.ppm.specs.declared.words.Number.the-variants.{Value, Invalid}
 use Rattle.ppm.specs.declared.words.Named.{Named}
 use Rattle.ppm.specs.declared.words.Named.the-variants.{Known, Unknown}
 
@@ -28,7 +28,7 @@ decimalValue high (byte ∷ bytes) = decimalValue (high * 10 + (byte - 48)) byte
 
 -- one digit at least, nothing but digits, and a number of 32 bits
 unfoldable pub parseNumber : List ℕ → Number
-parseNumber text = cond (ltb 0 (length text) && allDigits text && ltb (decimalValue 0 text) 4294967296) (Value (decimalValue 0 text)) Wrong
+parseNumber text = cond (ltb 0 (length text) && allDigits text && ltb (decimalValue 0 text) 4294967296) (Value (decimalValue 0 text)) Invalid
 
 -- ---- formats
 

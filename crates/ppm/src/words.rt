@@ -6,7 +6,7 @@ use pixel::Format;
 
 pub enum Number {
     Value(u32),
-    Wrong,
+    Invalid,
 }
 
 pub enum Named {
@@ -33,7 +33,7 @@ pub fn number_of(text: &[u8]) -> Number
     ensures { λ r. ⌜ r ≡ parseNumber (now (text .entry)) ⌝ }
 {
     if text.len() == 0 {
-        return Number::Wrong;
+        return Number::Invalid;
     }
     let mut value: u64 = 0;
     let mut i = 0;
@@ -42,7 +42,7 @@ pub fn number_of(text: &[u8]) -> Number
         let next = value * 10 + digit_value(byte);
         let good = is_digit(byte) & (next < 4294967296);
         if !good {
-            return Number::Wrong;
+            return Number::Invalid;
         }
         value = next;
         i += 1;

@@ -18,7 +18,7 @@ use Rattle.rules.specs.declared.fault.Fault.{Fault}
 use Rattle.rules.specs.declared.fault.Fault.the-variants.{ReservedBits, GroupLength, OpenTask, NotWritable, Forbidden, BadSurface, SizeMismatch, OutOfBounds, Overlap}
 use Rattle.rules.specs.Faults.{faultNumber}
 use Rattle.batch.specs.Batch.{DecodedBatch, BatchEnd, finished, faulty, verdictOf, statusWordOf}
-use Rattle.claims.specs.Way.{boundsOf, completionStatusOf}
+use Rattle.claims.specs.BatchSemantics.{boundsOf, completionStatusOf}
 use Rattle.model.specs.Calls.{CompletionStatus, completed}
 use Rattle.records.specs.Records.{Entry}
 use Rattle.replay.specs.Answered.{recordRefusal, replayWindow, verdict, ticketOfCount, countAfter}

@@ -18,7 +18,7 @@ use Rattle.rules.specs.declared.fault.Fault.{Fault}
 use Rattle.rules.specs.declared.fault.Fault.the-variants.{ReservedBits, GroupLength, OpenTask, NotWritable, Forbidden, BadSurface, SizeMismatch, OutOfBounds, Overlap}
 use Rattle.rules.specs.declared.task.Bounds.{Bounds}
 use Rattle.rules.specs.declared.task.Check.{Check}
-use Rattle.rules.specs.declared.task.Check.the-variants.{Fine, Wrong}
+use Rattle.rules.specs.declared.task.Check.the-variants.{Valid, Invalid}
 use Rattle.rules.specs.Rules.{badSurface, sizeMismatch, outOfBounds, outputOverlaps, checkTask}
 use Rattle.batch.specs.Batch.{DecodedBatch, BatchEnd, finished, faulty, stopWith, consTask, DecoderState, start, inside, reservedBits, badGroupLength, decodeHeader, afterWrite, afterTaskCheck, groupOf, decodeFrom, decodeBatch}
 use Rattle.batch.proofs.Readings.{onFrom, onWith}
@@ -63,11 +63,11 @@ header-claim b k left offset h ws go none on = by (reservedBits h) (badGroupLeng
 
 module _ (bounds : Bounds) where
   -- a task is never judged so
-  judged-other : (t : Task) (f : Fault) → checkTask bounds t ≡ Wrong f → f ≡ Forbidden → ⊥
+  judged-other : (t : Task) (f : Fault) → checkTask bounds t ≡ Invalid f → f ≡ Forbidden → ⊥
   unfolding checkTask
   judged-other t f e z = by (badSurface t) (sizeMismatch t) (outOfBounds bounds t) (outputOverlaps t) e
     where
-      by : (a b c d : Bool) → cond a (Wrong BadSurface) (cond b (Wrong SizeMismatch) (cond c (Wrong OutOfBounds) (cond d (Wrong Overlap) Fine))) ≡ Wrong f → ⊥
+      by : (a b c d : Bool) → cond a (Invalid BadSurface) (cond b (Invalid SizeMismatch) (cond c (Invalid OutOfBounds) (cond d (Invalid Overlap) Valid))) ≡ Invalid f → ⊥
       by true b c d e = let y : _≡_ {A = ℕ} 0 1 = cc in omega arith
       by false true c d e = let y : _≡_ {A = ℕ} 0 1 = cc in omega arith
       by false false true d e = let y : _≡_ {A = ℕ} 0 1 = cc in omega arith
@@ -78,8 +78,8 @@ module _ (bounds : Bounds) where
   judged-claim b head k g ws after on = by (checkTask bounds (taskOf b)) refl
     where
       by : (check : Check) → checkTask bounds (taskOf b) ≡ check → Claim (afterTaskCheck check b head after) k g ws
-      by Fine e place same = on place same
-      by (Wrong f) e place same = absurd (other f (4 * head) place (judged-other (taskOf b) f e) same)
+      by Valid e place same = on place same
+      by (Invalid f) e place same = absurd (other f (4 * head) place (judged-other (taskOf b) f e) same)
 
   word-claim : (b : Bank) (k n offset w : ℕ) (ws : List ℕ) (go : Bank → DecodedBatch) → ((next : Bank) → Claim (go next) (k + 1) (record { left = n; register = offset + 4 }) ws)
       → Claim (afterWrite b k (writeRegister b offset w) go) k (record { left = suc n; register = offset }) (w ∷ ws)

@@ -16,7 +16,7 @@ use Rattle.batch.specs.Batch.{tasksDrawn}
 use Rattle.batch.proofs.Tasks.{drawn-sound}
 use Rattle.raster.specs.Task.{drawTasks}
 use Rattle.raster.specs.Batch.{drawBatch}
-use Rattle.claims.specs.Way.{boundsOf}
+use Rattle.claims.specs.BatchSemantics.{boundsOf}
 use Rattle.claims.specs.Engine.{State}
 use Rattle.records.specs.Records.{Entry}
 use Rattle.replay.specs.Lines.{engineOpened, replayStart, submitAndRun}

@@ -10,7 +10,7 @@ use Rattle.surface.specs.Surface.{InRow}
 use Rattle.register.specs.declared.task.Task.{Task}
 use Rattle.rules.proofs.Sound.{Rows}
 use Rattle.raster.specs.Task.{drawTask, drawTasks}
-use Rattle.raster.specs.Written.{OutsideRows, OutsideAllRows, outputByte}
+use Rattle.raster.specs.WriteFrame.{OutsideRows, OutsideAllRows, outputByte}
 use Rattle.raster.proofs.Judged.{rectangle}
 use Rattle.raster.proofs.Outside.{length-tasks, outside-task, inside-task}
 use Rattle.provenance.specs.declared.Touched.{Touched}

@@ -8,7 +8,7 @@ use Rattle.word.specs.Word.{words}
 use Rattle.register.specs.Bank.{resetBank}
 use Rattle.register.specs.declared.task.Task.{Task}
 use Rattle.batch.specs.Batch.{DecodedBatch, decodeBatch, tasksDrawn}
-use Rattle.claims.specs.Way.{boundsOf}
+use Rattle.claims.specs.BatchSemantics.{boundsOf}
 use Rattle.records.specs.Records.{Entry}
 use Rattle.replay.specs.Answered.{recordRefusal, replayWindow, ticketOfCount, countAfter}
 

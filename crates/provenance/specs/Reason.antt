@@ -12,7 +12,7 @@ use Rattle.register.specs.declared.bank.WriteFault.the-variants.{Forbidden as N
 use Rattle.register.specs.declared.task.Task.{Task}
 use Rattle.batch.specs.Batch.{tasksDrawn}
 use Rattle.raster.specs.Task.{drawTask, drawTasks}
-use Rattle.raster.specs.Written.{OutsideAllRows, outputByte}
+use Rattle.raster.specs.WriteFrame.{OutsideAllRows, outputByte}
 use Rattle.records.specs.Records.{Entry}
 use Rattle.model.specs.Calls.{completed}
 use Rattle.replay.specs.Lines.{replayStart, submitAndRun}

@@ -9,7 +9,7 @@ use Rattle.register.specs.declared.task.Task.{Task}
 use Rattle.rules.specs.declared.task.Bounds.{Bounds}
 use Rattle.rules.specs.Rules.{commonOf}
 use Rattle.rules.proofs.Sound.{Rows, Within, InReach, Sound}
-use Rattle.raster.specs.Clear.{ValidRectangle, TaskInBounds, Drawable, EndsBelow}
+use Rattle.raster.specs.Preconditions.{ValidRectangle, TaskInBounds, Drawable, EndsBelow}
 
 -- the rectangles that a batch with these bounds may read
 abbrev pub Reach : Bounds → Surface → Type 0

@@ -13,8 +13,8 @@ use Rattle.batch.specs.Batch.{decodeBatch, tasksDrawn}
 use Rattle.batch.proofs.Tasks.{drawn-sound}
 use Rattle.raster.specs.Task.{drawTask, drawTasks}
 use Rattle.raster.specs.Batch.{drawBatch}
-use Rattle.raster.specs.Clear.{ValidRectangle}
-use Rattle.raster.specs.Written.{OutsideRows, OutsideAllRows, outputByte, WriteFrame}
+use Rattle.raster.specs.Preconditions.{ValidRectangle}
+use Rattle.raster.specs.WriteFrame.{OutsideRows, OutsideAllRows, outputByte, WriteFrame}
 use Rattle.raster.proofs.Turn.{stride-some}
 use Rattle.raster.proofs.Judged.{rectangle}
 

@@ -18,7 +18,7 @@ use Rattle.register.specs.Size.{sizeOf}
 use Rattle.rows.specs.Row.{colourAt, sourcePixelOf}
 use Rattle.rows.specs.Mixed.{composite}
 use Rattle.raster.specs.Task.{sourceModeColour, sourceColour, destinationColour, pixelColour}
-use Rattle.raster.specs.Clear.{TaskInBounds}
+use Rattle.raster.specs.Preconditions.{TaskInBounds}
 
 colourBy-same : (m : SourceMode) (s : Source) (memory memory′ : List ℕ) (p : Point) →
     (isBuffer m ≡ true → colourAt (s .surface) memory p ≡ colourAt (s .surface) memory′ p) → sourceModeColour m s memory p ≡ sourceModeColour m s memory′ p

@@ -26,7 +26,7 @@ use Rattle.register.specs.declared.task.Task.{Task}
 use Rattle.register.specs.Size.{sizeOf}
 use Rattle.rows.specs.Row.{colourAt}
 use Rattle.raster.specs.Task.{pixelColour, drawTask}
-use Rattle.raster.specs.Clear.{ValidRectangle, TaskInBounds}
+use Rattle.raster.specs.Preconditions.{ValidRectangle, TaskInBounds}
 use Rattle.raster.specs.Row.{rowDrawn, drawRow}
 use Rattle.raster.proofs.Lent.{row-ext}
 use Rattle.raster.proofs.Pixel.{pixel-same, origin-within, destination-within}

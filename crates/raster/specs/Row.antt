@@ -18,7 +18,7 @@ use Rattle.register.specs.declared.task.Source.{Source}
 use Rattle.register.specs.declared.task.Task.{Task}
 use Rattle.register.specs.Size.{sizeOf}
 use Rattle.raster.specs.Task.{pixelColour}
-use Rattle.raster.specs.Clear.{Drawable}
+use Rattle.raster.specs.Preconditions.{Drawable}
 
 -- bytes after a row of a surface was drawn in them, from byte `at` on, in the colours p
 unfoldable pub rowDrawn : Surface → ℕ → (ℕ → Colour) → List ℕ → List ℕ

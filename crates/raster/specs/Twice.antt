@@ -22,7 +22,7 @@ use Rattle.register.specs.Task.{isBuffer}
 use Rattle.register.specs.Size.{sizeOf}
 use Rattle.rows.specs.Row.{colourAt, sourcePixelOf}
 use Rattle.raster.specs.Task.{drawTask}
-use Rattle.raster.specs.Clear.{ValidRectangle, EndsBelow, Drawable}
+use Rattle.raster.specs.Preconditions.{ValidRectangle, EndsBelow, Drawable}
 
 -- memory after the picture s was drawn with a setting into o, without blending
 unfoldable pub turned : Surface → Transform → Surface → List ℕ → List ℕ

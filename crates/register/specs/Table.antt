@@ -8,7 +8,7 @@ use Rattle.pixel.specs.Formats.{isFormat}
 use Rattle.pixel.specs.Alpha.{isAlphaMode}
 use Rattle.pixel.specs.Blending.{isFactor}
 use Rattle.register.specs.declared.table.Kind.{Kind}
-use Rattle.register.specs.declared.table.Kind.the-variants.{SourceControl, DestinationControl, OutputControl, Size, Stride, Blending, Whole, NotWritable}
+use Rattle.register.specs.declared.table.Kind.the-variants.{SourceControl, DestinationControl, OutputControl, Size, Stride, Blending, FullWord, NotWritable}
 
 -- the row of the register at an offset
 unfoldable pub registerKindOf : ℕ → Kind
@@ -22,7 +22,7 @@ registerKindOf offset =
     -- SRC_SURFACE_STRIDE, DST_SURFACE_STRIDE, OUTPUT_STRIDE
     (cond (eqb offset 0x018 || eqb offset 0x058 || eqb offset 0x108) Stride
     -- SRC_SURFACE_FILL_COLOR; SRC_SURFACE_ADDR0, DST_SURFACE_ADDR0, OUTPUT_ADDR0
-    (cond (eqb offset 0x01C || eqb offset 0x020 || eqb offset 0x060 || eqb offset 0x110) Whole
+    (cond (eqb offset 0x01C || eqb offset 0x020 || eqb offset 0x060 || eqb offset 0x110) FullWord
     -- BLENDING_CTRL
     (cond (eqb offset 0x090) Blending
     -- OUTPUT_CTRL
@@ -78,7 +78,7 @@ acceptsWord OutputControl word = outputControlAccepts word
 acceptsWord Size word = sizeAccepts word
 acceptsWord Stride word = strideAccepts word
 acceptsWord Blending word = blendingAccepts word
-acceptsWord Whole word = true
+acceptsWord FullWord word = true
 acceptsWord NotWritable word = false
 
 abbrev pub isWritable : Kind → Bool
@@ -88,5 +88,5 @@ isWritable OutputControl = true
 isWritable Size = true
 isWritable Stride = true
 isWritable Blending = true
-isWritable Whole = true
+isWritable FullWord = true
 isWritable NotWritable = false

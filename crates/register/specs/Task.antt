@@ -12,7 +12,7 @@ use Rattle.pixel.specs.declared.format.Format.the-variants.{Argb8888}
 use Rattle.surface.specs.declared.Surface.{Surface}
 use Rattle.transform.specs.declared.Transform.{Transform}
 use Rattle.transform.specs.declared.Rotation.{Rotation}
-use Rattle.transform.specs.declared.Rotation.the-variants.{Upright, Clockwise, Half, CounterClockwise}
+use Rattle.transform.specs.declared.Rotation.the-variants.{Rotate0, Rotate90, Rotate180, Rotate270}
 use Rattle.register.specs.declared.bank.SurfaceRegisters.{SurfaceRegisters}
 use Rattle.register.specs.declared.bank.Bank.{Bank}
 use Rattle.register.specs.declared.task.Alpha.{Alpha}
@@ -35,7 +35,7 @@ surfaceOf r = record {
 
 -- quarter turns clockwise (the paper's turn), 0 to 3
 abbrev pub rotationOf : ℕ → Rotation
-rotationOf code = cond (eqb code 0) Upright (cond (eqb code 1) Clockwise (cond (eqb code 2) Half CounterClockwise))
+rotationOf code = cond (eqb code 0) Rotate0 (cond (eqb code 1) Rotate90 (cond (eqb code 2) Rotate180 Rotate270))
 
 abbrev pub sourceModeOf : ℕ → SourceMode
 sourceModeOf code = cond (eqb code 0) Buffer Colour

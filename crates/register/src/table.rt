@@ -14,7 +14,7 @@ pub enum Kind {
     Size,
     Stride,
     Blending,
-    Whole,
+    FullWord,
     NotWritable,
 }
 
@@ -73,17 +73,17 @@ impl Kind {
             0x010 => Kind::SourceControl, // SRC_SURFACE_CTRL
             0x014 => Kind::Size, // SRC_SURFACE_INPUT_SIZE
             0x018 => Kind::Stride, // SRC_SURFACE_STRIDE
-            0x01C => Kind::Whole, // SRC_SURFACE_FILL_COLOR
-            0x020 => Kind::Whole, // SRC_SURFACE_ADDR0
+            0x01C => Kind::FullWord, // SRC_SURFACE_FILL_COLOR
+            0x020 => Kind::FullWord, // SRC_SURFACE_ADDR0
             0x050 => Kind::DestinationControl, // DST_SURFACE_CTRL
             0x054 => Kind::Size, // DST_SURFACE_INPUT_SIZE
             0x058 => Kind::Stride, // DST_SURFACE_STRIDE
-            0x060 => Kind::Whole, // DST_SURFACE_ADDR0
+            0x060 => Kind::FullWord, // DST_SURFACE_ADDR0
             0x090 => Kind::Blending, // BLENDING_CTRL
             0x100 => Kind::OutputControl, // OUTPUT_CTRL
             0x104 => Kind::Size, // OUTPUT_SIZE
             0x108 => Kind::Stride, // OUTPUT_STRIDE
-            0x110 => Kind::Whole, // OUTPUT_ADDR0
+            0x110 => Kind::FullWord, // OUTPUT_ADDR0
             _ => Kind::NotWritable,
         }
     }
@@ -98,7 +98,7 @@ impl Kind {
             Kind::Size => true,
             Kind::Stride => true,
             Kind::Blending => true,
-            Kind::Whole => true,
+            Kind::FullWord => true,
             Kind::NotWritable => false,
         }
     }
@@ -114,7 +114,7 @@ impl Kind {
             Kind::Size => size_takes(word),
             Kind::Stride => stride_takes(word),
             Kind::Blending => blending_takes(word),
-            Kind::Whole => true,
+            Kind::FullWord => true,
             Kind::NotWritable => false,
         }
     }

@@ -58,10 +58,10 @@ fn rotation(code: u32) -> Rotation
     ensures { λ r. ⌜ r ≡ rotationOf code ⌝ }
 {
     match code {
-        0 => Rotation::Upright,
-        1 => Rotation::Clockwise,
-        2 => Rotation::Half,
-        _ => Rotation::CounterClockwise,
+        0 => Rotation::Rotate0,
+        1 => Rotation::Rotate90,
+        2 => Rotation::Rotate180,
+        _ => Rotation::Rotate270,
     }
 }
 

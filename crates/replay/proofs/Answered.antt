@@ -19,7 +19,7 @@ use Rattle.model.specs.Calls.{submit, run, accepted, completed}
 use Rattle.model.specs.State.{Model, totalBytes, windowOf as windowIn}
 use Rattle.model.specs.Refusals.{refusalTable, firstHolding, refusal as refusalIn, badLength}
 use Rattle.model.specs.Model.{refuse, submitStep, runStep, refuseOr, effect, step, after, modelAfterAll}
-use Rattle.claims.specs.OfModel.{batchSemantics}
+use Rattle.claims.specs.ModelProperties.{batchSemantics}
 use Rattle.claims.specs.Engine.{State, CallResult, answerOrRefusal, performCall, SetUpAccepted}
 use Rattle.claims.proofs.Confined.{confined}
 use Rattle.claims.proofs.Related.{Related}

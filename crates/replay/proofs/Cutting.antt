@@ -17,7 +17,7 @@ use Rattle.replay.specs.declared.Stage.the-variants.{Version, Records, E
 use Rattle.records.specs.Records.{Entry, File, badVersion, badRecord, cutRecord, fileEnds, consEntry, lengthField, badSize, entryOf, recordsFrom, records}
 use Rattle.replay.specs.Lines.{endingLine, printedFrom, linesFrom, lines}
 use Rattle.replay.specs.Step.{ReaderState, readerState, atStart, bytesWanted, afterRecordBytes, FeedStep, stepIn, step, finishText}
-use Rattle.replay.specs.Cutting.{feedChunk, feedChunks, printed, concatChunks}
+use Rattle.replay.specs.Chunking.{feedChunk, feedChunks, printed, concatChunks}
 use Rattle.replay.proofs.Reading.{good-size, size-front, entry-front, decided-short, decided-bad, decided-part, decided-whole, missing-short, missing-bad, missing-rest}
 
 -- ---- fuel

@@ -15,7 +15,7 @@ use Rattle.records.specs.Records.{records}
 use Rattle.replay.specs.Lines.{linesFrom, lines}
 use Rattle.replay.specs.Step.{ReaderState, atStart, FeedStep, step, finishText}
 use Rattle.replay.specs.Calls.{positionOf, replayAt, Prints, buffersSuffice, fedStep, FeedContract, finishedText}
-use Rattle.replay.specs.Cutting.{concatChunks, FeedTrace, finishing, onto, feeding, ChunkingIrrelevant}
+use Rattle.replay.specs.Chunking.{concatChunks, FeedTrace, finishing, onto, feeding, ChunkingIrrelevant}
 use Rattle.replay.proofs.Serving.{starting-state}
 use Rattle.replay.proofs.Feeding.{sufficing}
 use Rattle.replay.proofs.Cutting.{linesAt, Pending, pending-few, advances, ends-in, steps}

@@ -10,7 +10,7 @@ use lib.Dec.{eqb, ltb}
 use Rattle.model.specs.Windows.{Window, window}
 use Rattle.model.specs.Calls.{submit, run, CompletionStatus, Answer, accepted, completed}
 use Rattle.model.specs.Refusals.{badLength}
-use Rattle.claims.specs.OfModel.{batchSemantics}
+use Rattle.claims.specs.ModelProperties.{batchSemantics}
 use Rattle.claims.specs.Engine.{State, CallResult, answerOrRefusal, performCall}
 use Rattle.records.specs.Records.{Entry, FileEnd, File}
 use Rattle.replay.specs.Lines.{setup, engineOpened, submitAndRun, answerLine, entryLine, endingLine, lines}

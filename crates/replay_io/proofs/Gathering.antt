@@ -12,7 +12,7 @@ use Rattle.word.specs.Splice.{spliced}
 use Rattle.replay.specs.declared.Replay.{Replay}
 use Rattle.replay.specs.declared.Fed.{Fed}
 use Rattle.replay.specs.Step.{ReaderState, step}
-use Rattle.replay.specs.Cutting.{Printed, prependText, feedChunk}
+use Rattle.replay.specs.Chunking.{Printed, prependText, feedChunk}
 use Rattle.replay.specs.Calls.{positionOf, Prints, buffersSuffice, fedStep, FeedContract}
 use Rattle.replay.proofs.Printing.{prints-none}
 use Rattle.replay_io.specs.Gather.{FeedLinesContract}

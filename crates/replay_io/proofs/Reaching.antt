@@ -8,7 +8,7 @@ use Rattle.replay.specs.declared.Stage.the-variants.{Version}
 use Rattle.replay.specs.declared.Replay.{Replay}
 use Rattle.replay.specs.Lines.{engineOpened}
 use Rattle.replay.specs.Step.{ReaderState, readerState, atStart}
-use Rattle.replay.specs.Cutting.{Printed, feedChunk}
+use Rattle.replay.specs.Chunking.{Printed, feedChunk}
 use Rattle.replay.specs.Calls.{positionOf, replayAt}
 use Rattle.replay.proofs.Serving.{started-engine, starting-engine, started-state}
 use Rattle.replay_io.specs.Gather.{FeedLinesContract}

@@ -4,7 +4,7 @@ use mathlib.Core.List.{List}
 use Prim.Native.Nat.{ℕ, _+_, _≤_}
 use lib.ListN.{length, drop}
 use Rattle.replay.specs.Step.{ReaderState}
-use Rattle.replay.specs.Cutting.{prependText, feedChunk}
+use Rattle.replay.specs.Chunking.{prependText, feedChunk}
 use Rattle.replay.specs.Calls.{Prints}
 
 -- from p on, the first bytes of the input were used, and the reading stands at q

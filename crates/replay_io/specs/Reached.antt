@@ -6,7 +6,7 @@ use Prim.Native.Nat.{ℕ}
 use Rattle.replay.specs.declared.Stage.the-variants.{Version}
 use Rattle.replay.specs.Lines.{engineOpened}
 use Rattle.replay.specs.Step.{ReaderState, readerState}
-use Rattle.replay.specs.Cutting.{feedChunk}
+use Rattle.replay.specs.Chunking.{feedChunk}
 
 -- q is where the reading stands after some input, in so many steps, and then more of it
 pub data Reachable (p : ReaderState) : ReaderState → Type 0 where

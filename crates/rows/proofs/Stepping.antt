@@ -8,7 +8,7 @@ use Rattle.pixel.specs.Formats.{bytesPerPixel}
 use Rattle.transform.specs.Transform.{InPicture, rotatedSize, unrotated, unflipped, mirrored, sourcePixel}
 use Rattle.transform.specs.declared.Flip.{Flip}
 use Rattle.transform.specs.declared.Rotation.{Rotation}
-use Rattle.transform.specs.declared.Rotation.the-variants.{Upright, Clockwise, Half, CounterClockwise}
+use Rattle.transform.specs.declared.Rotation.the-variants.{Rotate0, Rotate90, Rotate180, Rotate270}
 use Rattle.transform.specs.declared.Point.{Point}
 use Rattle.transform.specs.declared.Transform.{Transform}
 use Rattle.transform.proofs.Inside.{source-within}
@@ -44,50 +44,50 @@ abbrev flip : Bool → Bool → Flip
 flip h v = record { horizontal = h; vertical = v }
 
 lies : (r : Rotation) (h v : Bool) (s : Surface) (x y : ℕ) → InPicture (rotatedSize r (sizeOf s)) (record { x = x; y = y }) → Lies r (flip h v) s x y
-lies Upright false v s x y w =
+lies Rotate0 false v s x y w =
     record { at = omega arith; above = λ e. absurd (false≢true e) }
-lies Upright true v s x y w =
+lies Rotate0 true v s x y w =
     let a : ℕ = rowStart s (mirrored v (s .height) y) in
     let e : s .width - 1 - x + x ≡ s .width - 1 - 0 = omega (arith, w .across) in
     record {
       at = omega (arith, back a 0 (bytesPerPixel (s .format)) (s .width - 1 - x) (s .width - 1 - 0) x e);
       above = λ q. omega (arith, back-fits a 0 (bytesPerPixel (s .format)) (s .width - 1 - x) (s .width - 1 - 0) x e);
     }
-lies Half true v s x y w =
+lies Rotate180 true v s x y w =
     let a : ℕ = rowStart s (mirrored v (s .height) (s .height - 1 - y)) in
     let e : s .width - 1 - (s .width - 1 - x) ≡ s .width - 1 - (s .width - 1 - 0) + x = omega (arith, w .across) in
     record {
       at = omega (arith, on a 0 (bytesPerPixel (s .format)) (s .width - 1 - (s .width - 1 - x)) (s .width - 1 - (s .width - 1 - 0)) x e);
       above = λ q. absurd (false≢true q);
     }
-lies Half false v s x y w =
+lies Rotate180 false v s x y w =
     let a : ℕ = rowStart s (mirrored v (s .height) (s .height - 1 - y)) in
     let e : s .width - 1 - x + x ≡ s .width - 1 - 0 = omega (arith, w .across) in
     record {
       at = omega (arith, back a 0 (bytesPerPixel (s .format)) (s .width - 1 - x) (s .width - 1 - 0) x e);
       above = λ q. omega (arith, back-fits a 0 (bytesPerPixel (s .format)) (s .width - 1 - x) (s .width - 1 - 0) x e);
     }
-lies Clockwise h false s x y w =
+lies Rotate90 h false s x y w =
     let c : ℕ = mirrored h (s .width) y * bytesPerPixel (s .format) in
     let e : s .height - 1 - x + x ≡ s .height - 1 - 0 = omega (arith, w .across) in
     record {
       at = back (s .address) c (s .stride) (s .height - 1 - x) (s .height - 1 - 0) x e;
       above = λ q. back-fits (s .address) c (s .stride) (s .height - 1 - x) (s .height - 1 - 0) x e;
     }
-lies Clockwise h true s x y w =
+lies Rotate90 h true s x y w =
     let c : ℕ = mirrored h (s .width) y * bytesPerPixel (s .format) in
     let e : s .height - 1 - (s .height - 1 - x) ≡ s .height - 1 - (s .height - 1 - 0) + x = omega (arith, w .across) in
     record {
       at = on (s .address) c (s .stride) (s .height - 1 - (s .height - 1 - x)) (s .height - 1 - (s .height - 1 - 0)) x e;
       above = λ q. absurd (false≢true q);
     }
-lies CounterClockwise h false s x y w =
+lies Rotate270 h false s x y w =
     let c : ℕ = mirrored h (s .width) (s .width - 1 - y) * bytesPerPixel (s .format) in
     record {
       at = on (s .address) c (s .stride) x 0 x (omega arith);
       above = λ q. absurd (false≢true q);
     }
-lies CounterClockwise h true s x y w =
+lies Rotate270 h true s x y w =
     let c : ℕ = mirrored h (s .width) (s .width - 1 - y) * bytesPerPixel (s .format) in
     let e : s .height - 1 - x + x ≡ s .height - 1 - 0 = omega (arith, w .across) in
     record {

@@ -7,7 +7,7 @@ use native.Mathlib.Omega.{arith}
 use Rattle.pixel.specs.Formats.{bytesPerPixel}
 use Rattle.transform.specs.Transform.{sourcePixel, mirrored}
 use Rattle.transform.specs.declared.Rotation.{Rotation}
-use Rattle.transform.specs.declared.Rotation.the-variants.{Upright, Clockwise, Half, CounterClockwise}
+use Rattle.transform.specs.declared.Rotation.the-variants.{Rotate0, Rotate90, Rotate180, Rotate270}
 use Rattle.transform.specs.declared.Transform.{Transform}
 use Rattle.transform.proofs.Inside.{mirrored-below}
 use Rattle.surface.specs.Surface.{pixelStart, span}
@@ -17,7 +17,7 @@ use Rattle.rows.specs.Row.{sourcePixelOf}
 use Rattle.rows.specs.Step.{isStraight}
 
 -- not turned, and not flipped from left to right
-module _ (s : Surface) (t : Transform) (upright : t .rotation ≡ Upright) (kept : t .flip .horizontal ≡ false) where
+module _ (s : Surface) (t : Transform) (upright : t .rotation ≡ Rotate0) (kept : t .flip .horizontal ≡ false) where
   -- the pixels of output row y lie side by side
   pub side-by-side : (x y : ℕ) →
       pixelStart s (sourcePixelOf s t x y .x) (sourcePixelOf s t x y .y) ≡ pixelStart s (sourcePixelOf s t 0 y .x) (sourcePixelOf s t 0 y .y) + x * bytesPerPixel (s .format)
@@ -33,12 +33,12 @@ module _ (s : Surface) (t : Transform) (upright : t .rotation ≡ Upright) (kept
       rw (upright, kept)
       (omega (arith, row-in-span s z (mirrored-below (t .flip .vertical) (s .height) y u), mul-le-mul-right (bytesPerPixel (s .format)) w))
 
-pub straight : (t : Transform) → isStraight (t .rotation) (t .flip) ≡ true → (t .rotation ≡ Upright) × (t .flip .horizontal ≡ false)
+pub straight : (t : Transform) → isStraight (t .rotation) (t .flip) ≡ true → (t .rotation ≡ Rotate0) × (t .flip .horizontal ≡ false)
 straight t e = go (t .rotation) (t .flip .horizontal) e
   where
-    go : (r : Rotation) (h : Bool) → isStraight r (record { horizontal = h; vertical = t .flip .vertical }) ≡ true → (r ≡ Upright) × (h ≡ false)
-    go Upright false e = (refl, refl)
-    go Upright true e = absurd (false≢true e)
-    go Clockwise h e = absurd (false≢true e)
-    go Half h e = absurd (false≢true e)
-    go CounterClockwise h e = absurd (false≢true e)
+    go : (r : Rotation) (h : Bool) → isStraight r (record { horizontal = h; vertical = t .flip .vertical }) ≡ true → (r ≡ Rotate0) × (h ≡ false)
+    go Rotate0 false e = (refl, refl)
+    go Rotate0 true e = absurd (false≢true e)
+    go Rotate90 h e = absurd (false≢true e)
+    go Rotate180 h e = absurd (false≢true e)
+    go Rotate270 h e = absurd (false≢true e)

@@ -9,7 +9,7 @@ use Rattle.pixel.specs.Formats.{bytesPerPixel}
 use Rattle.pixel.specs.declared.format.Format.{Format}
 use Rattle.transform.specs.declared.Flip.{Flip}
 use Rattle.transform.specs.declared.Rotation.{Rotation}
-use Rattle.transform.specs.declared.Rotation.the-variants.{Upright, Clockwise, Half, CounterClockwise}
+use Rattle.transform.specs.declared.Rotation.the-variants.{Rotate0, Rotate90, Rotate180, Rotate270}
 use Rattle.surface.specs.declared.Surface.{Surface}
 
 -- x steps on from an address, or back
@@ -18,17 +18,17 @@ stridedAddress start step back x = cond back (start - x * step) (start + x * ste
 
 -- from one source pixel to the next: a pixel's bytes, or where rows have become columns the stride
 abbrev pub pixelStride : Rotation → Surface → ℕ
-pixelStride Upright s = bytesPerPixel (s .format)
-pixelStride Clockwise s = s .stride
-pixelStride Half s = bytesPerPixel (s .format)
-pixelStride CounterClockwise s = s .stride
+pixelStride Rotate0 s = bytesPerPixel (s .format)
+pixelStride Rotate90 s = s .stride
+pixelStride Rotate180 s = bytesPerPixel (s .format)
+pixelStride Rotate270 s = s .stride
 
 -- whether they go back
 abbrev pub isReversed : Rotation → Flip → Bool
-isReversed Upright f = f .horizontal
-isReversed Clockwise f = not (f .vertical)
-isReversed Half f = not (f .horizontal)
-isReversed CounterClockwise f = f .vertical
+isReversed Rotate0 f = f .horizontal
+isReversed Rotate90 f = not (f .vertical)
+isReversed Rotate180 f = not (f .horizontal)
+isReversed Rotate270 f = f .vertical
 
 -- what is asked where pixels are fetched in steps
 pub record StridedFetchInBounds (memory buffer : List ℕ) (start step : ℕ) (back : Bool) (width : ℕ) (f : Format) : Type 0 where
@@ -38,7 +38,7 @@ pub record StridedFetchInBounds (memory buffer : List ℕ) (start step : ℕ) (b
 
 -- output rows are rows of the source, in the same order of pixels
 abbrev pub isStraight : Rotation → Flip → Bool
-isStraight Upright f = not (f .horizontal)
-isStraight Clockwise f = false
-isStraight Half f = false
-isStraight CounterClockwise f = false
+isStraight Rotate0 f = not (f .horizontal)
+isStraight Rotate90 f = false
+isStraight Rotate180 f = false
+isStraight Rotate270 f = false

@@ -33,10 +33,10 @@ pub fn is_straight(transform: Transform) -> bool
     let flip = transform.flip;
     let rotation = transform.rotation;
     match rotation {
-        Rotation::Upright => !flip.horizontal,
-        Rotation::Clockwise => false,
-        Rotation::Half => false,
-        Rotation::CounterClockwise => false,
+        Rotation::Rotate0 => !flip.horizontal,
+        Rotation::Rotate90 => false,
+        Rotation::Rotate180 => false,
+        Rotation::Rotate270 => false,
     }
 }
 
@@ -47,10 +47,10 @@ pub fn is_back(transform: Transform) -> bool
     let flip = transform.flip;
     let rotation = transform.rotation;
     match rotation {
-        Rotation::Upright => flip.horizontal,
-        Rotation::Clockwise => !flip.vertical,
-        Rotation::Half => !flip.horizontal,
-        Rotation::CounterClockwise => flip.vertical,
+        Rotation::Rotate0 => flip.horizontal,
+        Rotation::Rotate90 => !flip.vertical,
+        Rotation::Rotate180 => !flip.horizontal,
+        Rotation::Rotate270 => flip.vertical,
     }
 }
 
@@ -60,10 +60,10 @@ pub fn step_of(s: Surface, rotation: Rotation) -> usize
 {
     let format = s.format;
     match rotation {
-        Rotation::Upright => format.bytes(),
-        Rotation::Clockwise => s.stride as usize,
-        Rotation::Half => format.bytes(),
-        Rotation::CounterClockwise => s.stride as usize,
+        Rotation::Rotate0 => format.bytes(),
+        Rotation::Rotate90 => s.stride as usize,
+        Rotation::Rotate180 => format.bytes(),
+        Rotation::Rotate270 => s.stride as usize,
     }
 }
 

@@ -14,7 +14,7 @@ use Rattle.pixel.specs.Formats.{bytesPerPixel}
 use Rattle.pixel.specs.declared.format.Format.{Format}
 use Rattle.pixel.specs.declared.format.Format.the-variants.{Argb8888, Rgb888, Rgb565}
 use Rattle.transform.specs.declared.Rotation.{Rotation}
-use Rattle.transform.specs.declared.Rotation.the-variants.{Upright, Clockwise, Half, CounterClockwise}
+use Rattle.transform.specs.declared.Rotation.the-variants.{Rotate0, Rotate90, Rotate180, Rotate270}
 use Rattle.transform.specs.declared.Size.{Size}
 use Rattle.surface.specs.Surface.{rowLength, span, DisjointRows}
 use Rattle.surface.specs.Meet.{surfacesOverlap}
@@ -27,12 +27,12 @@ use Rattle.rules.specs.declared.fault.Fault.{Fault}
 use Rattle.rules.specs.declared.fault.Fault.the-variants.{BadSurface, SizeMismatch, OutOfBounds, Overlap}
 use Rattle.rules.specs.declared.task.Bounds.{Bounds}
 use Rattle.rules.specs.declared.task.Check.{Check}
-use Rattle.rules.specs.declared.task.Check.the-variants.{Fine, Wrong}
+use Rattle.rules.specs.declared.task.Check.the-variants.{Valid, Invalid}
 use Rattle.rules.specs.Rules.{isBufferSource, badSide, badSides, badStride, badSource, badOutput, badDestination, badSurface, isUnrotated, rotatedFill, rotatedSourceSize, sameSize, sizeMismatch, commonOf, isWritableSpan, isReadable, outOfBounds, sameFormat, aliases, outputOverlaps, checkTask}
 use Rattle.rules.proofs.Sound.{Sides, Rows, InReach, SoundSource, SoundDestination, Sound}
 
 -- a rule that is not broken, and those after it
-passed : (b : Bool) (f : Fault) (rest : Check) → cond b (Wrong f) rest ≡ Fine → (b ≡ false) × (rest ≡ Fine)
+passed : (b : Bool) (f : Fault) (rest : Check) → cond b (Invalid f) rest ≡ Valid → (b ≡ false) × (rest ≡ Valid)
 passed true f rest e = absurd (let z : _≡_ {A = ℕ} 0 1 = cc in omega arith)
 passed false f rest e = (refl, e)
 
@@ -74,11 +74,11 @@ rows s e f =
 
 -- ---- 26
 
-upright : (r : Rotation) → isUnrotated r ≡ true → r ≡ Upright
-upright Upright e = refl
-upright Clockwise e = absurd (false≢true e)
-upright Half e = absurd (false≢true e)
-upright CounterClockwise e = absurd (false≢true e)
+upright : (r : Rotation) → isUnrotated r ≡ true → r ≡ Rotate0
+upright Rotate0 e = refl
+upright Rotate90 e = absurd (false≢true e)
+upright Rotate180 e = absurd (false≢true e)
+upright Rotate270 e = absurd (false≢true e)
 
 size-by : {w h w′ h′ : ℕ} → w ≡ w′ → h ≡ h′ → _≡_ {A = Size} record { width = w; height = h } record { width = w′; height = h′ }
 size-by p q = cc
@@ -143,7 +143,7 @@ pub record Kept (bounds : Bounds) (t : Task) : Type 0 where
   pub bounded : outOfBounds bounds t ≡ false
   pub separate : outputOverlaps t ≡ false
 
-kept : (bounds : Bounds) (t : Task) → checkTask bounds t ≡ Fine → Kept bounds t
+kept : (bounds : Bounds) (t : Task) → checkTask bounds t ≡ Valid → Kept bounds t
 unfolding checkTask
 kept bounds t e =
     let r25 = passed (badSurface t) BadSurface _ e in
@@ -191,7 +191,7 @@ sound-destination bounds t k on =
     and-last true b c h e = e
     and-last false b c h e = absurd (false≢true h)
 
-pub passes : (bounds : Bounds) (t : Task) → checkTask bounds t ≡ Fine → Sound bounds t
+pub passes : (bounds : Bounds) (t : Task) → checkTask bounds t ≡ Valid → Sound bounds t
 unfolding badSurface badSource badOutput sizeMismatch outOfBounds
 passes bounds t e =
     let k = kept bounds t e in

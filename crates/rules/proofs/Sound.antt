@@ -6,7 +6,7 @@ use mathlib.Core.Bool.{true, false}
 use mathlib.Core.Logic.{_⊎_}
 use mathlib.Core.List.{List, [], _∷_}
 use Rattle.range.specs.declared.Range.{Range}
-use Rattle.transform.specs.declared.Rotation.the-variants.{Upright}
+use Rattle.transform.specs.declared.Rotation.the-variants.{Rotate0}
 use Rattle.surface.specs.Surface.{rowLength, span, DisjointRows}
 use Rattle.surface.specs.declared.Surface.{Surface}
 use Rattle.register.specs.declared.task.Source.{Source}
@@ -54,7 +54,7 @@ pub record SoundDestination (bounds : Bounds) (d : Destination) (output : Surfac
 pub record Sound (bounds : Bounds) (t : Task) : Type 0 where
   pub sides : Sides (t .source .surface)
   pub enabled : t .source .enabled ≡ true
-  pub upright : isBufferSource (t .source) ≡ false → t .source .transform .rotation ≡ Upright
+  pub upright : isBufferSource (t .source) ≡ false → t .source .transform .rotation ≡ Rotate0
   pub source : isBufferSource (t .source) ≡ true → SoundSource bounds (t .source) (t .output)
   pub rows : Rows (t .output)
   pub size : sizeOf (t .output) ≡ rotatedSourceSize (t .source)

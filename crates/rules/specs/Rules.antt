@@ -9,7 +9,7 @@ use Rattle.pixel.specs.Formats.{layoutOf}
 use Rattle.pixel.specs.declared.format.Format.{Format}
 use Rattle.transform.specs.Transform.{rotatedSize}
 use Rattle.transform.specs.declared.Rotation.{Rotation}
-use Rattle.transform.specs.declared.Rotation.the-variants.{Upright, Clockwise, Half, CounterClockwise}
+use Rattle.transform.specs.declared.Rotation.the-variants.{Rotate0, Rotate90, Rotate180, Rotate270}
 use Rattle.transform.specs.declared.Size.{Size}
 use Rattle.surface.specs.Surface.{rowLength, span}
 use Rattle.surface.specs.Meet.{surfacesOverlap}
@@ -21,7 +21,7 @@ use Rattle.register.specs.declared.task.Task.{Task}
 use Rattle.register.specs.Size.{sizeOf}
 use Rattle.rules.specs.declared.task.Bounds.{Bounds}
 use Rattle.rules.specs.declared.task.Check.{Check}
-use Rattle.rules.specs.declared.task.Check.the-variants.{Fine, Wrong}
+use Rattle.rules.specs.declared.task.Check.the-variants.{Valid, Invalid}
 use Rattle.rules.specs.declared.fault.Fault.the-variants.{BadSurface, SizeMismatch, OutOfBounds, Overlap}
 
 -- the source is read from memory
@@ -59,10 +59,10 @@ badSurface t = badSource (t .source) || badOutput (t .output) || (t .blending .o
 -- ---- 26
 
 abbrev pub isUnrotated : Rotation → Bool
-isUnrotated Upright = true
-isUnrotated Clockwise = false
-isUnrotated Half = false
-isUnrotated CounterClockwise = false
+isUnrotated Rotate0 = true
+isUnrotated Rotate90 = false
+isUnrotated Rotate180 = false
+isUnrotated Rotate270 = false
 
 -- a turn in colour mode
 abbrev pub rotatedFill : Source → Bool
@@ -121,8 +121,8 @@ outputOverlaps t =
 
 unfoldable pub checkTask : Bounds → Task → Check
 checkTask bounds t =
-    cond (badSurface t) (Wrong BadSurface)
-    (cond (sizeMismatch t) (Wrong SizeMismatch)
-    (cond (outOfBounds bounds t) (Wrong OutOfBounds)
-    (cond (outputOverlaps t) (Wrong Overlap)
-    Fine)))
+    cond (badSurface t) (Invalid BadSurface)
+    (cond (sizeMismatch t) (Invalid SizeMismatch)
+    (cond (outOfBounds bounds t) (Invalid OutOfBounds)
+    (cond (outputOverlaps t) (Invalid Overlap)
+    Valid)))

@@ -20,8 +20,8 @@ pub struct Bounds {
 
 // What is wrong with a task.
 pub enum Check {
-    Fine,
-    Wrong(Fault),
+    Valid,
+    Invalid(Fault),
 }
 
 fn bad_side(side: u16) -> bool
@@ -71,10 +71,10 @@ fn is_upright(rotation: Rotation) -> bool
     ensures { λ r. ⌜ r ≡ isUnrotated rotation ⌝ }
 {
     match rotation {
-        Rotation::Upright => true,
-        Rotation::Clockwise => false,
-        Rotation::Half => false,
-        Rotation::CounterClockwise => false,
+        Rotation::Rotate0 => true,
+        Rotation::Rotate90 => false,
+        Rotation::Rotate180 => false,
+        Rotation::Rotate270 => false,
     }
 }
 
@@ -174,16 +174,16 @@ pub fn check_task(bounds: Bounds, t: Task) -> Check
     ensures { λ r. ⌜ r ≡ checkTask bounds t ⌝ }
 {
     if bad_surface(t) {
-        return Check::Wrong(Fault::BadSurface);
+        return Check::Invalid(Fault::BadSurface);
     }
     if size_mismatch(t) {
-        return Check::Wrong(Fault::SizeMismatch);
+        return Check::Invalid(Fault::SizeMismatch);
     }
     if out_of_bounds(bounds, t) {
-        return Check::Wrong(Fault::OutOfBounds);
+        return Check::Invalid(Fault::OutOfBounds);
     }
     if overlaps(t) {
-        return Check::Wrong(Fault::Overlap);
+        return Check::Invalid(Fault::Overlap);
     }
-    Check::Fine
+    Check::Valid
 }

@@ -71,7 +71,7 @@ fn fetch_straight(
     transform: Transform,
     y: usize,
 )
-    requires { ⌜ (FetchInBounds (now memory) (now buffer) s (transform .rotation) y width) × (transform .rotation ≡ Rotation.Upright) × (transform .flip .horizontal ≡ false) ⌝ }
+    requires { ⌜ (FetchInBounds (now memory) (now buffer) s (transform .rotation) y width) × (transform .rotation ≡ Rotation.Rotate0) × (transform .flip .horizontal ≡ false) ⌝ }
     ensures { λ _. ⌜ HoldsColours (now (buffer .exit)) width (λ x. colourAt s (now (memory .entry)) (sourcePixelOf s transform x y)) ⌝ }
 {
     // a row of no pixels has no first one

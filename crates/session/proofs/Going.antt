@@ -15,9 +15,9 @@ use Rattle.session.specs.declared.script.Found.{Found}
 use Rattle.session.specs.declared.script.Next.{Next}
 use Rattle.session.specs.declared.script.Next.the-variants.{End, Call as Begins}
 use Rattle.session.specs.Script.{parsed, parseCall, decode}
-use Rattle.session.specs.Requests.{callOf, ParsesAs}
+use Rattle.session.specs.Parsing.{callOf, ParsesAs}
 use Rattle.session.specs.Answers.{answerWords, answerBytes}
-use Rattle.session.specs.Called.{CallMatches, CallsMatch}
+use Rattle.session.specs.Contracts.{CallMatches, CallsMatch}
 
 -- ---- an answer has six words
 

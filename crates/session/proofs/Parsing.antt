@@ -10,7 +10,7 @@ use Rattle.session.specs.declared.script.Request.the-variants.{Open, Sub
 use Rattle.session.specs.declared.script.Next.the-variants.{End, Call as Begins}
 use Rattle.model.specs.Calls.{opens, submit, pending}
 use Rattle.session.specs.Script.{parsed, parseOpen, parseSubmit, parseRun, parsePending, parseCall}
-use Rattle.session.specs.Requests.{ParsesAs}
+use Rattle.session.specs.Parsing.{ParsesAs}
 
 module _ (bytes : List ℕ) where
   pub open-short : length bytes < 9 → ParsesAs bytes (parseOpen bytes) End

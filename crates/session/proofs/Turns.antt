@@ -14,9 +14,9 @@ use Rattle.model.specs.Calls.{opens, submit, run, pending, opened, accepted, re
 use Rattle.claims.specs.Engine.{mkState, performCall}
 use Rattle.session.specs.declared.script.Request.{Request}
 use Rattle.session.specs.declared.script.Request.the-variants.{Submit}
-use Rattle.session.specs.Requests.{BatchInBounds}
+use Rattle.session.specs.Parsing.{BatchInBounds}
 use Rattle.session.specs.Answers.{answerWords}
-use Rattle.session.specs.Called.{CallMatches}
+use Rattle.session.specs.Contracts.{CallMatches}
 use Rattle.session.proofs.Numbers.{told-words, run-words}
 
 opened-words : (v : ℕ) → answerWords (opened v) ≡ twoWords 0 v

@@ -20,13 +20,13 @@ use Rattle.queue.specs.Calls.{setUpResult}
 use Rattle.queue.specs.Refusals.{firstRefusal, setUpTable}
 use Rattle.model.specs.Calls.{Setup, Call}
 use Rattle.model.specs.Model.{answers, after, modelAfterAll}
-use Rattle.claims.specs.OfModel.{batchSemantics}
+use Rattle.claims.specs.ModelProperties.{batchSemantics}
 use Rattle.claims.specs.Engine.{State, mkState, answersOf, stateAfter, initialState}
 use Rattle.claims.proofs.Theorem.{promise}
 use Rattle.session.specs.Script.{decode}
 use Rattle.answers.specs.Answers.{twoWords}
 use Rattle.session.specs.Answers.{answerBytes}
-use Rattle.session.specs.Called.{CallsMatch}
+use Rattle.session.specs.Contracts.{CallsMatch}
 use Rattle.session.specs.Played.{setUpNumber, playedCalls, answerOutput, memoryAfter, ringAfter, ScriptResult}
 use Rattle.session.proofs.Going.{rest-is, decode-none}
 

@@ -13,7 +13,7 @@ use Rattle.answers.specs.Answers.{twoWords}
 use Rattle.model.specs.Calls.{Setup, Call}
 use Rattle.model.specs.State.{initialModel}
 use Rattle.model.specs.Model.{answers, modelAfterAll}
-use Rattle.claims.specs.OfModel.{batchSemantics}
+use Rattle.claims.specs.ModelProperties.{batchSemantics}
 use Rattle.claims.specs.Engine.{stateAfter, initialState}
 use Rattle.session.specs.Script.{decode}
 use Rattle.session.specs.Answers.{answerBytes}

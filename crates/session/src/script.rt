@@ -1,6 +1,6 @@
 // The calls of a script, one at a time.
 ghost use Rattle.session.specs.Script.{parseOpen, parseSubmit, parsePending, parseCall};
-ghost use Rattle.session.specs.Requests.{ParsesAs};
+ghost use Rattle.session.specs.Parsing.{ParsesAs};
 
 // A call, taken from bytes that begin with it. A batch is the bytes `from` to `to` of them.
 pub enum Request {

@@ -11,7 +11,7 @@ use Rattle.pixel.specs.declared.format.Format.the-variants.{Argb8888}
 use Rattle.pixel.specs.declared.blend.AlphaMode.the-variants.{Pixel}
 use Rattle.pixel.specs.declared.blend.RuleName.the-variants.{SrcOver}
 use Rattle.pixel.specs.Rules.{blendModeFactors}
-use Rattle.transform.specs.declared.Rotation.the-variants.{Upright}
+use Rattle.transform.specs.declared.Rotation.the-variants.{Rotate0}
 use Rattle.register.specs.declared.bank.Bank.{Bank}
 use Rattle.register.specs.declared.task.Alpha.{Alpha}
 use Rattle.register.specs.declared.task.Source.{Source}
@@ -38,7 +38,7 @@ tintSource tint coverage output = record {
   surface = record { address = 0; stride = 0; width = output .width; height = output .height; format = Argb8888 };
   mode = Colour;
   colour = tintColour tint coverage;
-  transform = record { flip = record { horizontal = false; vertical = false }; rotation = Upright };
+  transform = record { flip = record { horizontal = false; vertical = false }; rotation = Rotate0 };
   alpha = ownAlpha;
   enabled = true;
 }

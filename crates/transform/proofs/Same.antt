@@ -6,7 +6,7 @@ use Prim.Native.Nat.{ℕ, _+_, _-_, _*_, _<_}
 use native.Mathlib.Omega.{arith}
 use lib.Dec.{lit<}
 use Rattle.transform.specs.declared.Rotation.{Rotation}
-use Rattle.transform.specs.declared.Rotation.the-variants.{Upright, Clockwise, Half, CounterClockwise}
+use Rattle.transform.specs.declared.Rotation.the-variants.{Rotate0, Rotate90, Rotate180, Rotate270}
 use Rattle.transform.specs.declared.Transform.{Transform}
 use Rattle.transform.specs.declared.Size.{Size}
 use Rattle.transform.specs.declared.Point.{Point}
@@ -22,7 +22,7 @@ use Rattle.transform.proofs.Settings.{tells}
 
 -- both flips and half a turn leave every pixel where it is
 abbrev over : Transform
-over = record { flip = record { horizontal = true; vertical = true }; rotation = Half }
+over = record { flip = record { horizontal = true; vertical = true }; rotation = Rotate180 }
 
 over-stays : (s : Size) (p : Point) → InPicture s p → sourcePixel over s p ≡ p
 unfolding sourcePixel
@@ -38,7 +38,7 @@ over-opposite = one opposite (compose over) tt
 
 opposite-size : (t : Transform) (s : Size) → rotatedSize (opposite t .rotation) s ≡ rotatedSize (t .rotation) s
 unfolding opposite
-opposite-size t s = added-size Half (t .rotation) s
+opposite-size t s = added-size Rotate180 (t .rotation) s
 
 opposite-source : (t : Transform) (s : Size) (p : Point) → InPicture (rotatedSize (t .rotation) s) p → sourcePixel (opposite t) s p ≡ sourcePixel t s p
 opposite-source t s p h =
@@ -71,10 +71,10 @@ told a b e f = tells seen tt a b (ap₂ (λ (p q : Point). at p + 4 * at q) e f)
 
 -- turned, it is again 2 by 2
 pub turned-square : (r : Rotation) → rotatedSize r square ≡ square
-turned-square Upright = refl
-turned-square Clockwise = refl
-turned-square Half = refl
-turned-square CounterClockwise = refl
+turned-square Rotate0 = refl
+turned-square Rotate90 = refl
+turned-square Rotate180 = refl
+turned-square Rotate270 = refl
 
 square-within : (r : Rotation) (x : ℕ) → x < 2 → InPicture (rotatedSize r square) (place x)
 square-within r x l = rw (turned-square r) (record { across = l; down = lit< tt })

@@ -5,7 +5,7 @@ ghost use Rattle.ring.specs.Segment.{batchWords};
 ghost use Rattle.batch.specs.Batch.{decodeBatch, verdictOf};
 ghost use Rattle.raster.specs.Task.{drawTask, drawTasks};
 ghost use Rattle.raster.specs.Batch.{drawBatch};
-ghost use Rattle.raster.specs.Clear.{Drawable, BoundsInMemory};
+ghost use Rattle.raster.specs.Preconditions.{Drawable, BoundsInMemory};
 ghost use Rattle.raster.specs.Row.{RowBuffers};
 use batch::Step;
 use batch::Verdict;

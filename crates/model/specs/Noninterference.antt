@@ -6,7 +6,7 @@ use Prim.Native.Nat.{ℕ}
 use lib.ListN.{length}
 use Rattle.model.specs.Windows.{byte}
 use Rattle.model.specs.Calls.{Setup, Call, submit, CompletionStatus, Answer, completed}
-use Rattle.model.specs.Drawing.{BatchSemantics}
+use Rattle.model.specs.BatchSemantics.{BatchSemantics}
 use Rattle.model.specs.State.{Owns}
 use Rattle.model.specs.Model.{modelAfterAll}
 

@@ -16,7 +16,7 @@ use Rattle.pixel.specs.Colours.{unpacked, packed}
 use Rattle.pixel.specs.Alpha.{effectiveAlpha}
 use Rattle.pixel.specs.Blending.{blended}
 use Rattle.pixel.specs.Rules.{blendModeFactors}
-use Rattle.transform.specs.declared.Rotation.the-variants.{Clockwise}
+use Rattle.transform.specs.declared.Rotation.the-variants.{Rotate90}
 use Rattle.transform.specs.declared.Transform.{Transform}
 use Rattle.transform.specs.declared.Size.{Size}
 use Rattle.transform.specs.declared.Point.{Point}
@@ -66,8 +66,8 @@ shade c = c .red ∷ c .alpha ∷ []
 abbrev pub turned : (flipped : Bool) → (p q : ℕ) → List ℕ
 turned flipped p q =
     let size : Size = record { width = 2; height = 1 } in
-    let setting : Transform = record { flip = record { horizontal = flipped; vertical = false }; rotation = Clockwise } in
-    let out : Size = rotatedSize Clockwise size in
+    let setting : Transform = record { flip = record { horizontal = flipped; vertical = false }; rotation = Rotate90 } in
+    let out : Size = rotatedSize Rotate90 size in
     let from : ℕ → Point = λ y. sourcePixel setting size (record { x = 0; y = y }) in
     let at : ℕ → ℕ = λ y. getD (p ∷ q ∷ []) (from y .y * 2 + from y .x) 0 in
     out .width ∷ out .height ∷ at 0 ∷ at 1 ∷ []

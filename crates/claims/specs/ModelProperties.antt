@@ -1,14 +1,14 @@
 -- The reference model at the real definitions of reading, judging and drawing: what holds of it over any list of calls. The words are those
--- of crate model, specs/Claims. No premise is left over.
+-- of crate model, specs/Properties. No premise is left over.
 use mathlib.Core.List.{List}
 use Prim.Native.Nat.{ℕ}
 use Rattle.register.specs.Bank.{resetBank}
 use Rattle.model.specs.Calls.{Setup, Call}
-use Rattle.model.specs.Drawing.{BatchSemantics}
+use Rattle.model.specs.BatchSemantics.{BatchSemantics}
 use Rattle.model.specs.State.{Model}
-use Rattle.model.specs.TwoRuns.{LowEquivalent}
-use Rattle.model.specs.Claims.{Isolation, Noninterference, WindowStable, FifoOrder, BoundedWaiting, RefusalNoOp}
-use Rattle.claims.specs.Way.{semanticsFrom}
+use Rattle.model.specs.Noninterference.{LowEquivalent}
+use Rattle.model.specs.Properties.{Isolation, Noninterference, WindowStable, FifoOrder, BoundedWaiting, RefusalNoOp}
+use Rattle.claims.specs.BatchSemantics.{semanticsFrom}
 
 -- the reset value of 01
 abbrev pub batchSemantics : BatchSemantics

@@ -7,12 +7,12 @@ use Prim.Native.Nat.{ℕ, suc, _%_, _≤_, _<_}
 use lib.ListN.{length, take}
 use Rattle.model.specs.Windows.{Window, byte}
 use Rattle.model.specs.Calls.{Setup, Call, opens, submit, run, CompletionStatus, opened, accepted, completed, refused, completions}
-use Rattle.model.specs.Drawing.{BatchSemantics, Confined}
+use Rattle.model.specs.BatchSemantics.{BatchSemantics, Confined}
 use Rattle.model.specs.State.{Batch, batch, Model, initialModel, isOpen, windowOf, Owns, takenSlots, takenBytes}
 use Rattle.model.specs.Model.{Step, step, answers, after, executed, modelAfterAll}
-use Rattle.model.specs.Alone.{replayedAlone}
+use Rattle.model.specs.ReplayedAlone.{replayedAlone}
 use Rattle.model.specs.Order.{SameSequences, submitted, SameOutcome, Exchanged, ByHand}
-use Rattle.model.specs.TwoRuns.{Pointwise, LowEqualAnswer, LowEquivalent}
+use Rattle.model.specs.Noninterference.{Pointwise, LowEqualAnswer, LowEquivalent}
 
 -- The batches' tickets are n, n + 1, .., modulo 4,294,967,296 (01, "Engine, desks, queue": "Accepted batches get tickets 0, 1, 2, ..").
 abbrev pub ConsecutiveTickets : ℕ → List Batch → Type 0

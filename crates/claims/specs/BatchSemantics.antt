@@ -10,7 +10,7 @@ use Rattle.batch.specs.Batch.{decodeBatch, verdictOf, statusWordOf, faultNumber
 use Rattle.raster.specs.Batch.{drawBatch}
 use Rattle.model.specs.Windows.{Window}
 use Rattle.model.specs.Calls.{CompletionStatus as Numbers}
-use Rattle.model.specs.Drawing.{BatchSemantics}
+use Rattle.model.specs.BatchSemantics.{BatchSemantics}
 
 -- what a client may touch: its window, and the first `common` bytes of memory
 abbrev pub boundsOf : Window → ℕ → Bounds
