@@ -79,8 +79,8 @@ fn run_refusal(engine: Record, ring: usize, memory: usize) -> u32
     let slots = engine.slots;
     let lent = !(ring == setup.ring) | !(memory == setup.memory);
     let none = record::taken_slots(slots) == 0;
-    let no10 = queue::first_of(lent, 10, queue::first_of(none, 9, 0));
-    queue::first_of(!record::is_valid(engine), 11, no10)
+    let no10 = queue::first_refusal(lent, 10, queue::first_refusal(none, 9, 0));
+    queue::first_refusal(!record::is_valid(engine), 11, no10)
 }
 
 // The bytes of a client's window.
@@ -123,11 +123,11 @@ fn lower(clients: [Client; 4], client: u32) -> [Client; 4]
 }
 
 // The slot of the oldest batch.
-fn oldest_place(engine: Record) -> usize
+fn oldest_slot(engine: Record) -> usize
     ensures { λ r. ⌜ (r ≡ slotOfTicket (oldestTicket engine) (engine .slots)) × (length (engine .slots) ≡ 8) ⌝ }
 {
     let slots = engine.slots;
-    record::place_of(slots, engine.next, record::taken_slots(slots))
+    record::slot_of_age(slots, engine.next, record::taken_slots(slots))
 }
 
 // The slots with one of them free.
@@ -174,7 +174,7 @@ pub fn run_by(engine: Record, ring: &[u8], memory: &mut [u8], slow: bool) -> Ran
         };
     }
     let slots = engine.slots;
-    let at = oldest_place(engine);
+    let at = oldest_slot(engine);
     let batch = record::batch_of(slots[at]);
     let bounds = bounds_for(engine, batch.client);
     let verdict = walk::run_batch(

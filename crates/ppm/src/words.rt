@@ -61,7 +61,7 @@ fn small(byte: u8) -> u8
 }
 
 // Whether a text is a word of small letters, itself in letters of either kind.
-fn is_word(text: &[u8], word: &[u8]) -> bool
+fn equals_ignoring_case(text: &[u8], word: &[u8]) -> bool
     ensures { λ r. ⌜ r ≡ equalsIgnoringCase (now (text .entry)) (now (word .entry)) ⌝ }
 {
     if text.len() != word.len() {
@@ -80,13 +80,13 @@ fn is_word(text: &[u8], word: &[u8]) -> bool
 pub fn format_named(text: &[u8]) -> Named
     ensures { λ r. ⌜ r ≡ formatNamed (now (text .entry)) ⌝ }
 {
-    if is_word(text, b"argb8888") {
+    if equals_ignoring_case(text, b"argb8888") {
         return Named::Known(Format::Argb8888);
     }
-    if is_word(text, b"rgb888") {
+    if equals_ignoring_case(text, b"rgb888") {
         return Named::Known(Format::Rgb888);
     }
-    if is_word(text, b"rgb565") {
+    if equals_ignoring_case(text, b"rgb565") {
         return Named::Known(Format::Rgb565);
     }
     Named::Unknown

@@ -33,7 +33,7 @@ pub struct Reply {
 }
 
 // A row of the table, and what the rows after it say.
-pub fn first_of(holds: bool, number: u32, rest: u32) -> u32
+pub fn first_refusal(holds: bool, number: u32, rest: u32) -> u32
     ensures { λ r. ⌜ r ≡ cond holds number rest ⌝ }
 {
     if holds { number } else { rest }
@@ -67,8 +67,8 @@ fn fresh_record(setup: Setup) -> Record
 fn set_up_refusal(setup: Setup) -> u32
     ensures { λ r. ⌜ r ≡ firstRefusal (setUpTable setup) ⌝ }
 {
-    let no2 = first_of(record::bad_memory(setup), 2, 0);
-    first_of(record::bad_ring(setup), 1, no2)
+    let no2 = first_refusal(record::bad_memory(setup), 2, 0);
+    first_refusal(record::bad_ring(setup), 1, no2)
 }
 
 // Set up with the lengths of ring, memory and common.
@@ -108,7 +108,7 @@ fn open_refusal(engine: Record, w: Window) -> u32
     let clients = engine.clients;
     let opened = engine.opened;
     let bad = record::bad_window(setup, clients, 0, opened, w);
-    first_of(4 <= opened, 3, first_of(bad, 4, 0))
+    first_refusal(4 <= opened, 3, first_refusal(bad, 4, 0))
 }
 
 fn with_client(engine: Record, w: Window) -> Record
@@ -178,11 +178,11 @@ fn submit_refusal(engine: Record, given: usize, client: u32, size: usize) -> u32
     let ring = setup.ring;
     let slots = engine.slots;
     let taken = record::taken_slots(slots);
-    let no8 = first_of(free_bytes(engine) < size, 8, 0);
-    let no7 = first_of(8 <= taken, 7, no8);
-    let no6 = first_of(record::bad_length(ring, size), 6, no7);
-    let no5 = first_of(!record::is_open(engine, client), 5, no6);
-    first_of(!(given == ring), 10, no5)
+    let no8 = first_refusal(free_bytes(engine) < size, 8, 0);
+    let no7 = first_refusal(8 <= taken, 7, no8);
+    let no6 = first_refusal(record::bad_length(ring, size), 6, no7);
+    let no5 = first_refusal(!record::is_open(engine, client), 5, no6);
+    first_refusal(!(given == ring), 10, no5)
 }
 
 // One batch more pending for a client.
@@ -279,8 +279,8 @@ fn pending_at(clients: [Client; 4], client: u32) -> u32
 fn pending_refusal(engine: Record, client: u32) -> u32
     ensures { λ r. ⌜ r ≡ firstRefusal (pendingTable engine client) ⌝ }
 {
-    let no5 = first_of(!record::is_open(engine, client), 5, 0);
-    first_of(!record::is_valid(engine), 11, no5)
+    let no5 = first_refusal(!record::is_open(engine, client), 5, 0);
+    first_refusal(!record::is_valid(engine), 11, no5)
 }
 
 // How many batches of a client are ready.

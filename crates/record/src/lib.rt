@@ -88,7 +88,7 @@ fn is_free(slot: Slot) -> bool
     }
 }
 
-fn ready_one(slot: Slot) -> usize
+fn ready_in_slot(slot: Slot) -> usize
     ensures { λ r. ⌜ (r ≡ length (consIfReady (slot .state) [])) × (r ≤ 1) ⌝ }
 {
     let state = slot.state;
@@ -98,7 +98,7 @@ fn ready_one(slot: Slot) -> usize
     }
 }
 
-fn bytes_one(slot: Slot) -> usize
+fn bytes_in_slot(slot: Slot) -> usize
     ensures { λ r. ⌜ r ≡ totalLength (consIfReady (slot .state) []) ⌝ }
 {
     let state = slot.state;
@@ -108,7 +108,7 @@ fn bytes_one(slot: Slot) -> usize
     }
 }
 
-fn owned_one(slot: Slot, client: u32) -> usize
+fn owned_in_slot(slot: Slot, client: u32) -> usize
     ensures { λ r. ⌜ (r ≡ countOf client (consIfReady (slot .state) [])) × (r ≤ 1) ⌝ }
 {
     let state = slot.state;
@@ -159,7 +159,7 @@ pub fn taken_slots(slots: [Slot; 8]) -> usize
     let mut n: usize = 0;
     let mut i: usize = 0;
     while i < 8 {
-        n += ready_one(slots[i]);
+        n += ready_in_slot(slots[i]);
         i += 1;
     }
     n
@@ -173,7 +173,7 @@ pub fn taken_bytes(slots: [Slot; 8]) -> usize
     let mut n: usize = 0;
     let mut i: usize = 0;
     while i < 8 {
-        n += bytes_one(slots[i]);
+        n += bytes_in_slot(slots[i]);
         i += 1;
     }
     n
@@ -186,7 +186,7 @@ fn count_of(slots: [Slot; 8], client: u32) -> usize
     let mut n: usize = 0;
     let mut i: usize = 0;
     while i < 8 {
-        n += owned_one(slots[i], client);
+        n += owned_in_slot(slots[i], client);
         i += 1;
     }
     n
@@ -207,7 +207,7 @@ pub fn lowest_free(slots: [Slot; 8]) -> usize
 }
 
 // The slot of the batch whose ticket was given k before the next one, 8 if there is none.
-pub fn place_of(slots: [Slot; 8], next: u32, k: usize) -> usize
+pub fn slot_of_age(slots: [Slot; 8], next: u32, k: usize) -> usize
     requires { ⌜ k ≤ 8 ⌝ }
     ensures { λ r. ⌜ r ≡ slotOfTicket (ticketBefore next k) slots ⌝ }
 {
@@ -229,7 +229,7 @@ pub fn wrap(ring: usize, offset: usize) -> usize
 }
 
 // Whether some of the bytes are in a window of the clients at the places `from` up to `n`.
-fn shares_any(clients: [Client; 4], from: usize, n: usize, bytes: Range) -> bool
+fn overlaps_any(clients: [Client; 4], from: usize, n: usize, bytes: Range) -> bool
     requires { ⌜ n ≤ 4 ⌝ }
     ensures { λ r. ⌜ r ≡ overlapsAny bytes (windowsOf (drop from (take n clients))) ⌝ }
 {
@@ -259,11 +259,11 @@ pub fn bad_window(setup: Setup, clients: [Client; 4], from: usize, n: usize, w: 
         start: 0,
         end: setup.common,
     };
-    let crowded = shares_any(clients, from, n, mine);
+    let crowded = overlaps_any(clients, from, n, mine);
     (w.length == 0) | !mine.is_inside(memory) | mine.shares(common) | crowded
 }
 
-fn none_bad(setup: Setup, clients: [Client; 4], n: usize) -> bool
+fn windows_valid(setup: Setup, clients: [Client; 4], n: usize) -> bool
     requires { ⌜ n ≤ 4 ⌝ }
     ensures { λ r. ⌜ r ≡ windowsValid setup (windowsOf (take n clients)) ⌝ }
 {
@@ -280,7 +280,7 @@ fn none_bad(setup: Setup, clients: [Client; 4], n: usize) -> bool
 }
 
 // Whether each open client's count is that of its ready batches.
-fn counts_right(clients: [Client; 4], n: usize, slots: [Slot; 8]) -> bool
+fn pending_counts_match(clients: [Client; 4], n: usize, slots: [Slot; 8]) -> bool
     requires { ⌜ n ≤ 4 ⌝ }
     ensures { λ r. ⌜ r ≡ pendingCountsMatch 0 (take n clients) (readyBatches slots) ⌝ }
 {
@@ -312,7 +312,7 @@ fn fits_in(ring: usize, offset: usize, room: usize, owned: bool, b: Batch) -> bo
 }
 
 // Whether the ready batches, from the oldest on, lie end to end from the read offset and keep their other rules.
-fn line_up(engine: Record) -> bool
+fn batches_valid(engine: Record) -> bool
     requires { ⌜ (engine .setup .ring ≤ 32768) × (engine .read < engine .setup .ring) ⌝ }
     ensures { λ r. ⌜ r ≡ batchRules engine ⌝ }
 {
@@ -324,7 +324,7 @@ fn line_up(engine: Record) -> bool
     let mut offset = engine.read;
     let mut room = ring;
     while 0 < k {
-        let i = place_of(slots, next, k);
+        let i = slot_of_age(slots, next, k);
         if 8 <= i {
             return false;
         }
@@ -341,7 +341,7 @@ fn line_up(engine: Record) -> bool
     true
 }
 
-fn numbers_right(engine: Record) -> bool
+fn numbers_valid(engine: Record) -> bool
     ensures { λ r. ⌜ r ≡ numberRules engine ⌝ }
 {
     let setup = engine.setup;
@@ -354,15 +354,15 @@ fn numbers_right(engine: Record) -> bool
 pub fn is_valid(engine: Record) -> bool
     ensures { λ r. ⌜ r ≡ valid engine ⌝ }
 {
-    if !numbers_right(engine) {
+    if !numbers_valid(engine) {
         return false;
     }
     let setup = engine.setup;
     let clients = engine.clients;
     let opened = engine.opened;
     let slots = engine.slots;
-    let windows = none_bad(setup, clients, opened);
-    let batches = line_up(engine);
-    let counts = counts_right(clients, opened, slots);
+    let windows = windows_valid(setup, clients, opened);
+    let batches = batches_valid(engine);
+    let counts = pending_counts_match(clients, opened, slots);
     windows & batches & counts
 }

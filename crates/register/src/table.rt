@@ -18,7 +18,7 @@ pub enum Kind {
     NotWritable,
 }
 
-fn source_takes(word: u32) -> bool
+fn source_control_accepts(word: u32) -> bool
     ensures { λ r. ⌜ r ≡ sourceControlAccepts word ⌝ }
 {
     AlphaMode::is_code(bits(word, 23, 22))
@@ -108,7 +108,7 @@ impl Kind {
         ensures { λ r. ⌜ r ≡ takesWord self word ⌝ }
     {
         match self {
-            Kind::SourceControl => source_takes(word),
+            Kind::SourceControl => source_control_accepts(word),
             Kind::DestinationControl => destination_takes(word),
             Kind::OutputControl => output_takes(word),
             Kind::Size => size_takes(word),

@@ -25,15 +25,15 @@ reach-holds bounds r (inr w) i h = inr (within-holds r (commonOf bounds) w i h)
 
 module _ (bounds : Bounds) (t : Task) (s : Sound bounds t) where
   -- a byte that the task writes is one of the window's
-  pub written-in-window : (i y j : ℕ) → InRow (t .output) i y j → Contains (bounds .window) i
-  written-in-window i y j r = within-holds (span (t .output)) (bounds .window) (s .within) i (byte-in-span (t .output) i y j r)
+  pub written-is-writable-span : (i y j : ℕ) → InRow (t .output) i y j → Contains (bounds .window) i
+  written-is-writable-span i y j r = within-holds (span (t .output)) (bounds .window) (s .within) i (byte-in-span (t .output) i y j r)
 
   -- a byte that it reads of the source is one of the window's or of common's
-  pub source-in-reach : isBufferSource (t .source) ≡ true → (i y j : ℕ) → InRow (t .source .surface) i y j → Contains (bounds .window) i ⊎ Contains (commonOf bounds) i
-  source-in-reach on i y j r =
+  pub source-is-readable : isBufferSource (t .source) ≡ true → (i y j : ℕ) → InRow (t .source .surface) i y j → Contains (bounds .window) i ⊎ Contains (commonOf bounds) i
+  source-is-readable on i y j r =
       reach-holds bounds (span (t .source .surface)) (s .source on .reach) i (byte-in-span (t .source .surface) i y j r)
 
   -- a byte that it reads of the destination lies so too
-  pub destination-in-reach : t .blending .on ≡ true → (i y j : ℕ) → InRow (t .destination .surface) i y j → Contains (bounds .window) i ⊎ Contains (commonOf bounds) i
-  destination-in-reach on i y j r =
+  pub destination-is-readable : t .blending .on ≡ true → (i y j : ℕ) → InRow (t .destination .surface) i y j → Contains (bounds .window) i ⊎ Contains (commonOf bounds) i
+  destination-is-readable on i y j r =
       reach-holds bounds (span (t .destination .surface)) (s .destination on .reach) i (byte-in-span (t .destination .surface) i y j r)

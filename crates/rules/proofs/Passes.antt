@@ -90,8 +90,8 @@ same-size a b e =
 
 -- ---- 27
 
-in-reach : (bounds : Bounds) (s : Surface) → isReadable bounds s ≡ true → InReach bounds (span s)
-in-reach bounds s e = go (isWritableSpan bounds s) refl
+is-readable : (bounds : Bounds) (s : Surface) → isReadable bounds s ≡ true → InReach bounds (span s)
+is-readable bounds s e = go (isWritableSpan bounds s) refl
   where
     go : (b : Bool) → isWritableSpan bounds s ≡ b → InReach bounds (span s)
     go true w = inl (inside-ends (span s) (bounds .window) w)
@@ -163,7 +163,7 @@ sound-source bounds t k on =
     let r28 = or-false (isBufferSource (t .source) && surfacesOverlap s (t .output)) _ (k .separate) in
     record {
       rows = rows s (own .0) (and-false (isBufferSource (t .source)) (badStride s) on (own .1));
-      reach = in-reach bounds s (not-false (isReadable bounds s) (and-false (isBufferSource (t .source)) (not (isReadable bounds s)) on (r27 .0)));
+      reach = is-readable bounds s (not-false (isReadable bounds s) (and-false (isBufferSource (t .source)) (not (isReadable bounds s)) on (r27 .0)));
       separate = separate s (t .output) (and-false (isBufferSource (t .source)) (surfacesOverlap s (t .output)) on (r28 .0));
     }
 
@@ -183,7 +183,7 @@ sound-destination bounds t k on =
       rows = rows d (own .0) (own .1);
       enabled = not-false (t .destination .enabled) (own .2);
       size = z;
-      reach = in-reach bounds d (not-false (isReadable bounds d) (and-false b (not (isReadable bounds d)) on (r27 .2)));
+      reach = is-readable bounds d (not-false (isReadable bounds d) (and-false b (not (isReadable bounds d)) on (r27 .2)));
       separate = separate-or-same d (t .output) (and-last b (surfacesOverlap d (t .output)) (not (aliases d (t .output))) on (r28 .1)) z;
     }
   where

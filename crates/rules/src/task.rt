@@ -67,7 +67,7 @@ fn bad_surface(t: Task) -> bool
     bad_source(t.source) | bad_output(t.output) | (t.blending.on & bad_destination(t.destination))
 }
 
-fn is_upright(rotation: Rotation) -> bool
+fn is_unrotated(rotation: Rotation) -> bool
     ensures { λ r. ⌜ r ≡ isUnrotated rotation ⌝ }
 {
     match rotation {
@@ -79,13 +79,13 @@ fn is_upright(rotation: Rotation) -> bool
 }
 
 // A colour has no direction, so nothing can be turned.
-fn turned_colour(s: Source) -> bool
+fn rotated_fill(s: Source) -> bool
     ensures { λ r. ⌜ r ≡ rotatedFill s ⌝ }
 {
     let mode = s.mode;
     let transform = s.transform;
     let rotation = transform.rotation;
-    !mode.is_buffer() & !is_upright(rotation)
+    !mode.is_buffer() & !is_unrotated(rotation)
 }
 
 fn size_of(s: Surface) -> Size
@@ -97,7 +97,7 @@ fn size_of(s: Surface) -> Size
     }
 }
 
-fn turned_size(s: Source) -> Size
+fn rotated_source_size(s: Source) -> Size
     ensures { λ r. ⌜ r ≡ rotatedSourceSize s ⌝ }
 {
     let transform = s.transform;
@@ -114,21 +114,21 @@ fn same_size(a: Size, b: Size) -> bool
 fn size_mismatch(t: Task) -> bool
     ensures { λ r. ⌜ r ≡ sizeMismatch t ⌝ }
 {
-    turned_colour(t.source)
-        | !same_size(size_of(t.output), turned_size(t.source))
+    rotated_fill(t.source)
+        | !same_size(size_of(t.output), rotated_source_size(t.source))
         | (t.blending.on & !same_size(size_of(t.destination.surface), size_of(t.output)))
 }
 
-fn in_window(bounds: Bounds, s: Surface) -> bool
+fn is_writable_span(bounds: Bounds, s: Surface) -> bool
     ensures { λ r. ⌜ r ≡ isWritableSpan bounds s ⌝ }
 {
     s.is_inside(bounds.window)
 }
 
-fn in_reach(bounds: Bounds, s: Surface) -> bool
+fn is_readable(bounds: Bounds, s: Surface) -> bool
     ensures { λ r. ⌜ r ≡ isReadable bounds s ⌝ }
 {
-    in_window(bounds, s)
+    is_writable_span(bounds, s)
         | s.is_inside(Range {
             start: 0,
             end: bounds.common,
@@ -140,9 +140,9 @@ fn out_of_bounds(bounds: Bounds, t: Task) -> bool
 {
     let source = t.source;
     let mode = source.mode;
-    (mode.is_buffer() & !in_reach(bounds, source.surface))
-        | !in_window(bounds, t.output)
-        | (t.blending.on & !in_reach(bounds, t.destination.surface))
+    (mode.is_buffer() & !is_readable(bounds, source.surface))
+        | !is_writable_span(bounds, t.output)
+        | (t.blending.on & !is_readable(bounds, t.destination.surface))
 }
 
 fn same_format(a: Format, b: Format) -> bool
@@ -151,7 +151,7 @@ fn same_format(a: Format, b: Format) -> bool
     a.layout().code == b.layout().code
 }
 
-fn same_place(a: Surface, b: Surface) -> bool
+fn is_alias(a: Surface, b: Surface) -> bool
     ensures { λ r. ⌜ r ≡ aliases a b ⌝ }
 {
     let f = a.format;
@@ -166,7 +166,7 @@ fn overlaps(t: Task) -> bool
     let mode = source.mode;
     let d = t.destination.surface;
     (mode.is_buffer() & source.surface.meets(t.output))
-        | (t.blending.on & d.meets(t.output) & !same_place(d, t.output))
+        | (t.blending.on & d.meets(t.output) & !is_alias(d, t.output))
 }
 
 // The first rule, in the order of their numbers, that a task breaks.

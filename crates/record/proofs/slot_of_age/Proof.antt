@@ -5,8 +5,8 @@ use native.Mathlib.Omega.{arith}
 use borrow.Author.Needs.{needs}
 use Rattle.record.specs.Tickets.{ticketBefore, slotOfTicket}
 use Rattle.record.proofs.Slots.{place-step, place-end}
-use Rattle.record.proofs.place_of.Statement.{statement}
-use Rattle.record.proofs.place_of.Tie as tie
+use Rattle.record.proofs.slot_of_age.Statement.{statement}
+use Rattle.record.proofs.slot_of_age.Tie as tie
 
 abbrev Inv-loop : tie.InvT-loop
 Inv-loop next k slots i₀ i = (i ≤ 8) × (i + slotOfTicket (ticketBefore next k) (drop i slots) ≡ slotOfTicket (ticketBefore next k) slots)
@@ -50,8 +50,8 @@ returns-2 : tie.Need-returns-2 Inv-loop μ-loop
 returns-2 c = let g = c .before .before .good .0 .1 .0 .1 in
     omega (arith, place-end (c .before .before .args .t1) (c .before .loop .i) (omega arith) (ticketBefore (c .before .before .args .next) (c .before .before .args .k)))
 
-pub place-of-spec : {M : Type 1} → statement M
-place-of-spec =
+pub slot-of-age-spec : {M : Type 1} → statement M
+slot-of-age-spec =
     tie.close
     (tie.spec
     Inv-loop

@@ -1,6 +1,6 @@
 use borrow.Author.Needs.{needs}
-use Rattle.register.proofs.table.source_takes.Statement.{statement}
-use Rattle.register.proofs.table.source_takes.Tie as tie
+use Rattle.register.proofs.table.source_control_accepts.Statement.{statement}
+use Rattle.register.proofs.table.source_control_accepts.Tie as tie
 
 bits-requires : tie.Need-bits-requires
 bits-requires c κs = search needs
@@ -35,8 +35,8 @@ returns c =
       c .before .before .before .before .before .before .bits .ensures,
     )
 
-pub source-takes-spec : {M : Type 1} → statement M
-source-takes-spec =
+pub source-control-accepts-spec : {M : Type 1} → statement M
+source-control-accepts-spec =
     tie.close
     (tie.spec
     bits-requires

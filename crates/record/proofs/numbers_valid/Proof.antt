@@ -1,6 +1,6 @@
 use borrow.Author.Needs.{needs}
-use Rattle.record.proofs.numbers_right.Statement.{statement}
-use Rattle.record.proofs.numbers_right.Tie as tie
+use Rattle.record.proofs.numbers_valid.Statement.{statement}
+use Rattle.record.proofs.numbers_valid.Tie as tie
 
 bad-ring-requires : tie.Need-bad-ring-requires
 bad-ring-requires c κs = search needs
@@ -11,5 +11,5 @@ bad-memory-requires c κs = search needs
 returns : tie.Need-returns
 returns c = rw (c .before .before .bad-ring .ensures, c .before .bad-memory .ensures)
 
-pub numbers-right-spec : {M : Type 1} → statement M
-numbers-right-spec = tie.close (tie.spec bad-ring-requires bad-memory-requires returns)
+pub numbers-valid-spec : {M : Type 1} → statement M
+numbers-valid-spec = tie.close (tie.spec bad-ring-requires bad-memory-requires returns)

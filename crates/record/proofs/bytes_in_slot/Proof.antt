@@ -1,8 +1,8 @@
 use native.Mathlib.Omega.{arith}
 use Rattle.record.specs.Slots.{sumOver}
 use borrow.Author.Needs.{needs}
-use Rattle.record.proofs.bytes_one.Statement.{statement}
-use Rattle.record.proofs.bytes_one.Tie as tie
+use Rattle.record.proofs.bytes_in_slot.Statement.{statement}
+use Rattle.record.proofs.bytes_in_slot.Tie as tie
 
 enum-told : tie.Need-enum-told
 enum-told c = search needs
@@ -18,5 +18,5 @@ returns-2 : tie.Need-returns-2
 unfolding sumOver
 returns-2 c = rw (c .before .state .given .1) (omega arith)
 
-pub bytes-one-spec : {M : Type 1} → statement M
-bytes-one-spec = tie.close (tie.spec enum-told enum-known-state returns returns-2)
+pub bytes-in-slot-spec : {M : Type 1} → statement M
+bytes-in-slot-spec = tie.close (tie.spec enum-told enum-known-state returns returns-2)

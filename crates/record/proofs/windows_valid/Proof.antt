@@ -5,8 +5,8 @@ use native.Mathlib.Omega.{arith}
 use borrow.Author.Needs.{needs}
 use Rattle.record.specs.Clients.{windowsOf, windowsValid}
 use Rattle.record.proofs.Clients.{none-found, none-next, none-end}
-use Rattle.record.proofs.none_bad.Statement.{statement}
-use Rattle.record.proofs.none_bad.Tie as tie
+use Rattle.record.proofs.windows_valid.Statement.{statement}
+use Rattle.record.proofs.windows_valid.Tie as tie
 
 abbrev Inv-loop : tie.InvT-loop
 Inv-loop setup n clients k₀ k = windowsValid setup (windowsOf (drop k (take n clients))) ≡ windowsValid setup (windowsOf (take n clients))
@@ -50,8 +50,8 @@ loop-again c = let st = c .before .before .before .before .before .before in
 returns-2 : tie.Need-returns-2 Inv-loop μ-loop
 returns-2 c = sym (none-end _ _ _ (c .loop-test .left) _) ∙ c .before .loop .inv
 
-pub none-bad-spec : {M : Type 1} → statement M
-none-bad-spec =
+pub windows-valid-spec : {M : Type 1} → statement M
+windows-valid-spec =
     tie.close
     (tie.spec
     Inv-loop

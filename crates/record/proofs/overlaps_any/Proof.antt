@@ -5,8 +5,8 @@ use native.Mathlib.Omega.{arith}
 use borrow.Author.Needs.{needs}
 use Rattle.record.specs.Clients.{windowsOf, overlapsAny}
 use Rattle.record.proofs.Clients.{shares-found, shares-next, shares-end}
-use Rattle.record.proofs.shares_any.Statement.{statement}
-use Rattle.record.proofs.shares_any.Tie as tie
+use Rattle.record.proofs.overlaps_any.Statement.{statement}
+use Rattle.record.proofs.overlaps_any.Tie as tie
 
 abbrev Inv-loop : tie.InvT-loop
 Inv-loop from n bytes clients i₀ i = overlapsAny bytes (windowsOf (drop i (take n clients))) ≡ overlapsAny bytes (windowsOf (drop from (take n clients)))
@@ -50,8 +50,8 @@ loop-again c = let st = c .before .before .before .before .before .before .befor
 returns-2 : tie.Need-returns-2 Inv-loop μ-loop
 returns-2 c = sym (shares-end _ _ _ (c .loop-test .left) _) ∙ c .before .loop .inv
 
-pub shares-any-spec : {M : Type 1} → statement M
-shares-any-spec =
+pub overlaps-any-spec : {M : Type 1} → statement M
+overlaps-any-spec =
     tie.close
     (tie.spec
     Inv-loop

@@ -7,8 +7,8 @@ use borrow.Author.Tests.{not-true, not-false}
 use Rattle.record.proofs.Walk.{walk, walk-missing, walk-unfit, walk-next, walk-done, Fitting, fitting, fitsIn, walk-rules}
 use Rattle.record.specs.Rules.{batchRules}
 use Rattle.ring.proofs.Wrapped.{wrapped-below}
-use Rattle.record.proofs.line_up.Statement.{statement}
-use Rattle.record.proofs.line_up.Tie as tie
+use Rattle.record.proofs.batches_valid.Statement.{statement}
+use Rattle.record.proofs.batches_valid.Tie as tie
 
 abbrev Inv-loop : tie.InvT-loop
 Inv-loop engine slots next ring k₀ offset₀ room₀ k offset room = (k ≤ 8) × (offset < ring) × (room ≤ ring) × (walk ring (engine .opened) k next slots offset room ≡ walk ring (engine .opened) k₀ next slots offset₀ room₀)
@@ -38,12 +38,12 @@ taken-slots-requires c κs = search needs
 loop-holds : tie.Need-loop-holds Inv-loop μ-loop
 loop-holds c = (c .taken-slots .ensures .1, c .before .before .before .pre .1, omega arith, refl)
 
-place-of-requires : tie.Need-place-of-requires Inv-loop μ-loop
-place-of-requires c κs = omega arith
+slot-of-age-requires : tie.Need-slot-of-age-requires Inv-loop μ-loop
+slot-of-age-requires c κs = omega arith
 
 returns : tie.Need-returns Inv-loop μ-loop
 returns c = let l = c .before .before .before in
-    let p = c .before .place-of in
+    let p = c .before .slot-of-age in
     walk-missing _ _ _ _ _ _ _ (c .before .before .loop-test .taken) (p .result) (p .ensures) (omega (arith, c .before .before .before .before .taken-slots .ensures .2)) ∙ l .loop .inv .3 ∙ decided (c .before .before .before .before)
 
 mul-batch-of : tie.Need-mul-batch-of Inv-loop μ-loop
@@ -63,7 +63,7 @@ fits-in-requires c κs = search needs
 
 returns-2 : tie.Need-returns-2 Inv-loop μ-loop
 returns-2 c = let l = c .before .before .before .before .before .before .before .before in
-    let p = c .before .before .before .before .before .before .place-of in
+    let p = c .before .before .before .before .before .before .slot-of-age in
     let j = c .before .before .before .batch-of in
     let e = sym (told (c .before)) ∙ not-true _ (c .if2 .taken) in
     walk-unfit _ _ _ _ _ _ _ (c .before .before .before .before .before .before .before .loop-test .taken) (p .result) (p .ensures) (omega (arith, c .before .before .before .before .before .before .before .before .before .taken-slots .ensures .2)) (j .result) (j .ensures) e ∙ l .loop .inv .3 ∙ decided (c .before .before .before .before .before .before .before .before .before)
@@ -85,7 +85,7 @@ loop-less c = omega arith
 
 loop-again : tie.Need-loop-again Inv-loop μ-loop
 loop-again c = let l = c .before .before .before .before .before .before .before .before .before in
-    let p = c .before .before .before .before .before .before .before .place-of in
+    let p = c .before .before .before .before .before .before .before .slot-of-age in
     let j = c .before .before .before .before .batch-of in
     let f = fits (c .before) .within in
     let small = c .before .before .before .before .before .before .before .before .before .before .before .before .before .pre in (
@@ -98,15 +98,15 @@ loop-again c = let l = c .before .before .before .before .before .before .before
 returns-3 : tie.Need-returns-3 Inv-loop μ-loop
 returns-3 c = walk-done _ _ _ _ _ _ _ (c .loop-test .left) ∙ c .before .loop .inv .3 ∙ decided (c .before .before)
 
-pub line-up-spec : {M : Type 1} → statement M
-line-up-spec =
+pub batches-valid-spec : {M : Type 1} → statement M
+batches-valid-spec =
     tie.close
     (tie.spec
     Inv-loop
     μ-loop
     taken-slots-requires
     loop-holds
-    place-of-requires
+    slot-of-age-requires
     returns
     mul-batch-of
     array-copy-out-batch-of

@@ -6,8 +6,8 @@ use borrow.Author.Needs.{needs}
 use Rattle.record.specs.Slots.{readyBatches}
 use Rattle.record.specs.Clients.{pendingCountsMatch}
 use Rattle.record.proofs.Clients.{counts-found, counts-next, counts-end}
-use Rattle.record.proofs.counts_right.Statement.{statement}
-use Rattle.record.proofs.counts_right.Tie as tie
+use Rattle.record.proofs.pending_counts_match.Statement.{statement}
+use Rattle.record.proofs.pending_counts_match.Tie as tie
 
 abbrev Inv-loop : tie.InvT-loop
 Inv-loop n slots clients k₀ k = pendingCountsMatch k (drop k (take n clients)) (readyBatches slots) ≡ pendingCountsMatch 0 (take n clients) (readyBatches slots)
@@ -54,8 +54,8 @@ loop-again c = let st = c .before .before .before .before .before .before in
 returns-2 : tie.Need-returns-2 Inv-loop μ-loop
 returns-2 c = sym (counts-end _ _ _ (c .loop-test .left) _) ∙ c .before .loop .inv
 
-pub counts-right-spec : {M : Type 1} → statement M
-counts-right-spec =
+pub pending-counts-match-spec : {M : Type 1} → statement M
+pending-counts-match-spec =
     tie.close
     (tie.spec
     Inv-loop

@@ -4,8 +4,8 @@ use lib.ListN.{length, drop}
 use Rattle.ppm.specs.Words.{equalsIgnoringCase}
 use Rattle.ppm.proofs.Texts.{word-lengths, word-differs, word-goes-on, word-end}
 use borrow.Author.Needs.{needs}
-use Rattle.ppm.proofs.words.is_word.Statement.{statement}
-use Rattle.ppm.proofs.words.is_word.Tie as tie
+use Rattle.ppm.proofs.words.equals_ignoring_case.Statement.{statement}
+use Rattle.ppm.proofs.words.equals_ignoring_case.Tie as tie
 
 abbrev Inv-loop : tie.InvT-loop
 Inv-loop text word i₀ i = (i ≤ length text) × (length text ≡ length word) × (equalsIgnoringCase text word ≡ equalsIgnoringCase (drop i text) (drop i word))
@@ -51,8 +51,8 @@ loop-again c =
 returns-3 : tie.Need-returns-3 Inv-loop μ-loop
 returns-3 c = let l = c .before .loop in sym (l .inv .2 ∙ word-end _ _ (l .i) (c .loop-test .left) (l .inv .1))
 
-pub is-word-spec : {M : Type 1} → statement M
-is-word-spec =
+pub equals-ignoring-case-spec : {M : Type 1} → statement M
+equals-ignoring-case-spec =
     tie.close
     (tie.spec
     Inv-loop

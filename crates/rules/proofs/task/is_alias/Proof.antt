@@ -1,7 +1,7 @@
 use Rattle.rules.specs.Rules.{aliases}
 use borrow.Author.Needs.{needs}
-use Rattle.rules.proofs.task.same_place.Statement.{statement}
-use Rattle.rules.proofs.task.same_place.Tie as tie
+use Rattle.rules.proofs.task.is_alias.Statement.{statement}
+use Rattle.rules.proofs.task.is_alias.Tie as tie
 
 same-format-requires : tie.Need-same-format-requires
 same-format-requires c κs = search needs
@@ -10,5 +10,5 @@ returns : tie.Need-returns
 unfolding aliases
 returns c = simp (c .same-format .ensures)
 
-pub same-place-spec : {M : Type 1} → statement M
-same-place-spec = tie.close (tie.spec same-format-requires returns)
+pub is-alias-spec : {M : Type 1} → statement M
+is-alias-spec = tie.close (tie.spec same-format-requires returns)
