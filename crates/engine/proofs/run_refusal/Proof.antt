@@ -20,7 +20,7 @@ first-refusal-requires-3 c κs = search needs
 
 returns : tie.Need-returns
 unfolding firstRefusal
-returns c = rw (c .first-of3 .ensures, c .before .is-valid .ensures, c .before .before .first-of2 .ensures, c .before .before .before .first-refusal .ensures, c .before .before .before .before .taken-slots .ensures .0)
+returns c = rw (c .first-refusal3 .ensures, c .before .is-valid .ensures, c .before .before .first-refusal2 .ensures, c .before .before .before .first-refusal .ensures, c .before .before .before .before .taken-slots .ensures .0)
 
 pub run-refusal-spec : {M : Type 1} → statement M
 run-refusal-spec =

@@ -29,7 +29,7 @@ first-refusal-requires-2 c κs = search needs
 
 returns-2 : tie.Need-returns-2
 unfolding firstRefusal
-returns-2 c = rw (right (c .before .before .before .before .before), c .first-of2 .ensures, c .before .first-refusal .ensures, c .before .before .bad-window .ensures)
+returns-2 c = rw (right (c .before .before .before .before .before), c .first-refusal2 .ensures, c .before .first-refusal .ensures, c .before .before .bad-window .ensures)
 
 pub open-refusal-spec : {M : Type 1} → statement M
 open-refusal-spec =

@@ -17,7 +17,7 @@ first-refusal-requires-2 c κs = search needs
 
 returns : tie.Need-returns
 unfolding firstRefusal
-returns c = rw (c .first-of2 .ensures, c .before .bad-ring .ensures, c .before .before .first-refusal .ensures, c .before .before .before .bad-memory .ensures)
+returns c = rw (c .first-refusal2 .ensures, c .before .bad-ring .ensures, c .before .before .first-refusal .ensures, c .before .before .before .bad-memory .ensures)
 
 pub set-up-refusal-spec : {M : Type 1} → statement M
 set-up-refusal-spec =

@@ -46,7 +46,7 @@ first-refusal-requires-5 c κs = search needs
 
 returns-2 : tie.Need-returns-2
 unfolding firstRefusal
-returns-2 c = rw (right (c .before .before .before .before .before .before .before .before .before .before .before), c .first-of5 .ensures, c .before .first-of4 .ensures, c .before .before .is-open .ensures, c .before .before .before .first-of3 .ensures, c .before .before .before .before .bad-length .ensures, c .before .before .before .before .before .first-of2 .ensures, c .before .before .before .before .before .before .first-refusal .ensures, c .before .before .before .before .before .before .before .free-bytes .ensures, c .before .before .before .before .before .before .before .before .taken-slots .ensures .0)
+returns-2 c = rw (right (c .before .before .before .before .before .before .before .before .before .before .before), c .first-refusal5 .ensures, c .before .first-refusal4 .ensures, c .before .before .is-open .ensures, c .before .before .before .first-refusal3 .ensures, c .before .before .before .before .bad-length .ensures, c .before .before .before .before .before .first-refusal2 .ensures, c .before .before .before .before .before .before .first-refusal .ensures, c .before .before .before .before .before .before .before .free-bytes .ensures, c .before .before .before .before .before .before .before .before .taken-slots .ensures .0)
 
 pub submit-refusal-spec : {M : Type 1} → statement M
 submit-refusal-spec =

@@ -22,7 +22,7 @@ equals-ignoring-case-requires-2 c κs = search needs
 
 returns-2 : tie.Need-returns-2
 unfolding formatNamed
-returns-2 c = rw (sym (c .before .before .before .before .equals-ignoring-case .ensures) ∙ c .before .before .before .if1 .left, sym (c .before .is-word2 .ensures) ∙ c .if2 .taken)
+returns-2 c = rw (sym (c .before .before .before .before .equals-ignoring-case .ensures) ∙ c .before .before .before .if1 .left, sym (c .before .equals-ignoring-case2 .ensures) ∙ c .if2 .taken)
 
 slice-aggregate-equals-ignoring-case-3 : tie.Need-slice-aggregate-equals-ignoring-case-3
 slice-aggregate-equals-ignoring-case-3 c = search needs
@@ -32,11 +32,11 @@ equals-ignoring-case-requires-3 c κs = search needs
 
 returns-3 : tie.Need-returns-3
 unfolding formatNamed
-returns-3 c = rw (sym (c .before .before .before .before .before .before .before .equals-ignoring-case .ensures) ∙ c .before .before .before .before .before .before .if1 .left, sym (c .before .before .before .before .is-word2 .ensures) ∙ c .before .before .before .if2 .left, sym (c .before .is-word3 .ensures) ∙ c .if3 .taken)
+returns-3 c = rw (sym (c .before .before .before .before .before .before .before .equals-ignoring-case .ensures) ∙ c .before .before .before .before .before .before .if1 .left, sym (c .before .before .before .before .equals-ignoring-case2 .ensures) ∙ c .before .before .before .if2 .left, sym (c .before .equals-ignoring-case3 .ensures) ∙ c .if3 .taken)
 
 returns-4 : tie.Need-returns-4
 unfolding formatNamed
-returns-4 c = rw (sym (c .before .before .before .before .before .before .before .equals-ignoring-case .ensures) ∙ c .before .before .before .before .before .before .if1 .left, sym (c .before .before .before .before .is-word2 .ensures) ∙ c .before .before .before .if2 .left, sym (c .before .is-word3 .ensures) ∙ c .if3 .left)
+returns-4 c = rw (sym (c .before .before .before .before .before .before .before .equals-ignoring-case .ensures) ∙ c .before .before .before .before .before .before .if1 .left, sym (c .before .before .before .before .equals-ignoring-case2 .ensures) ∙ c .before .before .before .if2 .left, sym (c .before .equals-ignoring-case3 .ensures) ∙ c .if3 .left)
 
 pub format-named-spec : {M : Type 1} → statement M
 format-named-spec =

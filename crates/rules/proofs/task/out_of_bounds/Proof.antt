@@ -22,7 +22,7 @@ returns c =
       c .before .before .before .before .is-buffer .ensures,
       c .before .before .before .is-readable .ensures,
       c .before .before .is-writable-span .ensures,
-      c .before .in-reach2 .ensures,
+      c .before .is-readable2 .ensures,
     )
 
 pub out-of-bounds-spec : {M : Type 1} → statement M
