@@ -60,7 +60,7 @@ unfolding memory span
 fits t = record {
   size = turned-square (t .rotation);
   format = refl;
-  overwriteRows = record { wide = lit< tt; narrow = lit≤ tt; high = lit< tt; low = lit≤ tt; spaced = lit≤ tt };
+  rows = record { wide = lit< tt; narrow = lit≤ tt; high = lit< tt; low = lit≤ tt; spaced = lit≤ tt };
   inside = lit≤ tt;
 }
 
