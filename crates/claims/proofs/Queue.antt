@@ -44,7 +44,7 @@ module _ (setup : Setup) (n : ℕ) (s : State) (S : Sound setup n s) where
       let a = submit-allowed (s .engine) (length (s .ring)) client (length bytes) z in
       rw (allowed (submit client bytes) z)
       (record {
-        finalState = submit-waiting (s .engine) (S .sized) (length (s .ring)) client (length bytes) a;
+        last = submit-waiting (s .engine) (S .sized) (length (s .ring)) client (length bytes) a;
         copied =
             contents-held _ _ ∙ submit-held alone (s .engine) (S .sized) (s .ring) client bytes a
             ∙ ap (λ (l : List (List ℕ)). l ++ bytes ∷ []) (sym (contents-held _ _));

@@ -31,7 +31,7 @@ contents ring (b ∷ bs) = bytesIn ring b ∷ contents ring bs
 
 -- before and after an accepted submit: the batch is the last to wait, the ring holds its bytes, and the others keep theirs
 pub record Submitted (client : ℕ) (bytes : List ℕ) (s after : State) : Type 0 where
-  pub finalState : waiting (after .engine) ≡ waiting (s .engine) ++ newBatch (s .engine) client (length bytes) ∷ []
+  pub last : waiting (after .engine) ≡ waiting (s .engine) ++ newBatch (s .engine) client (length bytes) ∷ []
   pub copied : contents (after .ring) (waiting (after .engine)) ≡ contents (s .ring) (waiting (s .engine)) ++ bytes ∷ []
 
 -- before and after a run that is not refused: it took the first that waited, which lay at the read offset; the others wait on, with their bytes
