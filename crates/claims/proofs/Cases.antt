@@ -22,7 +22,7 @@ use Rattle.model.specs.Windows.{Window}
 use Rattle.model.specs.Calls.{Call, opens, submit, run, pending, opened, accepted, completed, ready, refused}
 use Rattle.claims.specs.BatchSemantics.{completionStatusOf}
 use Rattle.claims.specs.Engine.{State, mkState, CallResult, answerOrRefusal, completion, performCall}
-use Rattle.claims.specs.Demand1.{refusalTableOf, Harmless}
+use Rattle.claims.specs.Demand1.{refusalTableOf, RefusalNoOp}
 use Rattle.claims.specs.Demand2.{executed}
 
 -- the window as the record holds it
@@ -105,5 +105,5 @@ answers (submit client bytes) s k e = let z : _≡_ {A = ℕ} 0 1 = cc in omega 
 answers run s k e = let z : _≡_ {A = ℕ} 0 1 = cc in omega arith
 answers (pending client) s k e = let z : _≡_ {A = ℕ} 0 1 = cc in omega arith
 
-pub harmless : (c : Call) (s : State) → Harmless c s
+pub harmless : (c : Call) (s : State) → RefusalNoOp c s
 harmless c s = rw (by-number c s) (quiet (number c s) s (done c s) (answers c s))

@@ -35,8 +35,8 @@ encoderTable fields size =
     ∷ []
 
 -- a refused call leaves record, ring and memory as they were, whatever they are
-abbrev pub Harmless : Call → State → Type 0
-Harmless call s = (number : ℕ) → performCall call s .answer ≡ refused number → performCall call s .after ≡ s
+abbrev pub RefusalNoOp : Call → State → Type 0
+RefusalNoOp call s = (number : ℕ) → performCall call s .answer ≡ refused number → performCall call s .after ≡ s
 
 -- the four calls on a record
 pub record OfCalls (s : State) : Type 0 where
@@ -44,7 +44,7 @@ pub record OfCalls (s : State) : Type 0 where
   pub listed : (call : Call) (n : ℕ) → ¬ (n ≡ 0) → firstRefusal (refusalTableOf call s) ≡ n → performCall call s .answer ≡ refused n
   pub only : (call : Call) (n : ℕ) → performCall call s .answer ≡ refused n → (firstRefusal (refusalTableOf call s) ≡ n) × ¬ (n ≡ 0)
   -- "and changes nothing"
-  pub harmless : (call : Call) → Harmless call s
+  pub harmless : (call : Call) → RefusalNoOp call s
   -- "A faulty batch draws nothing and leaves with fault number, place, status": a run that is not refused, and finds a fault
   pub faulty : (fault : Fault) (place : ℕ) → firstRefusal (refusalTableOf run s) ≡ 0 → oldestVerdict (s .engine) (s .ring) ≡ Faulty fault place →
       performCall run s ≡ record {

@@ -15,7 +15,7 @@ use Rattle.model.specs.ReplayedAlone.{replayedAlone}
 use Rattle.model.specs.Noninterference.{Pointwise, LowEqualAnswer, LowEquivalent}
 use Rattle.claims.specs.ModelProperties.{batchSemantics}
 use Rattle.claims.specs.Engine.{State, CallResult, performCall, answersOf, stateAfter, SetUpAccepted, initialState}
-use Rattle.claims.specs.Demand1.{Harmless}
+use Rattle.claims.specs.Demand1.{RefusalNoOp}
 
 -- the completions among the answers, in order: the successful runs
 unfoldable pub completedOf : List Answer → List Answer
