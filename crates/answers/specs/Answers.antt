@@ -6,8 +6,8 @@ use Rattle.engine.specs.declared.Outcome.{Outcome}
 use Rattle.engine.specs.Outcome.{runRefusalOf, valuesOf}
 
 -- a refusal's number, 0 for none, and one number more
-abbrev pub twoWords : (number value : ℕ) → List ℕ
-twoWords number value = number ∷ value ∷ 0 ∷ 0 ∷ 0 ∷ 0 ∷ []
+abbrev pub shortAnswer : (number value : ℕ) → List ℕ
+shortAnswer number value = number ∷ value ∷ 0 ∷ 0 ∷ 0 ∷ 0 ∷ []
 
 -- run's five: client, ticket, status, fault, place
 abbrev pub fiveOf : Outcome → List ℕ

@@ -14,7 +14,7 @@ use Rattle.queue.specs.Answers.{refusalNumberOf, valueOf}
 use Rattle.queue.specs.Calls.{unlessRefused, setUpResult, openResult, submitResult, submitRing, pendingAnswer}
 use Rattle.queue.proofs.Refusals.{open-allowed, submit-allowed}
 use Rattle.queue.proofs.Stays.{open-number, submit-number}
-use Rattle.answers.specs.Answers.{twoWords}
+use Rattle.answers.specs.Answers.{shortAnswer}
 use Rattle.record_bytes.specs.Read.{recordOf}
 use Rattle.record_bytes.specs.Written.{bytesOf, written}
 use Rattle.record_bytes.proofs.Cases.{valid-record, record-size, written-whole}
@@ -32,7 +32,7 @@ module _ (before after : List ℕ) where
   unfolding unlessRefused
   unless-zero n e = rw e
 
-module _ (bytes after words : List ℕ) (a : Answer) (w : words ≡ twoWords (refusalNumberOf a) (valueOf a)) where
+module _ (bytes after words : List ℕ) (a : Answer) (w : words ≡ shortAnswer (refusalNumberOf a) (valueOf a)) where
   pub told-done : (bytesNow : List ℕ) → getD words 0 0 ≡ 0 → bytesNow ≡ after → Told bytes after a (getD words 0 0) (getD words 1 0) bytesNow
   told-done bytesNow z e = record {
     number-is = rw w;
@@ -91,7 +91,7 @@ module _ (bytes : List ℕ) (engine : Record) (is : engine ≡ recordOf bytes) w
         ring-is = q ∙ ap (λ (x : Record). submitRing x ring client batch) is;
       }
 
-  pub pending-told : (client : ℕ) (a : Answer) (words : List ℕ) → a ≡ pendingAnswer engine client → words ≡ twoWords (refusalNumberOf a) (valueOf a) →
+  pub pending-told : (client : ℕ) (a : Answer) (words : List ℕ) → a ≡ pendingAnswer engine client → words ≡ shortAnswer (refusalNumberOf a) (valueOf a) →
       Pends bytes client (getD words 0 0) (getD words 1 0)
   pending-told client a words e w = record { number-is = rw (w, e, is); value-is = rw (w, e, is) }
 

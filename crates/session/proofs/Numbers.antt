@@ -9,11 +9,11 @@ use Rattle.engine.specs.declared.Outcome.the-variants.{Refused, Completed}
 use Rattle.engine.specs.Outcome.{runRefusalOf as refusalOf, valuesOf}
 use Rattle.model.specs.Calls.{Answer}
 use Rattle.claims.specs.Engine.{answerOrRefusal, completion}
-use Rattle.answers.specs.Answers.{twoWords, outcomeWords}
+use Rattle.answers.specs.Answers.{shortAnswer, outcomeWords}
 use Rattle.session.specs.Answers.{answerWords}
 
 -- an answer of one number
-pub told-words : (a : Told) (f : ℕ → Answer) → ((v : ℕ) → answerWords (f v) ≡ twoWords 0 v) → answerWords (answerOrRefusal (refusalNumberOf a) (f (valueOf a))) ≡ twoWords (refusalNumberOf a) (valueOf a)
+pub told-words : (a : Told) (f : ℕ → Answer) → ((v : ℕ) → answerWords (f v) ≡ shortAnswer 0 v) → answerWords (answerOrRefusal (refusalNumberOf a) (f (valueOf a))) ≡ shortAnswer (refusalNumberOf a) (valueOf a)
 unfolding answerWords answerOrRefusal
 told-words (No zero) f h = h 0
 told-words (No (suc n)) f h = refl

@@ -9,7 +9,7 @@ use Rattle.queue.specs.Answers.{refusalNumberOf, valueOf}
 use Rattle.queue.specs.Calls.{openResult, submitResult, submitRing, pendingAnswer}
 use Rattle.engine.specs.declared.Ran.{Ran}
 use Rattle.engine.specs.Run.{runResult, runMemory}
-use Rattle.answers.specs.Answers.{twoWords, outcomeWords}
+use Rattle.answers.specs.Answers.{shortAnswer, outcomeWords}
 use Rattle.model.specs.Calls.{opens, submit, run, pending, opened, accepted, ready}
 use Rattle.claims.specs.Engine.{mkState, performCall}
 use Rattle.session.specs.declared.script.Request.{Request}
@@ -19,15 +19,15 @@ use Rattle.session.specs.Answers.{answerWords}
 use Rattle.session.specs.Contracts.{CallMatches}
 use Rattle.session.proofs.Numbers.{told-words, run-words}
 
-opened-words : (v : ℕ) → answerWords (opened v) ≡ twoWords 0 v
+opened-words : (v : ℕ) → answerWords (opened v) ≡ shortAnswer 0 v
 unfolding answerWords
 opened-words v = refl
 
-accepted-words : (v : ℕ) → answerWords (accepted v) ≡ twoWords 0 v
+accepted-words : (v : ℕ) → answerWords (accepted v) ≡ shortAnswer 0 v
 unfolding answerWords
 accepted-words v = refl
 
-ready-words : (v : ℕ) → answerWords (ready v) ≡ twoWords 0 v
+ready-words : (v : ℕ) → answerWords (ready v) ≡ shortAnswer 0 v
 unfolding answerWords
 ready-words v = refl
 
@@ -37,13 +37,13 @@ batch-lies size q client from to e l = rw e at l
 
 module _ (engine : Record) (ring memory : List ℕ) where
   pub open-plays : (start size : ℕ) (r : Reply) (words : List ℕ) (after : Record) → r ≡ openResult engine (record { start = start; length = size }) →
-      words ≡ twoWords (refusalNumberOf (r .answer)) (valueOf (r .answer)) → after ≡ r .engine →
+      words ≡ shortAnswer (refusalNumberOf (r .answer)) (valueOf (r .answer)) → after ≡ r .engine →
       CallMatches (opens (record { start = start; length = size })) (mkState engine ring memory) (mkState after ring memory) words
   unfolding performCall
   open-plays start size r words after e w g = record { says = rw (← e) (w ∙ sym (told-words (r .answer) opened opened-words)); leaves = rw (g, e) }
 
   pub submit-plays : (client : ℕ) (batch : List ℕ) (r : Reply) (words ring′ : List ℕ) (after : Record) → r ≡ submitResult engine ring client batch →
-      ring′ ≡ submitRing engine ring client batch → words ≡ twoWords (refusalNumberOf (r .answer)) (valueOf (r .answer)) → after ≡ r .engine →
+      ring′ ≡ submitRing engine ring client batch → words ≡ shortAnswer (refusalNumberOf (r .answer)) (valueOf (r .answer)) → after ≡ r .engine →
       CallMatches (submit client batch) (mkState engine ring memory) (mkState after ring′ memory) words
   unfolding performCall
   submit-plays client batch r words ring′ after e q w g = record { says = rw (← e) (w ∙ sym (told-words (r .answer) accepted accepted-words)); leaves = rw (g, e, q) }
@@ -54,7 +54,7 @@ module _ (engine : Record) (ring memory : List ℕ) where
   unfolding performCall
   run-plays r words memory′ after e q w g = record { says = rw (← e) (w ∙ sym (run-words (r .outcome))); leaves = rw (g, e, q) }
 
-  pub pending-plays : (client : ℕ) (a : Told) (words : List ℕ) → a ≡ pendingAnswer engine client → words ≡ twoWords (refusalNumberOf a) (valueOf a) →
+  pub pending-plays : (client : ℕ) (a : Told) (words : List ℕ) → a ≡ pendingAnswer engine client → words ≡ shortAnswer (refusalNumberOf a) (valueOf a) →
       CallMatches (pending client) (mkState engine ring memory) (mkState engine ring memory) words
   unfolding performCall
   pending-plays client a words e w = record { says = rw (← e) (w ∙ sym (told-words a ready ready-words)); leaves = refl }

@@ -24,7 +24,7 @@ use Rattle.claims.specs.ModelProperties.{batchSemantics}
 use Rattle.claims.specs.Engine.{State, mkState, answersOf, stateAfter, initialState}
 use Rattle.claims.proofs.Theorem.{promise}
 use Rattle.session.specs.Script.{decode}
-use Rattle.answers.specs.Answers.{twoWords}
+use Rattle.answers.specs.Answers.{shortAnswer}
 use Rattle.session.specs.Answers.{answerBytes}
 use Rattle.session.specs.Contracts.{CallsMatch}
 use Rattle.session.specs.Played.{setUpNumber, playedCalls, answerOutput, memoryAfter, ringAfter, ScriptResult}
@@ -42,7 +42,7 @@ unfolding setUpResult
 set-up-value ring memory common = value-set (firstRefusal (setUpTable (record { ring = ring; memory = memory; common = common })))
 
 pub set-up-words : (setup : Setup) (r : Reply) (words : List ℕ) → r ≡ setUpResult (setup .ring) (setup .memory) (setup .common) →
-    words ≡ twoWords (refusalNumberOf (r .answer)) (valueOf (r .answer)) → words ≡ twoWords (setUpNumber setup) 0
+    words ≡ shortAnswer (refusalNumberOf (r .answer)) (valueOf (r .answer)) → words ≡ shortAnswer (setUpNumber setup) 0
 set-up-words setup r words e w = w ∙ rw (e, set-up-value (setup .ring) (setup .memory) (setup .common))
 
 -- ---- no call is played
@@ -78,7 +78,7 @@ module _ (setup : Setup) (ring memory script buffer : List ℕ) where
       record { returned = rw t; bytes = rw t; memory-end = n .0; ring-end = n .1 }
 
   -- set up is refused
-  pub played-refused : (words after : List ℕ) → 24 ≤ length buffer → words ≡ twoWords (setUpNumber setup) 0 → (getD words 0 0 ≡ 0 → ⊥) → after ≡ spliced 0 (wordsBytes words) buffer →
+  pub played-refused : (words after : List ℕ) → 24 ≤ length buffer → words ≡ shortAnswer (setUpNumber setup) 0 → (getD words 0 0 ≡ 0 → ⊥) → after ≡ spliced 0 (wordsBytes words) buffer →
       ScriptResult setup ring memory script buffer 24 ring memory after
   unfolding answerOutput playedCalls answers answerBytes spliced
   played-refused words after room w bad e =
@@ -87,7 +87,7 @@ module _ (setup : Setup) (ring memory script buffer : List ℕ) where
       let f = ne-eqb (setUpNumber setup) 0 number in
       let n = nothing (rw f) in
       let from : 0 + length (wordsBytes words) ≡ length (wordsBytes words) = omega arith in
-      let long : length (wordsBytes (twoWords (setUpNumber setup) 0)) ≡ 24 = length-bytes (twoWords (setUpNumber setup) 0) in
+      let long : length (wordsBytes (shortAnswer (setUpNumber setup) 0)) ≡ 24 = length-bytes (shortAnswer (setUpNumber setup) 0) in
       record {
         returned = rw (t, f, append-nil) (sym long);
         bytes = e ∙ rw (from, t, f, append-nil, w);
@@ -105,7 +105,7 @@ module _ (setup : Setup) (ring memory script buffer : List ℕ) (room : 24 ≤ l
       rw (eq-eqb (setUpNumber setup) 0 ok, left)
 
   -- what is written, in the engine's answers
-  told : answerOutput setup ring memory script buffer ≡ wordsBytes (twoWords 0 0) ++ answerBytes (answersOf (decode (length (drop 24 buffer) / 24) script) (initialState setup ring memory))
+  told : answerOutput setup ring memory script buffer ≡ wordsBytes (shortAnswer 0 0) ++ answerBytes (answersOf (decode (length (drop 24 buffer) / 24) script) (initialState setup ring memory))
   unfolding answerOutput
   told =
       let like = promise setup ring ok .like-model (decode (length (drop 24 buffer) / 24) script) memory in
@@ -113,23 +113,23 @@ module _ (setup : Setup) (ring memory script buffer : List ℕ) (room : 24 ≤ l
 
   pub played-on : (count : ℕ) (ring′ memory′ rest′ : List ℕ) →
       CallsMatch (decode (length (drop 24 buffer) / 24) script) (initialState setup ring memory) (drop 24 buffer) count ring′ memory′ rest′ →
-      ScriptResult setup ring memory script buffer (24 + count) ring′ memory′ (wordsBytes (twoWords 0 0) ++ rest′)
+      ScriptResult setup ring memory script buffer (24 + count) ring′ memory′ (wordsBytes (shortAnswer 0 0) ++ rest′)
   played-on count ring′ memory′ rest′ P =
       let cs : List Call = decode (length (drop 24 buffer) / 24) script in
       let like = promise setup ring ok .like-model cs memory in
       let said : List ℕ = answerBytes (answersOf cs (initialState setup ring memory)) in
-      let long : length (wordsBytes (twoWords 0 0)) ≡ 24 = length-bytes (twoWords 0 0) in
-      let size : length (wordsBytes (twoWords 0 0) ++ said) ≡ 24 + count = length-append (wordsBytes (twoWords 0 0)) said ∙ rw (long, P .returned) in
+      let long : length (wordsBytes (shortAnswer 0 0)) ≡ 24 = length-bytes (shortAnswer 0 0) in
+      let size : length (wordsBytes (shortAnswer 0 0) ++ said) ≡ 24 + count = length-append (wordsBytes (shortAnswer 0 0)) said ∙ rw (long, P .returned) in
       record {
         returned = rw told (sym size);
-        bytes = rw (told, size, P .bytes, ← drop-drop count 24 buffer) (sym (append-assoc (wordsBytes (twoWords 0 0)) said (drop count (drop 24 buffer))));
+        bytes = rw (told, size, P .bytes, ← drop-drop count 24 buffer) (sym (append-assoc (wordsBytes (shortAnswer 0 0)) said (drop count (drop 24 buffer))));
         memory-end = P .memory-end ∙ like .every-byte ∙ sym (memory-is setup ring memory script buffer cs played-are);
         ring-end = P .ring-end ∙ sym (ring-is setup ring memory script buffer cs played-are);
       }
 
   -- the same in the code's values: the buffer `answered` after set up's answer, and the part of it after that, which is lent
   pub played-done : (words answerUnlessRefused : List ℕ) (r : Reply) (count : ℕ) (ring′ memory′ rest′ : List ℕ) → r ≡ setUpResult (setup .ring) (setup .memory) (setup .common) →
-      words ≡ twoWords (setUpNumber setup) 0 → answerUnlessRefused ≡ spliced 0 (wordsBytes words) buffer →
+      words ≡ shortAnswer (setUpNumber setup) 0 → answerUnlessRefused ≡ spliced 0 (wordsBytes words) buffer →
       CallsMatch (decode (length (take (length answerUnlessRefused - 24) (drop 24 answerUnlessRefused)) / 24) script) (mkState (r .engine) ring memory) (take (length answerUnlessRefused - 24) (drop 24 answerUnlessRefused)) count ring′ memory′ rest′ →
       ScriptResult setup ring memory script buffer (24 + count) ring′ memory′ (putMid 24 (length answerUnlessRefused - 24) answerUnlessRefused rest′)
   played-done words answerUnlessRefused r count ring′ memory′ rest′ e w a P =
@@ -137,7 +137,7 @@ module _ (setup : Setup) (ring memory script buffer : List ℕ) (room : 24 ≤ l
       let fits : 0 + length (wordsBytes words) ≤ length buffer = omega arith in
       let modelAfterAll : 0 + length (wordsBytes words) ≡ 24 = omega arith in
       let whole : length answerUnlessRefused ≡ length buffer = rw a (length-spliced 0 (wordsBytes words) buffer fits) in
-      let front : take 24 answerUnlessRefused ≡ wordsBytes (twoWords 0 0) = rw (a, ← modelAfterAll) (take-spliced 0 (wordsBytes words) buffer fits ∙ rw (w, ok)) in
+      let front : take 24 answerUnlessRefused ≡ wordsBytes (shortAnswer 0 0) = rw (a, ← modelAfterAll) (take-spliced 0 (wordsBytes words) buffer fits ∙ rw (w, ok)) in
       let past : drop 24 answerUnlessRefused ≡ drop 24 buffer = rw (a, ← modelAfterAll) (drop-spliced 0 (wordsBytes words) buffer fits) in
       let part : take (length answerUnlessRefused - 24) (drop 24 answerUnlessRefused) ≡ drop 24 buffer = rest-is answerUnlessRefused 24 (omega arith) ∙ past in
       let left : length answerUnlessRefused - 24 ≡ length (drop 24 buffer) = simp length-drop (omega arith) in

@@ -2,7 +2,7 @@
 use mathlib.Core.List.{List, [], _∷_, _++_}
 use Prim.Native.Nat.{ℕ}
 use Rattle.word.specs.Word.{wordsBytes}
-use Rattle.answers.specs.Answers.{twoWords}
+use Rattle.answers.specs.Answers.{shortAnswer}
 use Rattle.model.specs.Calls.{Answer, opened, accepted, completed, ready, refused}
 
 unfoldable pub answerWords : Answer → List ℕ

@@ -9,7 +9,7 @@ use lib.Dec.{ltb, eqb}
 use Rattle.word.specs.Word.{wordsBytes}
 use Rattle.queue.specs.Answers.{refusalNumberOf}
 use Rattle.queue.specs.Calls.{setUpResult}
-use Rattle.answers.specs.Answers.{twoWords}
+use Rattle.answers.specs.Answers.{shortAnswer}
 use Rattle.model.specs.Calls.{Setup, Call}
 use Rattle.model.specs.State.{initialModel}
 use Rattle.model.specs.Model.{answers, modelAfterAll}
@@ -35,7 +35,7 @@ module _ (setup : Setup) (ring memory script buffer : List ℕ) where
   unfoldable pub answerOutput : List ℕ
   answerOutput =
       cond (ltb (length buffer) 24) []
-      (wordsBytes (twoWords (setUpNumber setup) 0) ++ answerBytes (answers batchSemantics setup (length ring) played (initialModel memory)))
+      (wordsBytes (shortAnswer (setUpNumber setup) 0) ++ answerBytes (answers batchSemantics setup (length ring) played (initialModel memory)))
 
   -- memory after it is the model's
   unfoldable pub memoryAfter : List ℕ

@@ -6,7 +6,7 @@ ghost use mathlib.Core.Path.{_≡_};
 ghost use Prim.Native.Nat.{_/_};
 ghost use lib.ListN.{length};
 ghost use Rattle.queue.specs.Answers.{refusalNumberOf, valueOf};
-ghost use Rattle.answers.specs.Answers.{twoWords, outcomeWords, Small};
+ghost use Rattle.answers.specs.Answers.{shortAnswer, outcomeWords, Small};
 ghost use Rattle.claims.specs.Engine.{mkState};
 ghost use Rattle.session.specs.Script.{decode};
 ghost use Rattle.session.specs.Parsing.{callOf, BatchInBounds};
@@ -25,7 +25,7 @@ struct Step {
 }
 
 fn step_of(reply: Reply) -> Step
-    ensures { λ r. ⌜ (r .words ≡ twoWords (refusalNumberOf (reply .answer)) (valueOf (reply .answer))) × (r .engine ≡ reply .engine) ⌝ }
+    ensures { λ r. ⌜ (r .words ≡ shortAnswer (refusalNumberOf (reply .answer)) (valueOf (reply .answer))) × (r .engine ≡ reply .engine) ⌝ }
 {
     let answer = reply.answer;
     let engine = reply.engine;
