@@ -1,5 +1,5 @@
 -- Internal: a batch read a task at a time: what one step says of the whole reading. A caller that takes step after step, from bank to bank
--- and position to position, meets the tasks of `readBatch` in order, and then its ending.
+-- and position to position, meets the tasks of `decodeBatch` in order, and then its ending.
 use Prim.Native.Nat.{ℕ, _<_, _≤_}
 use mathlib.Core.Path.{_≡_}
 use mathlib.Core.List.{List}

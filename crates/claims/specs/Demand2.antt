@@ -1,4 +1,4 @@
--- Demand 2: a batch is read, judged and drawn exactly as the papers say. How it is read, judged and drawn is defined in crates batch (`readBatch`,
+-- Demand 2: a batch is read, judged and drawn exactly as the papers say. How it is read, judged and drawn is defined in crates batch (`decodeBatch`,
 -- `verdictOf`) and raster (`drawBatch`); this says that run answers and draws by them on any record, ring and memory, and what holds of them for any
 -- batch. proofs/Demand2.antt proves it.
 use mathlib.Core.Path.{_≡_}

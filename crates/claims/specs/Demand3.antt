@@ -1,6 +1,6 @@
 -- Demand 3 (01, "The book of demand 3"): what is promised of the engine over any list of open, submit, run and pending calls, refused ones
--- included, from an accepted set up, with any ring and memory at the start. `real` is reading, judging and drawing by demand 2's definitions
--- (OfModel). The model is in crates/model/specs. One hypothesis: set up was accepted. proofs/Theorem.antt proves it.
+-- included, from an accepted set up, with any ring and memory at the start. `batchSemantics` is reading, judging and drawing by demand 2's definitions
+-- (ModelProperties). The model is in crates/model/specs. One hypothesis: set up was accepted. proofs/Theorem.antt proves it.
 use mathlib.Core.Path.{_≡_}
 use mathlib.Core.List.{List, [], _∷_, List·Memᴰ}
 use Prim.Native.Nat.{ℕ, _≤_, _<_}

@@ -31,7 +31,7 @@ pub struct Completion {
     pub verdict: Verdict,
 }
 
-// The paper's numbers are those of `numberOf` and `valuesOf` in specs.
+// The paper's numbers are those of `runRefusalOf` and `valuesOf` in specs.
 pub enum Outcome {
     Refused(u32),
     Completed(Completion),

@@ -1,5 +1,5 @@
 -- What is claimed of the model (01, "The book of demand 3": "of the list as a whole"), for any way to draw, any set up, any lent ring
--- length, any starting memory and any list of calls, refused ones included. proofs/Theorems.antt proves `Claims`.
+-- length, any starting memory and any list of calls, refused ones included. proofs/Theorems.antt proves `ModelProperties`.
 use mathlib.Core.Path.{_≡_}
 use mathlib.Core.Bool.{true}
 use mathlib.Core.List.{List, [], _∷_, _++_, List·Memᴰ}

@@ -1,4 +1,4 @@
--- Nearest division by 255 by shifts and adds (02, request 4). What is promised of a pixel stays `near` (Alpha.antt); this says where the
+-- Nearest division by 255 by shifts and adds (02, request 4). What is promised of a pixel stays `div255` (Alpha.antt); this says where the
 -- usual trick agrees with it, and that holding at 255 makes up for the rest. proofs/Division.antt proves `Division`.
 use mathlib.Core.Path.{_≡_}
 use Prim.Native.Nat.{ℕ, _+_, _/_, _≤_, min}

@@ -18,7 +18,7 @@ use record::Slot;
 use record::SlotState;
 use record::Window;
 
-// What a call answers. The paper's numbers are those of `numberOf` and `valueOf` in specs.
+// What a call answers. The paper's numbers are those of `refusalNumberOf` and `valueOf` in specs.
 pub enum Answer {
     Refused(u32),
     Set,

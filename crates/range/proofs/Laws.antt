@@ -9,7 +9,7 @@ use Rattle.range.specs.declared.Range.{Range}
 use Rattle.range.specs.Range.{Contains, containedIn, overlaps}
 use Rattle.word.proofs.Tests.{and-true}
 
--- the two comparisons behind `inside`
+-- the two comparisons behind `containedIn`
 pub inside-ends : (r q : Range) → containedIn r q ≡ true → (q .start ≤ r .start) × (r .end ≤ q .end)
 inside-ends r q e =
     let both = and-true (leb (q .start) (r .start)) (leb (r .end) (q .end)) e in

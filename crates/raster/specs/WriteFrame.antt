@@ -1,5 +1,5 @@
 -- Which bytes a batch writes, and with what (demand 2: "no byte outside a task's output rows changes"; 01, "Pixels"). proofs/Outside.antt proves
--- `Writes` of every batch, from any bank on, within any bounds, in any memory.
+-- `WriteFrame` of every batch, from any bank on, within any bounds, in any memory.
 use mathlib.Core.Path.{_≡_}
 use mathlib.Core.List.{List, [], _∷_, _++_}
 use Prim.Native.Nat.{ℕ, _/_, _%_, _<_}

@@ -27,7 +27,7 @@ abbrev pub tagOf : SlotState → ℕ
 tagOf Free = 0
 tagOf (Ready b) = 1
 
--- a slot's numbers; those of a free one are zeros, as its `stateBatch` is
+-- a slot's numbers; those of a free one are zeros, as its `batchInState` is
 abbrev pub rowOf : Slot → Row
 rowOf s =
     let b : Batch = batchInState (s .state) in

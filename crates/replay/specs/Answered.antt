@@ -1,6 +1,6 @@
 -- What is answered of each record of a replay file (01, "Writer and replay": the program "submits each record and, if accepted, runs it. Each
 -- prints one line"), whatever records went before it. Ring and memory at the start are any of the program's lengths; the program's are zero.
--- No run is refused, and of submit's refusals only 5 and 6 come: nothing waits when a record is submitted. proofs/Answered.antt proves `Promise`.
+-- No run is refused, and of submit's refusals only 5 and 6 come: nothing waits when a record is submitted. proofs/Answered.antt proves `ReplayAnswersHold`.
 use mathlib.Core.Path.{_≡_}
 use mathlib.Core.List.{List, [], _∷_, _++_}
 use mathlib.Core.Bool.{cond}

@@ -1,4 +1,4 @@
--- A part of memory: `within` at each byte, and a part that was lent (`midOf`) and came back (`putMid`).
+-- A part of memory: `overwriteRange` at each byte, and a part that was lent (`midOf`) and came back (`putMid`).
 use mathlib.Core.Path.{_≡_, refl, sym, ap, _∙_}
 use mathlib.Core.List.{List, _++_}
 use mathlib.Core.Logic.{_⊎_, ⊎-elim, _≢_}
@@ -23,7 +23,7 @@ pub data Side (r n i : ℕ) : Type 0 where
 pub side : (r n i : ℕ) → Side r n i
 side r n i = ⊎-elim (λ u. before u) (λ u. ⊎-elim (λ v. inside u v) (λ v. past v) (split i (r + n))) (split i r)
 
--- ---- a byte of `within`
+-- ---- a byte of `overwriteRange`
 
 module _ (r n : ℕ) (g : ℕ → ℕ → ℕ) (i old : ℕ) where
   pub within-before : i < r → overwriteRange r n g i old ≡ old

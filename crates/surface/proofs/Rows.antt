@@ -1,4 +1,4 @@
--- Laws of `rows`: each byte of them, one row more, and rows counted from further down. A place i from the first row on is
+-- Laws of `overwriteRows`: each byte of them, one row more, and rows counted from further down. A place i from the first row on is
 -- spoken of as a + (y * s + j), so that only `rows-at` opens the division.
 use mathlib.Core.Path.{_≡_, refl, sym, ap, _∙_}
 use mathlib.Core.List.{List}
@@ -44,7 +44,7 @@ locate a s i p l = record {
   is = omega (arith, div-add-mod' (i - a) s);
 }
 
--- ---- a byte of `rows`
+-- ---- a byte of `overwriteRows`
 
 module _ (a s n h : ℕ) (f : ℕ → ℕ → ℕ) (old : ℕ) where
   pub rows-before : (i : ℕ) → i < a → overwriteRows a s n h f i old ≡ old
