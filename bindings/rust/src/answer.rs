@@ -147,7 +147,7 @@ const FAULTS: [(u32, Fault); 9] = [
 ];
 
 impl Fault {
-    /// The number that the library tells.
+    /// The number that the library returns.
     ///
     /// ```
     /// assert_eq!(wenditsal::Fault::OutOfReach.number(), 27);

@@ -8,7 +8,7 @@ use lib.Dec.{eqb}
 use lib.ListN.{length, getD, set}
 use lib.Seq.{getD-set-same}
 use borrow.Author.Tests.{eq-eqb, ne-eqb}
-use Rattle.pixel.specs.Alpha.{alphaBy}
+use Rattle.pixel.specs.Alpha.{effectiveAlpha}
 use Rattle.pixel.specs.declared.blend.AlphaMode.{AlphaMode}
 use Rattle.pixel.specs.declared.blend.AlphaMode.the-variants.{Pixel}
 use Rattle.lanes.specs.Lanes.{Done}
@@ -25,7 +25,7 @@ pixel-done g n row = record { done = λ j h l. sym (same (eqb (j % 4) 3) (getD r
     same false x = refl
 
 module _ (mode : AlphaMode) (g : ℕ) where
-  pub at-alpha : (row : List ℕ) (j : ℕ) → j % 4 ≡ 3 → modeAt mode g row j ≡ alphaBy mode g (getD row j 0)
+  pub at-alpha : (row : List ℕ) (j : ℕ) → j % 4 ≡ 3 → modeAt mode g row j ≡ effectiveAlpha mode g (getD row j 0)
   unfolding modeAt
   at-alpha row j e = rw (eq-eqb (j % 4) 3 e)
 
@@ -37,7 +37,7 @@ module _ (mode : AlphaMode) (g : ℕ) where
   unfolding modeAt
   mode-ahead d e j same = rw (same j (omega arith))
 
-  one-pixel : (row : List ℕ) (x v : ℕ) → x * 4 + 3 < length row → v ≡ alphaBy mode g (getD row (x * 4 + 3) 0) →
+  one-pixel : (row : List ℕ) (x v : ℕ) → x * 4 + 3 < length row → v ≡ effectiveAlpha mode g (getD row (x * 4 + 3) 0) →
       Done (modeAt mode g row) row (set row (x * 4 + 3) v) (x * 4) ((x + 1) * 4)
   one-pixel row x v h e = record {
     done = λ j l u. under-or j (x * 4 + 3)
@@ -47,7 +47,7 @@ module _ (mode : AlphaMode) (g : ℕ) where
     past = λ j l. set-past row (x * 4 + 3) j v (omega arith);
   }
 
-  pub pixel-more : (row₀ row : List ℕ) (x v : ℕ) → x * 4 + 3 < length row → v ≡ alphaBy mode g (getD row (x * 4 + 3) 0) →
+  pub pixel-more : (row₀ row : List ℕ) (x v : ℕ) → x * 4 + 3 < length row → v ≡ effectiveAlpha mode g (getD row (x * 4 + 3) 0) →
       Done (modeAt mode g row₀) row₀ row 0 (x * 4) → Done (modeAt mode g row₀) row₀ (set row (x * 4 + 3) v) 0 ((x + 1) * 4)
   pixel-more row₀ row x v h e was =
       more-done (modeAt mode g) mode-ahead row₀ row (set row (x * 4 + 3) v) 0 (x * 4) ((x + 1) * 4) (omega arith) (omega arith) was (one-pixel row x v h e)

@@ -2,7 +2,7 @@
 ghost use mathlib.Core.Path.{_≡_};
 ghost use Prim.Native.Nat.{ℕ, _+_, _*_, _/_, _%_, _≤_, _<_};
 ghost use lib.ListN.{length, getD};
-ghost use Rattle.pixel.specs.Alpha.{near};
+ghost use Rattle.pixel.specs.Alpha.{div255};
 ghost use Rattle.pixel.specs.declared.blend.AlphaMode.the-variants.{Global, Mixed};
 ghost use Rattle.lanes.specs.Lanes.{Done};
 ghost use Rattle.alpha_modes.specs.Mode.{modeAt};
@@ -35,7 +35,7 @@ fn prod(a: u32, b: u32) -> u32
 // By shifts: this form makes vectors in a loop over bytes.
 fn nearest(p: u32) -> u32
     requires { ⌜ p ≤ 65025 ⌝ }
-    ensures { λ r. ⌜ (r ≡ near p) × (r ≤ 255) ⌝ }
+    ensures { λ r. ⌜ (r ≡ div255 p) × (r ≤ 255) ⌝ }
 {
     let t = p + 128;
     (t + t / 256) / 256

@@ -8,33 +8,33 @@ use lib.ListN.{length}
 use borrow.Author.Tests.{not-true}
 use Rattle.word.proofs.Tests.{and-true}
 use Rattle.register.specs.Bank.{resetBank}
-use Rattle.batch.specs.Batch.{statusOf, numberOf as faultOf, offsetOf}
+use Rattle.batch.specs.Batch.{statusWordOf, faultNumberOf as faultOf, faultOffsetOf}
 use Rattle.batch.proofs.Ways.{words-fit}
 use Rattle.batch.proofs.Tasks.{status-fits}
 use Rattle.batch.proofs.Offsets.{offset-within}
 use Rattle.record.specs.declared.Batch.{Batch}
 use Rattle.record.specs.declared.Record.{Record}
 use Rattle.record.specs.Setup.{badLength}
-use Rattle.record.specs.Tickets.{ticketBefore, batchWith, inOrder}
+use Rattle.record.specs.Tickets.{ticketBefore, batchOfTicket, inTicketOrder}
 use Rattle.record.specs.Queue.{takenSlots}
 use Rattle.record.specs.Rules.{lengthsAllowed, valid}
 use Rattle.record.proofs.Rules.{valid-facts, length-good}
 use Rattle.engine.specs.declared.Outcome.{Outcome}
 use Rattle.engine.specs.declared.Outcome.the-variants.{Completed}
 use Rattle.engine.specs.declared.Completion.{Completion}
-use Rattle.engine.specs.Run.{runNumber, oldest, boundsFor, oldestWords, oldestVerdict, answered, runOf}
+use Rattle.engine.specs.Run.{runNumber, oldest, boundsOfClient, oldestWords, oldestVerdict, outcomeUnlessRefused, runResult}
 use Rattle.engine.proofs.Refusals.{run-allowed}
 use Rattle.answers.specs.Answers.{outcomeWords, Small}
 
 -- ---- the words
 
-pub completed-words : (o : Outcome) (d : Completion) (status fault offset : ℕ) → o ≡ Completed d → status ≡ statusOf (d .verdict) → fault ≡ faultOf (d .verdict) → offset ≡ offsetOf (d .verdict) →
+pub completed-words : (o : Outcome) (d : Completion) (status fault offset : ℕ) → o ≡ Completed d → status ≡ statusWordOf (d .verdict) → fault ≡ faultOf (d .verdict) → offset ≡ faultOffsetOf (d .verdict) →
     (0 ∷ d .client ∷ d .ticket ∷ status ∷ fault ∷ offset ∷ []) ≡ outcomeWords o
 completed-words o d status fault offset e s f p = rw (e, s, f, p)
 
 -- ---- run's numbers
 
-pub completed-small : (o : Outcome) (d : Completion) → o ≡ Completed d → Small o → (statusOf (d .verdict) ≤ 4294967295) × (offsetOf (d .verdict) ≤ 4294967295)
+pub completed-small : (o : Outcome) (d : Completion) → o ≡ Completed d → Small o → (statusWordOf (d .verdict) ≤ 4294967295) × (faultOffsetOf (d .verdict) ≤ 4294967295)
 completed-small o d e s = let q = rw e at s in (q .status, q .offset)
 
 pub word-whole : (n : ℕ) → n ≤ 4294967295 → n % 4294967296 ≡ n
@@ -42,30 +42,30 @@ word-whole n small = omega arith
 
 -- a batch of a valid record has no more bytes than the longest ring
 oldest-short : (engine : Record) → valid engine ≡ true → 0 < takenSlots engine → oldest engine .length ≤ 32768
-unfolding inOrder lengthsAllowed
+unfolding inTicketOrder lengthsAllowed
 oldest-short engine ok some = go (takenSlots engine) refl some
   where
     go : (n : ℕ) → takenSlots engine ≡ n → 0 < n → oldest engine .length ≤ 32768
     go zero e h = absurd (omega arith)
     go (suc k) e h =
         let v = valid-facts engine ok in
-        let b : Batch = batchWith (ticketBefore (engine .next) (suc k)) (engine .slots) in
+        let b : Batch = batchOfTicket (ticketBefore (engine .next) (suc k)) (engine .slots) in
         let bad = badLength (engine .setup .ring) (b .length) in
-        let first = and-true (not bad) (lengthsAllowed (engine .setup .ring) (inOrder k (engine .next) (engine .slots))) (rw e at (v .lengths)) .0 in
+        let first = and-true (not bad) (lengthsAllowed (engine .setup .ring) (inTicketOrder k (engine .next) (engine .slots))) (rw e at (v .lengths)) .0 in
         let good = length-good (engine .setup .ring) (b .length) (not-true bad first) in
         rw e (omega (arith, good .within, v .numbers .ring .small))
 
-pub run-small : (engine : Record) (ring memory : List ℕ) → Small (runOf engine ring memory .outcome)
-unfolding runOf answered
+pub run-small : (engine : Record) (ring memory : List ℕ) → Small (runResult engine ring memory .outcome)
+unfolding runResult outcomeUnlessRefused
 run-small engine ring memory = go (runNumber engine ring memory) refl
   where
     go : (n : ℕ) → runNumber engine ring memory ≡ n →
-        Small (answered n (Completed (record { client = oldest engine .client; ticket = oldest engine .ticket; verdict = oldestVerdict engine ring })))
+        Small (outcomeUnlessRefused n (Completed (record { client = oldest engine .client; ticket = oldest engine .ticket; verdict = oldestVerdict engine ring })))
     go (suc n) e = record { status = omega arith; offset = omega arith }
     go zero e =
         let a = run-allowed engine (length ring) (length memory) e in
         let short = oldest-short engine (a .ok) (a .some) in
-        let bounds = boundsFor engine (oldest engine .client) in
+        let bounds = boundsOfClient engine (oldest engine .client) in
         let at = oldest engine .offset in
         let size = oldest engine .length in
         record {

@@ -1,23 +1,23 @@
 -- What a call answers, as six words of 32 bits. The first is the refusal's number, 0 without one; then what is answered (01, "Engine, desks,
--- queue"), by open the id, by submit the ticket, by pending the count, by run client, ticket, status, fault and place. Zeros fill up.
+-- queue"), by open the id, by submit the ticket, by pending the count, by run client, ticket, status, fault and place. Unused words are zero.
 use mathlib.Core.List.{List, [], _∷_}
 use Prim.Native.Nat.{ℕ, _≤_}
 use Rattle.engine.specs.declared.Outcome.{Outcome}
-use Rattle.engine.specs.Outcome.{numberOf, valuesOf}
+use Rattle.engine.specs.Outcome.{runRefusalOf, valuesOf}
 
 -- a refusal's number, 0 for none, and one number more
-abbrev pub twoWords : (number value : ℕ) → List ℕ
-twoWords number value = number ∷ value ∷ 0 ∷ 0 ∷ 0 ∷ 0 ∷ []
+abbrev pub shortAnswer : (number value : ℕ) → List ℕ
+shortAnswer number value = number ∷ value ∷ 0 ∷ 0 ∷ 0 ∷ 0 ∷ []
 
 -- run's five: client, ticket, status, fault, place
 abbrev pub fiveOf : Outcome → List ℕ
 fiveOf o = valuesOf o .client ∷ valuesOf o .ticket ∷ valuesOf o .status ∷ valuesOf o .fault ∷ valuesOf o .offset ∷ []
 
--- run's six
+-- Internal: run's six
 abbrev pub outcomeWords : Outcome → List ℕ
-outcomeWords o = numberOf o ∷ fiveOf o
+outcomeWords o = runRefusalOf o ∷ fiveOf o
 
--- status and offset of an outcome fit in words
+-- Internal: status and offset of an outcome fit in words
 pub record Small (outcome : Outcome) : Type 0 where
   pub status : valuesOf outcome .status ≤ 4294967295
   pub offset : valuesOf outcome .offset ≤ 4294967295

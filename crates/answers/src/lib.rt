@@ -1,13 +1,13 @@
 // What the calls answer, as six words: for callers that are not Rattle.
 ghost use mathlib.Core.Path.{_≡_};
-ghost use Rattle.queue.specs.Answers.{numberOf, valueOf};
-ghost use Rattle.answers.specs.Answers.{twoWords, outcomeWords, Small};
+ghost use Rattle.queue.specs.Answers.{refusalNumberOf, valueOf};
+ghost use Rattle.answers.specs.Answers.{shortAnswer, outcomeWords, Small};
 use engine::Outcome;
 use queue::Answer;
 
 // The words of set up, open, submit and pending.
 pub fn answer_words(answer: Answer) -> [u32; 6]
-    ensures { λ r. ⌜ r ≡ twoWords (numberOf answer) (valueOf answer) ⌝ }
+    ensures { λ r. ⌜ r ≡ shortAnswer (refusalNumberOf answer) (valueOf answer) ⌝ }
 {
     match answer {
         Answer::Refused(number) => [number, 0, 0, 0, 0, 0],

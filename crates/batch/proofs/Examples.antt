@@ -5,15 +5,15 @@ use mathlib.Core.Path.{_≡_, refl}
 use mathlib.Core.List.{List, [], _∷_, _++_}
 use lib.ListN.{length}
 use Rattle.surface.specs.Surface.{span}
-use Rattle.register.specs.Table.{kindOf}
-use Rattle.register.specs.Bank.{resetBank, storedSurface, stored, written}
-use Rattle.register.specs.Task.{surfaceOf, transformOf, alphaOf, sourceOf, destinationOf, blendingOf, taskOf}
+use Rattle.register.specs.Table.{registerKindOf}
+use Rattle.register.specs.Bank.{resetBank, surfaceAfterWrite, bankAfterWrite, writeRegister}
+use Rattle.register.specs.Task.{surfaceOf, transformOf, alphaOf, sourceOfBank, destinationOf, blendingOf, taskOf}
 use Rattle.rules.specs.declared.fault.Fault.the-variants.{ReservedBits, GroupLength, OpenTask, NotWritable, Forbidden, OutOfBounds}
 use Rattle.rules.specs.declared.task.Bounds.{Bounds}
-use Rattle.rules.specs.Rules.{badSides, badStride, badSource, badOutput, badDestination, badSurface, sizeMismatch, outOfBounds, samePlace, overlap, taskFault}
+use Rattle.rules.specs.Rules.{badSides, badStride, badSource, badOutput, badDestination, badSurface, sizeMismatch, outOfBounds, aliases, outputOverlaps, checkTask}
 use Rattle.batch.specs.declared.verdict.Verdict.{Verdict}
 use Rattle.batch.specs.declared.verdict.Verdict.the-variants.{Faultless, Faulty}
-use Rattle.batch.specs.Batch.{readFrom, readBatch, verdictOf}
+use Rattle.batch.specs.Batch.{decodeFrom, decodeBatch, verdictOf}
 
 -- the replay program's bounds for client 0
 abbrev pub bounds : Bounds
@@ -30,45 +30,45 @@ words address =
     ∷ 0x01100005 ∷ address ∷ []
 
 abbrev pub verdict : List ℕ → Verdict
-verdict ws = verdictOf (readBatch bounds resetBank ws)
+verdict ws = verdictOf (decodeBatch bounds resetBank ws)
 
 -- the worked words are one task, and with address 64 the fault is 27 at 72
 pub one : verdict (words 0x4000) ≡ Faultless 1
-unfolding readFrom written kindOf stored storedSurface taskOf sourceOf destinationOf blendingOf surfaceOf transformOf alphaOf taskFault badSurface badSource badOutput badDestination badSides badStride sizeMismatch outOfBounds samePlace overlap span
+unfolding decodeFrom writeRegister registerKindOf bankAfterWrite surfaceAfterWrite taskOf sourceOfBank destinationOf blendingOf surfaceOf transformOf alphaOf checkTask badSurface badSource badOutput badDestination badSides badStride sizeMismatch outOfBounds aliases outputOverlaps span
 one = refl
 
 pub outside : verdict (words 64) ≡ Faulty OutOfBounds 72
-unfolding readFrom written kindOf stored storedSurface taskOf sourceOf destinationOf blendingOf surfaceOf transformOf alphaOf taskFault badSurface badSource badOutput badDestination badSides badStride sizeMismatch outOfBounds samePlace overlap span
+unfolding decodeFrom writeRegister registerKindOf bankAfterWrite surfaceAfterWrite taskOf sourceOfBank destinationOf blendingOf surfaceOf transformOf alphaOf checkTask badSurface badSource badOutput badDestination badSides badStride sizeMismatch outOfBounds aliases outputOverlaps span
 outside = refl
 
 -- the registers are kept from task to task: a second task writes its address alone
 pub kept : verdict (words 0x4000 ++ 0x01100005 ∷ 0x5000 ∷ []) ≡ Faultless 2
-unfolding readFrom written kindOf stored storedSurface taskOf sourceOf destinationOf blendingOf surfaceOf transformOf alphaOf taskFault badSurface badSource badOutput badDestination badSides badStride sizeMismatch outOfBounds samePlace overlap span
+unfolding decodeFrom writeRegister registerKindOf bankAfterWrite surfaceAfterWrite taskOf sourceOfBank destinationOf blendingOf surfaceOf transformOf alphaOf checkTask badSurface badSource badOutput badDestination badSides badStride sizeMismatch outOfBounds aliases outputOverlaps span
 kept = refl
 
 -- a task before a fault is listed
-pub before : length (readBatch bounds resetBank (words 0x4000 ++ words 64) .tasks) ≡ 1
-unfolding readFrom written kindOf stored storedSurface taskOf sourceOf destinationOf blendingOf surfaceOf transformOf alphaOf taskFault badSurface badSource badOutput badDestination badSides badStride sizeMismatch outOfBounds samePlace overlap span
+pub before : length (decodeBatch bounds resetBank (words 0x4000 ++ words 64) .tasks) ≡ 1
+unfolding decodeFrom writeRegister registerKindOf bankAfterWrite surfaceAfterWrite taskOf sourceOfBank destinationOf blendingOf surfaceOf transformOf alphaOf checkTask badSurface badSource badOutput badDestination badSides badStride sizeMismatch outOfBounds aliases outputOverlaps span
 before = refl
 
 -- a header that is no header, one whose words are missing, one that leaves its task open
 pub reserved : verdict (words 0x4000 ++ 0x00110004 ∷ 0 ∷ []) ≡ Faulty ReservedBits 80
-unfolding readFrom written kindOf stored storedSurface taskOf sourceOf destinationOf blendingOf surfaceOf transformOf alphaOf taskFault badSurface badSource badOutput badDestination badSides badStride sizeMismatch outOfBounds samePlace overlap span
+unfolding decodeFrom writeRegister registerKindOf bankAfterWrite surfaceAfterWrite taskOf sourceOfBank destinationOf blendingOf surfaceOf transformOf alphaOf checkTask badSurface badSource badOutput badDestination badSides badStride sizeMismatch outOfBounds aliases outputOverlaps span
 reserved = refl
 
 pub cut : verdict (words 0x4000 ++ 0x00100014 ∷ []) ≡ Faulty GroupLength 80
-unfolding readFrom written kindOf stored storedSurface taskOf sourceOf destinationOf blendingOf surfaceOf transformOf alphaOf taskFault badSurface badSource badOutput badDestination badSides badStride sizeMismatch outOfBounds samePlace overlap span
+unfolding decodeFrom writeRegister registerKindOf bankAfterWrite surfaceAfterWrite taskOf sourceOfBank destinationOf blendingOf surfaceOf transformOf alphaOf checkTask badSurface badSource badOutput badDestination badSides badStride sizeMismatch outOfBounds aliases outputOverlaps span
 cut = refl
 
 pub open-end : verdict (words 0x4000 ++ 0x00100004 ∷ 0 ∷ []) ≡ Faulty OpenTask 80
-unfolding readFrom written kindOf stored storedSurface taskOf sourceOf destinationOf blendingOf surfaceOf transformOf alphaOf taskFault badSurface badSource badOutput badDestination badSides badStride sizeMismatch outOfBounds samePlace overlap span
+unfolding decodeFrom writeRegister registerKindOf bankAfterWrite surfaceAfterWrite taskOf sourceOfBank destinationOf blendingOf surfaceOf transformOf alphaOf checkTask badSurface badSource badOutput badDestination badSides badStride sizeMismatch outOfBounds aliases outputOverlaps span
 open-end = refl
 
 -- the second word of a group goes to 0x024, which is not writable; the first has a bit that is not allowed
 pub unwritable : verdict (0x00200009 ∷ 0 ∷ 0 ∷ []) ≡ Faulty NotWritable 8
-unfolding readFrom written kindOf stored storedSurface taskOf sourceOf destinationOf blendingOf surfaceOf transformOf alphaOf taskFault badSurface badSource badOutput badDestination badSides badStride sizeMismatch outOfBounds samePlace overlap span
+unfolding decodeFrom writeRegister registerKindOf bankAfterWrite surfaceAfterWrite taskOf sourceOfBank destinationOf blendingOf surfaceOf transformOf alphaOf checkTask badSurface badSource badOutput badDestination badSides badStride sizeMismatch outOfBounds aliases outputOverlaps span
 unwritable = refl
 
 pub forbidden : verdict (0x00140005 ∷ 0x80000000 ∷ []) ≡ Faulty Forbidden 4
-unfolding readFrom written kindOf stored storedSurface taskOf sourceOf destinationOf blendingOf surfaceOf transformOf alphaOf taskFault badSurface badSource badOutput badDestination badSides badStride sizeMismatch outOfBounds samePlace overlap span
+unfolding decodeFrom writeRegister registerKindOf bankAfterWrite surfaceAfterWrite taskOf sourceOfBank destinationOf blendingOf surfaceOf transformOf alphaOf checkTask badSurface badSource badOutput badDestination badSides badStride sizeMismatch outOfBounds aliases outputOverlaps span
 forbidden = refl

@@ -12,31 +12,31 @@ use Rattle.rules.specs.declared.fault.Fault.{Fault}
 use Rattle.rules.specs.declared.fault.Fault.the-variants.{ReservedBits, GroupLength}
 use Rattle.rules.specs.declared.task.Bounds.{Bounds}
 use Rattle.rules.specs.declared.task.Check.{Check}
-use Rattle.rules.specs.declared.task.Check.the-variants.{Fine, Wrong}
+use Rattle.rules.specs.declared.task.Check.the-variants.{Valid, Invalid}
 use Rattle.rules.specs.Faults.{writeFault}
-use Rattle.batch.specs.Batch.{Reading, faulty, done, andThen, Position, reservedBits, badLength, opened, wrote, judged, groupOf, readFrom}
+use Rattle.batch.specs.Batch.{DecodedBatch, faulty, stopWith, consTask, DecoderState, reservedBits, badGroupLength, decodeHeader, afterWrite, afterTaskCheck, groupOf, decodeFrom}
 
 -- the reading after a header, by the position that it leads to, and after a written word, by the bank
-abbrev pub onFrom : Bounds → Bank → ℕ → List ℕ → Position → Reading
-onFrom bounds b k ws position = readFrom bounds b (k + 1) position ws
+abbrev pub onFrom : Bounds → Bank → ℕ → List ℕ → DecoderState → DecodedBatch
+onFrom bounds b k ws position = decodeFrom bounds b (k + 1) position ws
 
-abbrev pub onWith : Bounds → ℕ → Position → List ℕ → Bank → Reading
-onWith bounds k position ws next = readFrom bounds next (k + 1) position ws
+abbrev pub onWith : Bounds → ℕ → DecoderState → List ℕ → Bank → DecodedBatch
+onWith bounds k position ws next = decodeFrom bounds next (k + 1) position ws
 
-module _ (P : Reading → Type 0) (b : Bank) (k : ℕ) (stops : (f : Fault) → P (done b (faulty f (4 * k)))) where
-  pub opened-all : (h follow : ℕ) (go : Position → Reading) → (badLength (field 15 2 h) follow ≡ false → P (go (groupOf k h))) → P (opened b k h follow go)
-  opened-all h follow go on = by (reservedBits h) (badLength (field 15 2 h) follow) refl
+module _ (P : DecodedBatch → Type 0) (b : Bank) (k : ℕ) (stops : (f : Fault) → P (stopWith b (faulty f (4 * k)))) where
+  pub opened-all : (h follow : ℕ) (go : DecoderState → DecodedBatch) → (badGroupLength (field 15 2 h) follow ≡ false → P (go (groupOf k h))) → P (decodeHeader b k h follow go)
+  opened-all h follow go on = by (reservedBits h) (badGroupLength (field 15 2 h) follow) refl
     where
-      by : (r l : Bool) → badLength (field 15 2 h) follow ≡ l
-          → P (cond r (done b (faulty ReservedBits (4 * k))) (cond l (done b (faulty GroupLength (4 * k))) (go (groupOf k h))))
+      by : (r l : Bool) → badGroupLength (field 15 2 h) follow ≡ l
+          → P (cond r (stopWith b (faulty ReservedBits (4 * k))) (cond l (stopWith b (faulty GroupLength (4 * k))) (go (groupOf k h))))
       by true l e = stops ReservedBits
       by false true e = stops GroupLength
       by false false e = on e
 
-  pub wrote-all : (w : Write) (go : Bank → Reading) → ((next : Bank) → P (go next)) → P (wrote b k w go)
+  pub wrote-all : (w : Write) (go : Bank → DecodedBatch) → ((next : Bank) → P (go next)) → P (afterWrite b k w go)
   wrote-all (Taken next) go on = on next
   wrote-all (Refused f) go on = stops (writeFault f)
 
-  pub judged-all : (check : Check) (after : Reading) → (check ≡ Fine → P (andThen (taskOf b) after)) → P (judged check b k after)
-  judged-all Fine after on = on refl
-  judged-all (Wrong f) after on = stops f
+  pub judged-all : (check : Check) (after : DecodedBatch) → (check ≡ Valid → P (consTask (taskOf b) after)) → P (afterTaskCheck check b k after)
+  judged-all Valid after on = on refl
+  judged-all (Invalid f) after on = stops f

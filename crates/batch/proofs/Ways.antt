@@ -13,9 +13,9 @@ use Rattle.word.proofs.Tests.{split}
 use Rattle.ring.specs.declared.Read.the-variants.{Word, Past}
 use Rattle.ring.specs.Read.{wordAt}
 use Rattle.ring.proofs.Reading.{read-in, read-past}
-use Rattle.ring.specs.Segment.{lies, batchWords}
+use Rattle.ring.specs.Segment.{liesInRing, batchWords}
 use Rattle.ring.proofs.Segment.{lies-in, no-words, count-words}
-use Rattle.register.specs.Bank.{written}
+use Rattle.register.specs.Bank.{writeRegister}
 use Rattle.register.specs.Task.{taskOf}
 use Rattle.register.specs.declared.bank.Bank.{Bank}
 use Rattle.register.specs.declared.bank.WriteFault.{WriteFault}
@@ -23,15 +23,15 @@ use Rattle.register.specs.declared.bank.Write.the-variants.{Bank as Taken, Refu
 use Rattle.rules.specs.declared.fault.Fault.the-variants.{ReservedBits, GroupLength, OpenTask}
 use Rattle.rules.specs.declared.task.Bounds.{Bounds}
 use Rattle.rules.specs.Faults.{writeFault}
-use Rattle.rules.specs.Rules.{taskFault}
-use Rattle.batch.specs.Batch.{finished, faulty, done, start, inside, reservedBits, badLength, opened, wrote, judged, groupOf, readFrom}
-use Rattle.batch.specs.Walk.{rest}
+use Rattle.rules.specs.Rules.{checkTask}
+use Rattle.batch.specs.Batch.{finished, faulty, stopWith, start, inside, reservedBits, badGroupLength, decodeHeader, afterWrite, afterTaskCheck, groupOf, decodeFrom}
+use Rattle.batch.specs.Walk.{decodeRest}
 
 -- the words of a batch are no more than its bytes
 pub words-fit : (ring : List ℕ) (offset size : ℕ) → 4 * length (batchWords ring offset size) ≤ size
-words-fit ring offset size = go (lies ring offset size) refl
+words-fit ring offset size = go (liesInRing ring offset size) refl
   where
-    go : (t : Bool) → lies ring offset size ≡ t → 4 * length (batchWords ring offset size) ≤ size
+    go : (t : Bool) → liesInRing ring offset size ≡ t → 4 * length (batchWords ring offset size) ≤ size
     go true e = omega (arith, count-words ring offset size (lies-in ring offset size e))
     go false e = omega (arith, ap length (no-words ring offset size e))
 
@@ -48,58 +48,58 @@ drop-at : (ws : List ℕ) (k : ℕ) → k < length ws → drop k ws ≡ getD ws 
 drop-at ws k h = rw (add-one, drop-cons ws k 0)
 
 module _ (bounds : Bounds) (ws : List ℕ) (b : Bank) (k : ℕ) where
-  pub past : length ws ≤ k → rest bounds ws b k ≡ done b finished
-  unfolding readFrom
+  pub past : length ws ≤ k → decodeRest bounds ws b k ≡ stopWith b finished
+  unfolding decodeFrom
   past h = rw (drop-of-length-le ws h)
 
-  header : k < length ws → rest bounds ws b k ≡ opened b k (getD ws k 0) (length ws - (k + 1)) (λ p. readFrom bounds b (k + 1) p (drop (k + 1) ws))
-  unfolding readFrom
+  header : k < length ws → decodeRest bounds ws b k ≡ decodeHeader b k (getD ws k 0) (length ws - (k + 1)) (λ p. decodeFrom bounds b (k + 1) p (drop (k + 1) ws))
+  unfolding decodeFrom
   header h = rw (drop-at ws k h, length-drop)
 
   -- a group that does not end the task is followed by the next header, or by nothing
-  pub next-group : (offset head : ℕ) → k < length ws → readFrom bounds b k (inside zero offset false head) (drop k ws) ≡ rest bounds ws b k
-  unfolding readFrom
+  pub next-group : (offset head : ℕ) → k < length ws → decodeFrom bounds b k (inside zero offset false head) (drop k ws) ≡ decodeRest bounds ws b k
+  unfolding decodeFrom
   next-group offset head h = rw (drop-at ws k h)
 
-  pub open-task : (offset head : ℕ) → length ws ≤ k → readFrom bounds b k (inside zero offset false head) (drop k ws) ≡ done b (faulty OpenTask (4 * head))
-  unfolding readFrom
+  pub open-task : (offset head : ℕ) → length ws ≤ k → decodeFrom bounds b k (inside zero offset false head) (drop k ws) ≡ stopWith b (faulty OpenTask (4 * head))
+  unfolding decodeFrom
   open-task offset head h = rw (drop-of-length-le ws h)
 
   word : (n offset : ℕ) (ends : Bool) (head : ℕ) → k < length ws
-      → readFrom bounds b k (inside (suc n) offset ends head) (drop k ws)
-      ≡ wrote b k (written b offset (getD ws k 0)) (λ next. readFrom bounds next (k + 1) (inside n (offset + 4) ends head) (drop (k + 1) ws))
-  unfolding readFrom
+      → decodeFrom bounds b k (inside (suc n) offset ends head) (drop k ws)
+      ≡ afterWrite b k (writeRegister b offset (getD ws k 0)) (λ next. decodeFrom bounds next (k + 1) (inside n (offset + 4) ends head) (drop (k + 1) ws))
+  unfolding decodeFrom
   word n offset ends head h = rw (drop-at ws k h)
 
 -- a group that ends the task
 ended-at : (bounds : Bounds) (ws : List ℕ) (b : Bank) (k offset head : ℕ)
-    → readFrom bounds b k (inside zero offset true head) ws ≡ judged (taskFault bounds (taskOf b)) b head (readFrom bounds b k start ws)
-unfolding readFrom
+    → decodeFrom bounds b k (inside zero offset true head) ws ≡ afterTaskCheck (checkTask bounds (taskOf b)) b head (decodeFrom bounds b k start ws)
+unfolding decodeFrom
 ended-at bounds [] b k offset head = refl
 ended-at bounds (w ∷ ws) b k offset head = refl
 
 pub ended : (bounds : Bounds) (ws : List ℕ) (b : Bank) (k offset head : ℕ)
-    → readFrom bounds b k (inside zero offset true head) (drop k ws) ≡ judged (taskFault bounds (taskOf b)) b head (rest bounds ws b k)
+    → decodeFrom bounds b k (inside zero offset true head) (drop k ws) ≡ afterTaskCheck (checkTask bounds (taskOf b)) b head (decodeRest bounds ws b k)
 ended bounds ws b k offset head = ended-at bounds (drop k ws) b k offset head
 
 -- where the word at k is w
 module _ (bounds : Bounds) (ws : List ℕ) (b : Bank) (k w : ℕ) (within : k < length ws) (is : w ≡ getD ws k 0) where
-  pub reserved : reservedBits w ≡ true → rest bounds ws b k ≡ done b (faulty ReservedBits (4 * k))
+  pub reserved : reservedBits w ≡ true → decodeRest bounds ws b k ≡ stopWith b (faulty ReservedBits (4 * k))
   reserved e = header bounds ws b k within ∙ rw (← is) (simp e)
 
-  pub bad-length : reservedBits w ≡ false → badLength (field 15 2 w) (length ws - (k + 1)) ≡ true → rest bounds ws b k ≡ done b (faulty GroupLength (4 * k))
+  pub bad-length : reservedBits w ≡ false → badGroupLength (field 15 2 w) (length ws - (k + 1)) ≡ true → decodeRest bounds ws b k ≡ stopWith b (faulty GroupLength (4 * k))
   bad-length e l = header bounds ws b k within ∙ rw (← is) (simp (e, l))
 
-  pub open-group : reservedBits w ≡ false → badLength (field 15 2 w) (length ws - (k + 1)) ≡ false
-      → rest bounds ws b k ≡ readFrom bounds b (k + 1) (groupOf k w) (drop (k + 1) ws)
+  pub open-group : reservedBits w ≡ false → badGroupLength (field 15 2 w) (length ws - (k + 1)) ≡ false
+      → decodeRest bounds ws b k ≡ decodeFrom bounds b (k + 1) (groupOf k w) (drop (k + 1) ws)
   open-group e l = header bounds ws b k within ∙ rw (← is) (simp (e, l))
 
-  pub refused : (left offset : ℕ) (ends : Bool) (head : ℕ) (f : WriteFault) → 0 < left → written b offset w ≡ Refused f
-      → readFrom bounds b k (inside left offset ends head) (drop k ws) ≡ done b (faulty (writeFault f) (4 * k))
+  pub refused : (left offset : ℕ) (ends : Bool) (head : ℕ) (f : WriteFault) → 0 < left → writeRegister b offset w ≡ Refused f
+      → decodeFrom bounds b k (inside left offset ends head) (drop k ws) ≡ stopWith b (faulty (writeFault f) (4 * k))
   refused zero offset ends head f z e = absurd (omega arith)
   refused (suc n) offset ends head f z e = word bounds ws b k n offset ends head within ∙ rw (← is, e)
 
-  pub taken : (left offset : ℕ) (ends : Bool) (head : ℕ) (next : Bank) → 0 < left → written b offset w ≡ Taken next
-      → readFrom bounds b k (inside left offset ends head) (drop k ws) ≡ readFrom bounds next (k + 1) (inside (left - 1) (offset + 4) ends head) (drop (k + 1) ws)
+  pub taken : (left offset : ℕ) (ends : Bool) (head : ℕ) (next : Bank) → 0 < left → writeRegister b offset w ≡ Taken next
+      → decodeFrom bounds b k (inside left offset ends head) (drop k ws) ≡ decodeFrom bounds next (k + 1) (inside (left - 1) (offset + 4) ends head) (drop (k + 1) ws)
   taken zero offset ends head next z e = absurd (omega arith)
   taken (suc n) offset ends head next z e = word bounds ws b k n offset ends head within ∙ rw (← is, e, sub-one)

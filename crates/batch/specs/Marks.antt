@@ -7,11 +7,11 @@ use lib.Dec.{eqb}
 use Rattle.word.specs.Field.{field}
 
 -- the headers that carry the mark, bit 0, where `left` words of a group are still to come
-unfoldable pub marksFrom : ℕ → List ℕ → ℕ
-marksFrom zero [] = 0
-marksFrom zero (h ∷ ws) = cond (eqb (field 0 0 h) 1) 1 0 + marksFrom (field 15 2 h) ws
-marksFrom (suc left) [] = 0
-marksFrom (suc left) (w ∷ ws) = marksFrom left ws
+unfoldable pub taskEndCountFrom : ℕ → List ℕ → ℕ
+taskEndCountFrom zero [] = 0
+taskEndCountFrom zero (h ∷ ws) = cond (eqb (field 0 0 h) 1) 1 0 + taskEndCountFrom (field 15 2 h) ws
+taskEndCountFrom (suc left) [] = 0
+taskEndCountFrom (suc left) (w ∷ ws) = taskEndCountFrom left ws
 
-abbrev pub marks : List ℕ → ℕ
-marks words = marksFrom 0 words
+abbrev pub taskEndCount : List ℕ → ℕ
+taskEndCount words = taskEndCountFrom 0 words

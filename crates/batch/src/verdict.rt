@@ -2,7 +2,7 @@
 ghost use mathlib.Core.Path.{_≡_};
 ghost use Prim.Native.Nat.{_%_};
 ghost use Rattle.ring.specs.Segment.{batchWords};
-ghost use Rattle.batch.specs.Batch.{readBatch, judgementOf, statusOf, numberOf, offsetOf};
+ghost use Rattle.batch.specs.Batch.{decodeBatch, validationOf, statusWordOf, faultNumberOf, faultOffsetOf};
 use crate::walk;
 use crate::walk::Step;
 use register::Bank;
@@ -18,7 +18,7 @@ pub enum Verdict {
 impl Verdict {
     // The status word, modulo 2 to the 32nd: 65,535 tasks fit, and no ring of the engine holds more than 4,096.
     pub fn status(self) -> u32
-        ensures { λ r. ⌜ r ≡ statusOf self % 4294967296 ⌝ }
+        ensures { λ r. ⌜ r ≡ statusWordOf self % 4294967296 ⌝ }
     {
         match self {
             Verdict::Faultless(tasks) => ((tasks % 65536) as u32) * 65536 + 1,
@@ -28,7 +28,7 @@ impl Verdict {
 
     // The fault's number, 0 without a fault.
     pub fn number(self) -> u32
-        ensures { λ r. ⌜ r ≡ numberOf self ⌝ }
+        ensures { λ r. ⌜ r ≡ faultNumberOf self ⌝ }
     {
         match self {
             Verdict::Faultless(_) => 0,
@@ -38,7 +38,7 @@ impl Verdict {
 
     // The fault's offset, 0 without a fault.
     pub fn offset(self) -> usize
-        ensures { λ r. ⌜ r ≡ offsetOf self ⌝ }
+        ensures { λ r. ⌜ r ≡ faultOffsetOf self ⌝ }
     {
         match self {
             Verdict::Faultless(_) => 0,
@@ -55,7 +55,7 @@ pub struct Judgement {
 
 // Judges the batch of `size` bytes at an offset of the ring, read from a bank on. What does not lie in the ring has no words.
 pub fn judge(ring: &[u8], offset: usize, size: usize, bounds: Bounds, bank: Bank) -> Judgement
-    ensures { λ r. ⌜ r ≡ judgementOf (readBatch bounds bank (batchWords (now (ring .entry)) offset size)) ⌝ }
+    ensures { λ r. ⌜ r ≡ validationOf (decodeBatch bounds bank (batchWords (now (ring .entry)) offset size)) ⌝ }
 {
     let mut current = bank;
     let mut at = 0;

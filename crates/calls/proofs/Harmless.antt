@@ -6,13 +6,13 @@ use Rattle.record.specs.declared.Window.{Window}
 use Rattle.record.specs.declared.Record.{Record}
 use Rattle.queue.specs.declared.Answer.{Answer}
 use Rattle.queue.specs.declared.Answer.the-variants.{Refused, Set, Opened, Accepted, Ready}
-use Rattle.queue.specs.Answers.{numberOf, valueOf}
-use Rattle.queue.specs.Calls.{setUp, openOf, submitOf, submitNumber, pendingOf}
+use Rattle.queue.specs.Answers.{refusalNumberOf, valueOf}
+use Rattle.queue.specs.Calls.{setUpResult, openResult, submitResult, submitNumber, pendingAnswer}
 use Rattle.queue.proofs.Stays.{submit-number, submit-same}
 use Rattle.engine.specs.declared.Outcome.{Outcome}
 use Rattle.engine.specs.declared.Outcome.the-variants.{Refused as NotRun, Completed}
-use Rattle.engine.specs.Outcome.{numberOf as refusalOf}
-use Rattle.engine.specs.Run.{runOf, runNumber}
+use Rattle.engine.specs.Outcome.{runRefusalOf as refusalOf}
+use Rattle.engine.specs.Run.{runResult, runNumber}
 use Rattle.engine.proofs.Stays.{run-number, run-same}
 use Rattle.answers.specs.Answers.{fiveOf}
 use Rattle.record_bytes.specs.Read.{recordOf}
@@ -22,7 +22,7 @@ use Rattle.calls.specs.Harmless.{Harmless}
 use Rattle.calls.proofs.Telling.{unless-not}
 
 -- what is answered with a refusal
-no-value : (a : Answer) → (numberOf a ≡ 0 → ⊥) → valueOf a ≡ 0
+no-value : (a : Answer) → (refusalNumberOf a ≡ 0 → ⊥) → valueOf a ≡ 0
 no-value (Refused n) h = refl
 no-value Set h = absurd (h refl)
 no-value (Opened c) h = absurd (h refl)
@@ -35,23 +35,23 @@ no-five (Completed c) h = absurd (h refl)
 
 told-none : (bytes after : List ℕ) (a : Answer) (number value : ℕ) (bytesNow : List ℕ) → (number ≡ 0 → ⊥) → Told bytes after a number value bytesNow → (value ≡ 0) × (bytesNow ≡ bytes)
 told-none bytes after a number value bytesNow refused t =
-    let z : numberOf a ≡ 0 → ⊥ = λ e. refused (t .number-is ∙ e) in
-    (t .value-is ∙ no-value a z, t .record-is ∙ unless-not bytes after (numberOf a) z)
+    let z : refusalNumberOf a ≡ 0 → ⊥ = λ e. refused (t .number-is ∙ e) in
+    (t .value-is ∙ no-value a z, t .record-is ∙ unless-not bytes after (refusalNumberOf a) z)
 
 module _ (bytes bytesNow : List ℕ) (number : ℕ) (refused : number ≡ 0 → ⊥) where
   set-up-none : (ring memory common : ℕ) → SetsUp bytes ring memory common number bytesNow → bytesNow ≡ bytes
   set-up-none ring memory common s =
-      s .record-is ∙ unless-not bytes (bytesOf (setUp ring memory common .engine)) (setUpNumber bytes ring memory common) (λ e. refused (s .number-is ∙ e))
+      s .record-is ∙ unless-not bytes (bytesOf (setUpResult ring memory common .engine)) (setUpNumber bytes ring memory common) (λ e. refused (s .number-is ∙ e))
 
   open-none : (w : Window) (value : ℕ) → Opens bytes w number value bytesNow → (value ≡ 0) × (bytesNow ≡ bytes)
   unfolding Opens
-  open-none w value s = told-none bytes (bytesOf (openOf (recordOf bytes) w .engine)) (openOf (recordOf bytes) w .answer) number value bytesNow refused s
+  open-none w value s = told-none bytes (bytesOf (openResult (recordOf bytes) w .engine)) (openResult (recordOf bytes) w .answer) number value bytesNow refused s
 
   submit-none : (ring ringNow : List ℕ) (client : ℕ) (batch : List ℕ) (value : ℕ) → Submits bytes ring client batch number value bytesNow ringNow →
       (value ≡ 0) × (bytesNow ≡ bytes) × (ringNow ≡ ring)
   submit-none ring ringNow client batch value s =
       let r : Record = recordOf bytes in
-      let t = told-none bytes (bytesOf (submitOf r ring client batch .engine)) (submitOf r ring client batch .answer) number value bytesNow refused (s .told) in
+      let t = told-none bytes (bytesOf (submitResult r ring client batch .engine)) (submitResult r ring client batch .answer) number value bytesNow refused (s .told) in
       let z : submitNumber r ring client batch ≡ 0 → ⊥ = λ e. refused (s .told .number-is ∙ submit-number r ring client batch ∙ e) in
       (t .0, t .1, s .ring-is ∙ submit-same r ring client batch z .1)
 
@@ -59,13 +59,13 @@ module _ (bytes bytesNow : List ℕ) (number : ℕ) (refused : number ≡ 0 → 
       (five ≡ 0 ∷ 0 ∷ 0 ∷ 0 ∷ 0 ∷ []) × (bytesNow ≡ bytes) × (memoryNow ≡ memory)
   run-none ring memory memoryNow five s =
       let r : Record = recordOf bytes in
-      let o : Outcome = runOf r ring memory .outcome in
+      let o : Outcome = runResult r ring memory .outcome in
       let z : refusalOf o ≡ 0 → ⊥ = λ e. refused (s .reports .number-is ∙ e) in
       let n : runNumber r ring memory ≡ 0 → ⊥ = λ e. refused (s .reports .number-is ∙ run-number r ring memory ∙ e) in
-      (s .reports .five-are ∙ no-five o z, s .reports .record-is ∙ unless-not bytes (bytesOf (runOf r ring memory .engine)) (refusalOf o) z, s .memory-is ∙ run-same r ring memory n .1)
+      (s .reports .five-are ∙ no-five o z, s .reports .record-is ∙ unless-not bytes (bytesOf (runResult r ring memory .engine)) (refusalOf o) z, s .memory-is ∙ run-same r ring memory n .1)
 
   pending-none : (client value : ℕ) → Pends bytes client number value → value ≡ 0
-  pending-none client value s = s .value-is ∙ no-value (pendingOf (recordOf bytes) client) (λ e. refused (s .number-is ∙ e))
+  pending-none client value s = s .value-is ∙ no-value (pendingAnswer (recordOf bytes) client) (λ e. refused (s .number-is ∙ e))
 
   pub harmless : Harmless bytes bytesNow number refused
   harmless = record { by-set-up = set-up-none; by-open = open-none; by-submit = submit-none; by-run = run-none; by-pending = pending-none }

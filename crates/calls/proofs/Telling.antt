@@ -10,11 +10,11 @@ use Rattle.record.specs.declared.Record.{Record}
 use Rattle.record.specs.Rules.{valid}
 use Rattle.queue.specs.declared.Answer.{Answer}
 use Rattle.queue.specs.declared.Reply.{Reply}
-use Rattle.queue.specs.Answers.{numberOf, valueOf}
-use Rattle.queue.specs.Calls.{unless, setUp, openOf, submitOf, submitRing, pendingOf}
+use Rattle.queue.specs.Answers.{refusalNumberOf, valueOf}
+use Rattle.queue.specs.Calls.{unlessRefused, setUpResult, openResult, submitResult, submitRing, pendingAnswer}
 use Rattle.queue.proofs.Refusals.{open-allowed, submit-allowed}
 use Rattle.queue.proofs.Stays.{open-number, submit-number}
-use Rattle.answers.specs.Answers.{twoWords}
+use Rattle.answers.specs.Answers.{shortAnswer}
 use Rattle.record_bytes.specs.Read.{recordOf}
 use Rattle.record_bytes.specs.Written.{bytesOf, written}
 use Rattle.record_bytes.proofs.Cases.{valid-record, record-size, written-whole}
@@ -23,44 +23,44 @@ use Rattle.calls.specs.Calls.{SetsUp, Told, Opens, Submits, Pends}
 -- ---- what tell does
 
 module _ (before after : List ℕ) where
-  pub unless-not : (n : ℕ) → (n ≡ 0 → ⊥) → unless n before after ≡ before
-  unfolding unless
+  pub unless-not : (n : ℕ) → (n ≡ 0 → ⊥) → unlessRefused n before after ≡ before
+  unfolding unlessRefused
   unless-not zero h = absurd (h refl)
   unless-not (suc n) h = refl
 
-  pub unless-zero : (n : ℕ) → n ≡ 0 → unless n before after ≡ after
-  unfolding unless
+  pub unless-zero : (n : ℕ) → n ≡ 0 → unlessRefused n before after ≡ after
+  unfolding unlessRefused
   unless-zero n e = rw e
 
-module _ (bytes after words : List ℕ) (a : Answer) (w : words ≡ twoWords (numberOf a) (valueOf a)) where
+module _ (bytes after words : List ℕ) (a : Answer) (w : words ≡ shortAnswer (refusalNumberOf a) (valueOf a)) where
   pub told-done : (bytesNow : List ℕ) → getD words 0 0 ≡ 0 → bytesNow ≡ after → Told bytes after a (getD words 0 0) (getD words 1 0) bytesNow
   told-done bytesNow z e = record {
     number-is = rw w;
     value-is = rw w;
-    record-is = e ∙ sym (unless-zero bytes after (numberOf a) (rw w at z));
+    record-is = e ∙ sym (unless-zero bytes after (refusalNumberOf a) (rw w at z));
   }
 
   pub told-refused : (getD words 0 0 ≡ 0 → ⊥) → Told bytes after a (getD words 0 0) (getD words 1 0) bytes
   told-refused z = record {
     number-is = rw w;
     value-is = rw w;
-    record-is = sym (unless-not bytes after (numberOf a) (rw w at z));
+    record-is = sym (unless-not bytes after (refusalNumberOf a) (rw w at z));
   }
 
 -- ---- the record is written whole
 
 -- what is not refused was done on a buffer that a record fits in
-pub whole : (bytes : List ℕ) (engine : Record) (n : ℕ) → (n ≡ 0 → length bytes ≡ 272) → unless n bytes (written engine bytes) ≡ unless n bytes (bytesOf engine)
-unfolding unless
+pub whole : (bytes : List ℕ) (engine : Record) (n : ℕ) → (n ≡ 0 → length bytes ≡ 272) → unlessRefused n bytes (written engine bytes) ≡ unlessRefused n bytes (bytesOf engine)
+unfolding unlessRefused
 whole bytes engine zero h = written-whole engine bytes (h refl)
 whole bytes engine (suc n) h = refl
 
-told-whole : (bytes : List ℕ) (reply : Reply) (number value : ℕ) (bytesNow : List ℕ) → (numberOf (reply .answer) ≡ 0 → length bytes ≡ 272) →
+told-whole : (bytes : List ℕ) (reply : Reply) (number value : ℕ) (bytesNow : List ℕ) → (refusalNumberOf (reply .answer) ≡ 0 → length bytes ≡ 272) →
     Told bytes (written (reply .engine) bytes) (reply .answer) number value bytesNow → Told bytes (bytesOf (reply .engine)) (reply .answer) number value bytesNow
 told-whole bytes reply number value bytesNow h t = record {
   number-is = t .number-is;
   value-is = t .value-is;
-  record-is = t .record-is ∙ whole bytes (reply .engine) (numberOf (reply .answer)) h;
+  record-is = t .record-is ∙ whole bytes (reply .engine) (refusalNumberOf (reply .answer)) h;
 }
 
 pub fits : (bytes : List ℕ) → valid (recordOf bytes) ≡ true → length bytes ≡ 272
@@ -69,41 +69,41 @@ fits bytes v = record-size bytes (valid-record bytes v)
 -- ---- the calls
 
 module _ (bytes : List ℕ) (engine : Record) (is : engine ≡ recordOf bytes) where
-  pub open-told : (w : Window) (reply : Reply) (number value : ℕ) (bytesNow : List ℕ) → reply ≡ openOf engine w →
+  pub open-told : (w : Window) (reply : Reply) (number value : ℕ) (bytesNow : List ℕ) → reply ≡ openResult engine w →
       Told bytes (written (reply .engine) bytes) (reply .answer) number value bytesNow → Opens bytes w number value bytesNow
   unfolding Opens
   open-told w reply number value bytesNow e t =
-      let both : reply ≡ openOf (recordOf bytes) w = e ∙ ap (λ (x : Record). openOf x w) is in
-      told-whole bytes (openOf (recordOf bytes) w) number value bytesNow
+      let both : reply ≡ openResult (recordOf bytes) w = e ∙ ap (λ (x : Record). openResult x w) is in
+      told-whole bytes (openResult (recordOf bytes) w) number value bytesNow
       (λ z. fits bytes (open-allowed (recordOf bytes) w (sym (open-number (recordOf bytes) w) ∙ z) .ok))
       (subst (λ (x : Reply). Told bytes (written (x .engine) bytes) (x .answer) number value bytesNow) both t)
 
-  pub submit-told : (ring : List ℕ) (client : ℕ) (batch : List ℕ) (reply : Reply) (number value : ℕ) (bytesNow ringNow : List ℕ) → reply ≡ submitOf engine ring client batch →
+  pub submit-told : (ring : List ℕ) (client : ℕ) (batch : List ℕ) (reply : Reply) (number value : ℕ) (bytesNow ringNow : List ℕ) → reply ≡ submitResult engine ring client batch →
       ringNow ≡ submitRing engine ring client batch → Told bytes (written (reply .engine) bytes) (reply .answer) number value bytesNow →
       Submits bytes ring client batch number value bytesNow ringNow
   submit-told ring client batch reply number value bytesNow ringNow e q t =
-      let both : reply ≡ submitOf (recordOf bytes) ring client batch = e ∙ ap (λ (x : Record). submitOf x ring client batch) is in
+      let both : reply ≡ submitResult (recordOf bytes) ring client batch = e ∙ ap (λ (x : Record). submitResult x ring client batch) is in
       record {
         told =
-            told-whole bytes (submitOf (recordOf bytes) ring client batch) number value bytesNow
+            told-whole bytes (submitResult (recordOf bytes) ring client batch) number value bytesNow
             (λ z. fits bytes (submit-allowed (recordOf bytes) (length ring) client (length batch) (sym (submit-number (recordOf bytes) ring client batch) ∙ z) .ok))
             (subst (λ (x : Reply). Told bytes (written (x .engine) bytes) (x .answer) number value bytesNow) both t);
         ring-is = q ∙ ap (λ (x : Record). submitRing x ring client batch) is;
       }
 
-  pub pending-told : (client : ℕ) (a : Answer) (words : List ℕ) → a ≡ pendingOf engine client → words ≡ twoWords (numberOf a) (valueOf a) →
+  pub pending-told : (client : ℕ) (a : Answer) (words : List ℕ) → a ≡ pendingAnswer engine client → words ≡ shortAnswer (refusalNumberOf a) (valueOf a) →
       Pends bytes client (getD words 0 0) (getD words 1 0)
   pending-told client a words e w = record { number-is = rw (w, e, is); value-is = rw (w, e, is) }
 
 -- ---- set up
 
 module _ (bytes : List ℕ) (ring memory common : ℕ) where
-  pub set-up-told : (reply : Reply) (number value : ℕ) (bytesNow : List ℕ) → length bytes ≡ 272 → reply ≡ setUp ring memory common →
+  pub set-up-told : (reply : Reply) (number value : ℕ) (bytesNow : List ℕ) → length bytes ≡ 272 → reply ≡ setUpResult ring memory common →
       Told bytes (written (reply .engine) bytes) (reply .answer) number value bytesNow → SetsUp bytes ring memory common number bytesNow
   set-up-told reply number value bytesNow n e t =
       let s = told-whole bytes reply number value bytesNow (λ z. n) t in
       record { number-is = rw (eq-eqb (length bytes) 272 n, ← e) (s .number-is); record-is = rw (eq-eqb (length bytes) 272 n, ← e) (s .record-is) }
 
   pub set-up-lent : (length bytes ≡ 272 → ⊥) → SetsUp bytes ring memory common 11 bytes
-  unfolding unless
+  unfolding unlessRefused
   set-up-lent n = record { number-is = rw (ne-eqb (length bytes) 272 n); record-is = rw (ne-eqb (length bytes) 272 n) }

@@ -9,12 +9,12 @@ use lib.Dec.{eqb}
 use Rattle.record.specs.declared.Window.{Window}
 use Rattle.queue.specs.declared.Answer.{Answer}
 use Rattle.queue.specs.declared.Reply.{Reply}
-use Rattle.queue.specs.Answers.{numberOf, valueOf}
-use Rattle.queue.specs.Calls.{unless, setUp, openOf, submitOf, submitRing, pendingOf}
+use Rattle.queue.specs.Answers.{refusalNumberOf, valueOf}
+use Rattle.queue.specs.Calls.{unlessRefused, setUpResult, openResult, submitResult, submitRing, pendingAnswer}
 use Rattle.engine.specs.declared.Outcome.{Outcome}
 use Rattle.engine.specs.declared.Ran.{Ran}
-use Rattle.engine.specs.Outcome.{numberOf as refusalOf}
-use Rattle.engine.specs.Run.{runOf, runMemory}
+use Rattle.engine.specs.Outcome.{runRefusalOf as refusalOf}
+use Rattle.engine.specs.Run.{runResult, runMemory}
 use Rattle.answers.specs.Answers.{fiveOf}
 use Rattle.record_bytes.specs.Read.{recordOf}
 use Rattle.record_bytes.specs.Written.{bytesOf}
@@ -23,46 +23,46 @@ use Rattle.record_bytes.specs.Written.{bytesOf}
 
 -- 11 for a buffer that no record fits in
 abbrev pub setUpNumber : (bytes : List ℕ) → (ring memory common : ℕ) → ℕ
-setUpNumber bytes ring memory common = cond (eqb (length bytes) 272) (numberOf (setUp ring memory common .answer)) 11
+setUpNumber bytes ring memory common = cond (eqb (length bytes) 272) (refusalNumberOf (setUpResult ring memory common .answer)) 11
 
 pub record SetsUp (bytes : List ℕ) (ring memory common number : ℕ) (bytesNow : List ℕ) : Type 0 where
   pub number-is : number ≡ setUpNumber bytes ring memory common
-  pub record-is : bytesNow ≡ unless (setUpNumber bytes ring memory common) bytes (bytesOf (setUp ring memory common .engine))
+  pub record-is : bytesNow ≡ unlessRefused (setUpNumber bytes ring memory common) bytes (bytesOf (setUpResult ring memory common .engine))
 
 -- ---- a call that answers one number: the refusal's number, the value, and the bytes of the record; `after` if it is not refused
 
 pub record Told (bytes after : List ℕ) (answer : Answer) (number value : ℕ) (bytesNow : List ℕ) : Type 0 where
-  pub number-is : number ≡ numberOf answer
+  pub number-is : number ≡ refusalNumberOf answer
   pub value-is : value ≡ valueOf answer
-  pub record-is : bytesNow ≡ unless (numberOf answer) bytes after
+  pub record-is : bytesNow ≡ unlessRefused (refusalNumberOf answer) bytes after
 
 -- the value is the client's id
 unfoldable pub Opens : (bytes : List ℕ) → Window → (number value : ℕ) → (bytesNow : List ℕ) → Type 0
 Opens bytes w =
-    let reply : Reply = openOf (recordOf bytes) w in
+    let reply : Reply = openResult (recordOf bytes) w in
     Told bytes (bytesOf (reply .engine)) (reply .answer)
 
 -- the value is the ticket
 pub record Submits (bytes ring : List ℕ) (client : ℕ) (batch : List ℕ) (number value : ℕ) (bytesNow ringNow : List ℕ) : Type 0 where
   pub told :
-      let reply : Reply = submitOf (recordOf bytes) ring client batch in
+      let reply : Reply = submitResult (recordOf bytes) ring client batch in
       Told bytes (bytesOf (reply .engine)) (reply .answer) number value bytesNow
   pub ring-is : ringNow ≡ submitRing (recordOf bytes) ring client batch
 
 -- the value is the number of the client's ready batches; the record is only read
 pub record Pends (bytes : List ℕ) (client number value : ℕ) : Type 0 where
-  pub number-is : number ≡ numberOf (pendingOf (recordOf bytes) client)
-  pub value-is : value ≡ valueOf (pendingOf (recordOf bytes) client)
+  pub number-is : number ≡ refusalNumberOf (pendingAnswer (recordOf bytes) client)
+  pub value-is : value ≡ valueOf (pendingAnswer (recordOf bytes) client)
 
 -- ---- run
 
 pub record Reports (bytes after : List ℕ) (outcome : Outcome) (number : ℕ) (five bytesNow : List ℕ) : Type 0 where
   pub number-is : number ≡ refusalOf outcome
   pub five-are : five ≡ fiveOf outcome
-  pub record-is : bytesNow ≡ unless (refusalOf outcome) bytes after
+  pub record-is : bytesNow ≡ unlessRefused (refusalOf outcome) bytes after
 
 pub record Runs (bytes ring memory : List ℕ) (number : ℕ) (five bytesNow memoryNow : List ℕ) : Type 0 where
   pub reports :
-      let ran : Ran = runOf (recordOf bytes) ring memory in
+      let ran : Ran = runResult (recordOf bytes) ring memory in
       Reports bytes (bytesOf (ran .engine)) (ran .outcome) number five bytesNow
   pub memory-is : memoryNow ≡ runMemory (recordOf bytes) ring memory

@@ -1,6 +1,6 @@
 // The engine's calls on a record that is lent as bytes. No call has a `requires`: any bytes may be handed in.
 ghost use mathlib.Core.Path.{_≡_};
-ghost use Rattle.queue.specs.Answers.{numberOf, valueOf};
+ghost use Rattle.queue.specs.Answers.{refusalNumberOf, valueOf};
 ghost use Rattle.record_bytes.specs.Written.{written};
 ghost use Rattle.answers.specs.Answers.{Small};
 ghost use Rattle.calls.specs.Calls.{SetsUp, Told, Opens, Submits, Pends, Reports, Runs};

@@ -4,26 +4,26 @@ use mathlib.Core.List.{List}
 use Prim.Native.Nat.{ℕ, zero, suc}
 use native.Mathlib.Omega.{arith}
 use lib.ListN.{length}
-use Rattle.ring.specs.Copied.{copied}
+use Rattle.ring.specs.Copied.{copiedIn}
 use Rattle.record.specs.declared.Window.{Window as Place}
-use Rattle.record.specs.Slots.{ready as readyOf, countOf}
+use Rattle.record.specs.Slots.{readyBatches as readyOf, countOf}
 use Rattle.record.specs.Queue.{writeOffset}
 use Rattle.record.specs.declared.Record.{Record}
 use Rattle.queue.specs.declared.Answer.the-variants.{Opened, Accepted, Ready}
-use Rattle.queue.specs.Answers.{numberOf, valueOf, answered as replied}
-use Rattle.queue.specs.Refusals.{firstOf}
-use Rattle.queue.specs.Calls.{unless, withClient, openOf, newBatch, withBatch, submitOf, submitRing, pendingOf}
+use Rattle.queue.specs.Answers.{refusalNumberOf, valueOf, answerUnlessRefused as replied}
+use Rattle.queue.specs.Refusals.{firstRefusal}
+use Rattle.queue.specs.Calls.{unlessRefused, withClient, openResult, newBatch, withBatch, submitResult, submitRing, pendingAnswer}
 use Rattle.engine.specs.declared.Completion.{Completion}
 use Rattle.engine.specs.declared.Outcome.the-variants.{Completed}
-use Rattle.engine.specs.Outcome.{numberOf as refusalOf, valuesOf}
-use Rattle.engine.specs.Run.{oldest, oldestVerdict, withoutOldest, answered, runOf, runMemory}
-use Rattle.engine.proofs.Calls.{completion as completionOf, drawn}
+use Rattle.engine.specs.Outcome.{runRefusalOf as refusalOf, valuesOf}
+use Rattle.engine.specs.Run.{outcomeUnlessRefused, runResult, runMemory}
+use Rattle.engine.proofs.Calls.{completion as completionOf}
 use Rattle.model.specs.Windows.{Window}
 use Rattle.model.specs.Calls.{Call, opens, submit, run, pending, opened, accepted, completed, ready, refused}
-use Rattle.claims.specs.Way.{numbersOf}
-use Rattle.claims.specs.Engine.{State, state, Called, told, completion, called}
-use Rattle.claims.specs.Demand1.{tableOf}
-use Rattle.claims.specs.Demand3.{Harmless}
+use Rattle.claims.specs.BatchSemantics.{completionStatusOf}
+use Rattle.claims.specs.Engine.{State, mkState, CallResult, answerOrRefusal, completion, performCall}
+use Rattle.claims.specs.Demand1.{refusalTableOf, RefusalNoOp}
+use Rattle.claims.specs.Demand2.{executed}
 
 -- the window as the record holds it
 abbrev pub given : Window → Place
@@ -31,58 +31,55 @@ given w = record { start = w .start; length = w .length }
 
 -- what a call is refused with, 0 if it is done
 abbrev pub number : Call → State → ℕ
-number c s = firstOf (tableOf c s)
+number c s = firstRefusal (refusalTableOf c s)
 
 -- what comes of a call that is done
-abbrev pub done : Call → State → Called
-done (opens w) s = record { answer = opened (s .engine .opened); after = state (withClient (s .engine) (given w)) (s .ring) (s .memory) }
+abbrev pub done : Call → State → CallResult
+done (opens w) s = record { answer = opened (s .engine .opened); after = mkState (withClient (s .engine) (given w)) (s .ring) (s .memory) }
 done (submit client bytes) s = record {
   answer = accepted (s .engine .next);
-  after = state (withBatch (s .engine) (newBatch (s .engine) client (length bytes))) (copied (s .ring) (writeOffset (s .engine)) bytes) (s .memory);
+  after = mkState (withBatch (s .engine) (newBatch (s .engine) client (length bytes))) (copiedIn (s .ring) (writeOffset (s .engine)) bytes) (s .memory);
 }
-done run s = record {
-  answer = completed (oldest (s .engine) .client) (oldest (s .engine) .ticket) (numbersOf (oldestVerdict (s .engine) (s .ring)));
-  after = state (withoutOldest (s .engine)) (s .ring) (drawn (s .engine) (s .ring) (s .memory));
-}
+done run s = executed s
 done (pending client) s = record { answer = ready (countOf client (readyOf (s .engine .slots))); after = s }
 
 -- the one or the other
-unfoldable pub either : (number : ℕ) → State → Called → Called
+unfoldable pub either : (number : ℕ) → State → CallResult → CallResult
 either zero s done = done
 either (suc n) s done = record { answer = refused (suc n); after = s }
 
 -- each kind of call, with any number
 module _ (e e′ : Record) (r r′ m m′ : List ℕ) where
   case-open : (n client : ℕ) →
-      record { answer = told (numberOf (replied n (Opened client))) (opened (valueOf (replied n (Opened client)))); after = state (unless n e e′) r m } ≡
-      either n (state e r m) (record { answer = opened client; after = state e′ r m })
-  unfolding told replied unless either
+      record { answer = answerOrRefusal (refusalNumberOf (replied n (Opened client))) (opened (valueOf (replied n (Opened client)))); after = mkState (unlessRefused n e e′) r m } ≡
+      either n (mkState e r m) (record { answer = opened client; after = mkState e′ r m })
+  unfolding answerOrRefusal replied unlessRefused either
   case-open zero client = refl
   case-open (suc n) client = refl
 
   case-submit : (n ticket : ℕ) →
-      record { answer = told (numberOf (replied n (Accepted ticket))) (accepted (valueOf (replied n (Accepted ticket)))); after = state (unless n e e′) (unless n r r′) m } ≡
-      either n (state e r m) (record { answer = accepted ticket; after = state e′ r′ m })
-  unfolding told replied unless either
+      record { answer = answerOrRefusal (refusalNumberOf (replied n (Accepted ticket))) (accepted (valueOf (replied n (Accepted ticket)))); after = mkState (unlessRefused n e e′) (unlessRefused n r r′) m } ≡
+      either n (mkState e r m) (record { answer = accepted ticket; after = mkState e′ r′ m })
+  unfolding answerOrRefusal replied unlessRefused either
   case-submit zero ticket = refl
   case-submit (suc n) ticket = refl
 
   case-run : (n : ℕ) (c : Completion) →
-      record { answer = told (refusalOf (answered n (Completed c))) (completion (valuesOf (answered n (Completed c)))); after = state (unless n e e′) r (unless n m m′) } ≡
-      either n (state e r m) (record { answer = completed (c .client) (c .ticket) (numbersOf (c .verdict)); after = state e′ r m′ })
-  unfolding told answered unless either
+      record { answer = answerOrRefusal (refusalOf (outcomeUnlessRefused n (Completed c))) (completion (valuesOf (outcomeUnlessRefused n (Completed c)))); after = mkState (unlessRefused n e e′) r (unlessRefused n m m′) } ≡
+      either n (mkState e r m) (record { answer = completed (c .client) (c .ticket) (completionStatusOf (c .verdict)); after = mkState e′ r m′ })
+  unfolding answerOrRefusal outcomeUnlessRefused unlessRefused either
   case-run zero c = refl
   case-run (suc n) c = refl
 
   case-pending : (n count : ℕ) →
-      record { answer = told (numberOf (replied n (Ready count))) (ready (valueOf (replied n (Ready count)))); after = state e r m } ≡
-      either n (state e r m) (record { answer = ready count; after = state e r m })
-  unfolding told replied either
+      record { answer = answerOrRefusal (refusalNumberOf (replied n (Ready count))) (ready (valueOf (replied n (Ready count)))); after = mkState e r m } ≡
+      either n (mkState e r m) (record { answer = ready count; after = mkState e r m })
+  unfolding answerOrRefusal replied either
   case-pending zero count = refl
   case-pending (suc n) count = refl
 
-pub by-number : (c : Call) (s : State) → called c s ≡ either (number c s) s (done c s)
-unfolding called openOf submitOf submitRing runOf runMemory pendingOf
+pub by-number : (c : Call) (s : State) → performCall c s ≡ either (number c s) s (done c s)
+unfolding performCall openResult submitResult submitRing runResult runMemory pendingAnswer
 by-number (opens w) s =
     let d : State = done (opens w) s .after in
     case-open (s .engine) (d .engine) (s .ring) (d .ring) (s .memory) (d .memory) (number (opens w) s) (s .engine .opened)
@@ -97,7 +94,7 @@ by-number (pending client) s =
 
 -- ---- a refusal changes nothing, whatever record, ring and memory are
 
-quiet : (n : ℕ) (s : State) (d : Called) → ((k : ℕ) → d .answer ≡ refused k → ⊥) → (k : ℕ) → either n s d .answer ≡ refused k → either n s d .after ≡ s
+quiet : (n : ℕ) (s : State) (d : CallResult) → ((k : ℕ) → d .answer ≡ refused k → ⊥) → (k : ℕ) → either n s d .answer ≡ refused k → either n s d .after ≡ s
 unfolding either
 quiet zero s d h k e = absurd (h k e)
 quiet (suc n) s d h k e = refl
@@ -108,5 +105,5 @@ answers (submit client bytes) s k e = let z : _≡_ {A = ℕ} 0 1 = cc in omega 
 answers run s k e = let z : _≡_ {A = ℕ} 0 1 = cc in omega arith
 answers (pending client) s k e = let z : _≡_ {A = ℕ} 0 1 = cc in omega arith
 
-pub harmless : (c : Call) (s : State) → Harmless c s
+pub harmless : (c : Call) (s : State) → RefusalNoOp c s
 harmless c s = rw (by-number c s) (quiet (number c s) s (done c s) (answers c s))

@@ -5,8 +5,8 @@ use mathlib.Core.Logic.{⊎-elim}
 use Prim.Native.Nat.{ℕ, _+_, _<_}
 use native.Mathlib.Omega.{arith}
 use Rattle.word.specs.Word.{words}
-use Rattle.range.specs.Range.{Holds}
-use Rattle.transform.specs.Transform.{Within as Pixel}
+use Rattle.range.specs.Range.{Contains}
+use Rattle.transform.specs.Transform.{InPicture as Pixel}
 use Rattle.transform.specs.declared.Point.{Point}
 use Rattle.surface.specs.Surface.{span, pixelStart}
 use Rattle.surface.specs.declared.Surface.{Surface}
@@ -18,10 +18,10 @@ use Rattle.register.specs.Size.{sizeOf}
 use Rattle.rules.specs.declared.task.Bounds.{Bounds}
 use Rattle.rules.specs.Rules.{commonOf}
 use Rattle.rules.proofs.Sound.{Within, Sound, AllSound}
-use Rattle.batch.specs.Batch.{readBatch, tasksDrawn}
+use Rattle.batch.specs.Batch.{decodeBatch, tasksDrawn}
 use Rattle.batch.proofs.Tasks.{drawn-sound}
 use Rattle.model.specs.Windows.{Window}
-use Rattle.model.specs.Drawing.{Agree, Local, Confined}
+use Rattle.model.specs.BatchSemantics.{SameReadable, LocalAction, Confined}
 use Rattle.model.proofs.Locality.{All, local-tasks}
 use Rattle.rows.specs.Row.{colourAt}
 use Rattle.raster.specs.Task.{pixelColour, drawTask, drawTasks}
@@ -29,7 +29,7 @@ use Rattle.raster.specs.Batch.{drawBatch}
 use Rattle.raster.proofs.Turn.{stride-some}
 use Rattle.raster.proofs.Pixel.{pixel-same, origin-within, destination-within}
 use Rattle.raster.proofs.Judged.{Reach, clear}
-use Rattle.claims.specs.Way.{boundsOf, wayFrom}
+use Rattle.claims.specs.BatchSemantics.{boundsOf, semanticsFrom}
 
 module _ (w : Window) (common : ℕ) where
   -- a client's bounds
@@ -37,7 +37,7 @@ module _ (w : Window) (common : ℕ) where
   bounds = boundsOf w common
 
   -- a pixel that may be read has one colour in memories that are alike in window and common
-  colour-agree : (s : Surface) → Reach bounds s → (m m′ : List ℕ) → Agree w common m m′ → (p : Point) → Pixel (sizeOf s) p → colourAt s m p ≡ colourAt s m′ p
+  colour-agree : (s : Surface) → Reach bounds s → (m m′ : List ℕ) → SameReadable w common m m′ → (p : Point) → Pixel (sizeOf s) p → colourAt s m p ≡ colourAt s m′ p
   unfolding colourAt
   colour-agree s r m m′ a p h =
       let z = pixel-in-span s (p .x) (p .y) (h .across) (h .down) in
@@ -48,14 +48,14 @@ module _ (w : Window) (common : ℕ) where
       r)
 
   -- a sound task
-  local-task : (t : Task) → Sound bounds t → Local w common (drawTask t)
+  local-task : (t : Task) → Sound bounds t → LocalAction w common (drawTask t)
   unfolding drawTask
   local-task t s =
       let c = clear bounds t s in
       let z : 0 < t .output .stride = stride-some (t .output) (c .output) in
       record {
         sized = λ m h. length-drawnOn (t .output) (pixelColour t m) m;
-        outside = λ m h i o. outside-span (t .output) (pixelColour t m) m z i (λ (b : Holds (span (t .output)) i). o (omega (arith, s .within)));
+        outside = λ m h i o. outside-span (t .output) (pixelColour t m) m z i (λ (b : Contains (span (t .output)) i). o (omega (arith, s .within)));
         inside = λ m m′ h a i p.
             drawnOn-agree (t .output) (pixelColour t m) (pixelColour t m′) m m′ z
             (λ x y u v. pixel-same t m m′ x y
@@ -65,18 +65,18 @@ module _ (w : Window) (common : ℕ) where
       }
 
   -- sound tasks, one after the other
-  local-list : (ts : List Task) → AllSound bounds ts → Local w common (drawTasks ts)
+  local-list : (ts : List Task) → AllSound bounds ts → LocalAction w common (drawTasks ts)
   unfolding drawTasks
   local-list ts h = local-tasks w common drawTask drawTasks (λ m. refl) (λ t ts m. refl) ts (each ts h)
     where
-      each : (ts : List Task) → AllSound bounds ts → All (λ t. Local w common (drawTask t)) ts
+      each : (ts : List Task) → AllSound bounds ts → All (λ t. LocalAction w common (drawTask t)) ts
       each [] h = tt
       each (t ∷ ts) h = (local-task t (h .0), each ts (h .1))
 
   -- and so a batch, from any bank on
-  local-batch : (bank : Bank) (ws : List ℕ) → Local w common (drawBatch bounds bank ws)
+  local-batch : (bank : Bank) (ws : List ℕ) → LocalAction w common (drawBatch bounds bank ws)
   unfolding drawBatch
-  local-batch bank ws = local-list (tasksDrawn (readBatch bounds bank ws)) (drawn-sound bounds bank ws)
+  local-batch bank ws = local-list (tasksDrawn (decodeBatch bounds bank ws)) (drawn-sound bounds bank ws)
 
-pub confined : (reset : Bank) → Confined (wayFrom reset)
+pub confined : (reset : Bank) → Confined (semanticsFrom reset)
 confined reset = λ w common bytes. local-batch w common reset (words bytes)

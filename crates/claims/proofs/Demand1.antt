@@ -1,48 +1,86 @@
 -- Demand 1 holds.
-use mathlib.Core.Path.{_≡_, sym, ap}
+use mathlib.Core.Path.{_≡_, refl, sym, ap}
+use mathlib.Core.Bool.{Bool, true, false, cond, not}
+use mathlib.Core.List.{List}
 use Prim.Native.Nat.{ℕ, zero, suc}
 use native.Mathlib.Omega.{arith}
+use lib.ListN.{length}
+use lib.Dec.{ltb}
 use Rattle.register.specs.Bank.{resetBank}
 use Rattle.rules.specs.declared.fault.Fault.{Fault}
 use Rattle.rules.specs.Faults.{faultNumber, faultStatus}
 use Rattle.batch.specs.declared.verdict.Verdict.the-variants.{Faulty}
 use Rattle.raster.proofs.Fold.{faulty-batch}
-use Rattle.queue.specs.Refusals.{firstOf}
-use Rattle.engine.specs.Run.{oldest, boundsFor, oldestWords, oldestVerdict, withoutOldest}
+use Rattle.encoder.specs.declared.Answer.{Answer}
+use Rattle.encoder.specs.declared.Answer.the-variants.{Written, Forbidden, ShortBuffer}
+use Rattle.encoder.specs.declared.fields.Fields.{Fields}
+use Rattle.encoder.specs.Fields.{allowed}
+use Rattle.encoder.specs.Encoder.{answerOf, bufferOnAnswer, bufferAfter, taskBytes, encodeRefusalOf as encoderNumber}
+use Rattle.queue.specs.Refusals.{firstRefusal}
+use Rattle.queue.proofs.Stays.{set-up-number}
+use Rattle.engine.specs.Run.{oldest, boundsOfClient, oldestWords, oldestVerdict, withoutOldest}
 use Rattle.model.specs.Calls.{Call, run, completed, refused}
-use Rattle.claims.specs.Engine.{State, state, Called, called}
-use Rattle.claims.specs.Demand1.{tableOf, Demand1}
+use Rattle.claims.specs.Engine.{State, mkState, CallResult, performCall}
+use Rattle.claims.specs.Demand1.{refusalTableOf, encoderTable, OfCalls, OfEncoder, Demand1}
 use Rattle.claims.proofs.Cases.{number, done, either, by-number, answers, harmless}
 
 -- with any number
-refused-by : (m n : ℕ) (s : State) (d : Called) → ¬ (n ≡ 0) → m ≡ n → either m s d .answer ≡ refused n
+refused-by : (m n : ℕ) (s : State) (d : CallResult) → ¬ (n ≡ 0) → m ≡ n → either m s d .answer ≡ refused n
 unfolding either
 refused-by zero n s d some e = absurd (some (sym e))
 refused-by (suc m) n s d some e = ap refused e
 
-refused-only : (m n : ℕ) (s : State) (d : Called) → ((k : ℕ) → d .answer ≡ refused k → ⊥) → either m s d .answer ≡ refused n → (m ≡ n) × ¬ (n ≡ 0)
+refused-only : (m n : ℕ) (s : State) (d : CallResult) → ((k : ℕ) → d .answer ≡ refused k → ⊥) → either m s d .answer ≡ refused n → (m ≡ n) × ¬ (n ≡ 0)
 unfolding either
 refused-only zero n s d done e = absurd (done n e)
 refused-only (suc m) n s d done e = let same : suc m ≡ n = cc in (same, λ z. omega arith)
 
 module _ (s : State) where
-  listed : (c : Call) (n : ℕ) → ¬ (n ≡ 0) → firstOf (tableOf c s) ≡ n → called c s .answer ≡ refused n
+  listed : (c : Call) (n : ℕ) → ¬ (n ≡ 0) → firstRefusal (refusalTableOf c s) ≡ n → performCall c s .answer ≡ refused n
   listed c n some e = rw (by-number c s) (refused-by (number c s) n s (done c s) some e)
 
-  only : (c : Call) (n : ℕ) → called c s .answer ≡ refused n → (firstOf (tableOf c s) ≡ n) × ¬ (n ≡ 0)
+  only : (c : Call) (n : ℕ) → performCall c s .answer ≡ refused n → (firstRefusal (refusalTableOf c s) ≡ n) × ¬ (n ≡ 0)
   only c n e = refused-only (number c s) n s (done c s) (answers c s) (rw (by-number c s) at e)
 
-  faulty : (fault : Fault) (place : ℕ) → firstOf (tableOf run s) ≡ 0 → oldestVerdict (s .engine) (s .ring) ≡ Faulty fault place →
-      called run s ≡ record {
+  faulty : (fault : Fault) (place : ℕ) → firstRefusal (refusalTableOf run s) ≡ 0 → oldestVerdict (s .engine) (s .ring) ≡ Faulty fault place →
+      performCall run s ≡ record {
         answer =
             completed (oldest (s .engine) .client) (oldest (s .engine) .ticket)
             (record { status = faultStatus fault; fault = faultNumber fault; offset = place });
-        after = state (withoutOldest (s .engine)) (s .ring) (s .memory);
+        after = mkState (withoutOldest (s .engine)) (s .ring) (s .memory);
       }
   unfolding either
   faulty fault place z e =
-      let same = faulty-batch (boundsFor (s .engine) (oldest (s .engine) .client)) resetBank (oldestWords (s .engine) (s .ring)) (s .memory) fault place e in
+      let same = faulty-batch (boundsOfClient (s .engine) (oldest (s .engine) .client)) resetBank (oldestWords (s .engine) (s .ring)) (s .memory) fault place e in
       rw (by-number run s, z, same, e)
 
-pub demand1 : (s : State) → Demand1 s
-demand1 s = record { listed = listed s; only = only s; harmless = λ c. harmless c s; faulty = faulty s }
+  of-calls : OfCalls s
+  of-calls = record { listed = listed; only = only; harmless = λ c. harmless c s; faulty = faulty }
+
+-- ---- the encoder
+
+module _ (fields : Fields) (buffer : List ℕ) where
+  encoder-listed : encoderNumber (answerOf fields (length buffer)) ≡ firstRefusal (encoderTable fields (length buffer))
+  unfolding answerOf firstRefusal
+  encoder-listed = by (allowed fields) (ltb (length buffer) 80)
+    where
+      by : (a short : Bool) → encoderNumber (cond a (cond short ShortBuffer Written) Forbidden) ≡ cond (not a) 24 (cond short 12 0)
+      by true true = refl
+      by true false = refl
+      by false short = refl
+
+  encoder-harmless : ¬ (encoderNumber (answerOf fields (length buffer)) ≡ 0) → bufferAfter fields buffer ≡ buffer
+  unfolding bufferAfter
+  encoder-harmless = by (answerOf fields (length buffer))
+    where
+      by : (a : Answer) → ¬ (encoderNumber a ≡ 0) → bufferOnAnswer a (taskBytes fields) buffer ≡ buffer
+      by Written some = absurd (some refl)
+      by Forbidden some = refl
+      by ShortBuffer some = refl
+
+pub demand1 : Demand1
+demand1 = record {
+  set-up = set-up-number;
+  calls = of-calls;
+  encoder = λ fields buffer. record { listed = encoder-listed fields buffer; harmless = encoder-harmless fields buffer };
+}

@@ -5,18 +5,18 @@ use Prim.Native.Nat.{ℕ}
 use lib.ListN.{length}
 use Rattle.record.specs.Clients.{windowsOf}
 use Rattle.record.proofs.Line.{held}
-use Rattle.queue.specs.Refusals.{firstOf, setUpTable}
-use Rattle.queue.specs.Calls.{unless, fresh as freshRecord, setUp}
+use Rattle.queue.specs.Refusals.{firstRefusal, setUpTable}
+use Rattle.queue.specs.Calls.{unlessRefused, initialRecord as freshRecord, setUpResult}
 use Rattle.queue.proofs.Refusals.{set-up-allowed}
 use Rattle.queue.proofs.Kept.{fresh-sized, fresh-valid, fresh-waiting}
 use Rattle.queue.proofs.Stays.{set-up-number}
 use Rattle.model.specs.Calls.{Setup, Call, opens, submit, run, pending, Answer}
-use Rattle.model.specs.State.{Model, fresh}
+use Rattle.model.specs.State.{Model, initialModel}
 use Rattle.model.specs.Refusals.{refusal}
-use Rattle.model.specs.Model.{step, effect, answers, after, end}
-use Rattle.claims.specs.OfModel.{real}
-use Rattle.claims.specs.Engine.{State, state, called, answersOf, stateAfter, Accepted, begin}
-use Rattle.claims.specs.Demand3.{LikeModel}
+use Rattle.model.specs.Model.{step, effect, answers, after, modelAfterAll}
+use Rattle.claims.specs.ModelProperties.{batchSemantics}
+use Rattle.claims.specs.Engine.{State, mkState, performCall, answersOf, stateAfter, SetUpAccepted, initialState}
+use Rattle.claims.specs.Demand3.{RefinesModel}
 use Rattle.claims.proofs.Cases.{number, done, by-number}
 use Rattle.claims.proofs.Seen.{seenWindows}
 use Rattle.claims.proofs.Related.{numbersIn, seen, Related}
@@ -26,42 +26,42 @@ use Rattle.claims.proofs.Runs.{run-done}
 
 module _ (setup : Setup) (n : ℕ) where
   -- a call that is not refused
-  all-done : (c : Call) (model : Model) (s : State) (R : Related setup n model s) → number c s ≡ 0 → Alike setup n (done c s) (effect real setup n c (seen (model .accepted) s))
+  all-done : (c : Call) (model : Model) (s : State) (R : Related setup n model s) → number c s ≡ 0 → Alike setup n (done c s) (effect batchSemantics setup n c (seen (model .accepted) s))
   all-done (opens w) model s R z = open-done setup n s (R .sound) (model .accepted) (R .next) w z
   all-done (submit client bytes) model s R z = submit-done setup n s (R .sound) (model .accepted) (R .next) client bytes z
   all-done run model s R z = run-done setup n s (R .sound) (model .accepted) (R .next) z
   all-done (pending client) model s R z = pending-done setup n s (R .sound) (model .accepted) (R .next) client
 
   -- any call
-  pub together : (c : Call) (model : Model) (s : State) → Related setup n model s → Alike setup n (called c s) (step real setup n c model)
+  pub together : (c : Call) (model : Model) (s : State) → Related setup n model s → Alike setup n (performCall c s) (step batchSemantics setup n c model)
   together c model s R =
       rw (by-number c s)
       (either-alike setup n (number c s) _ model s (done c s) _
       (alike setup n s (R .sound) (model .accepted) c ∙ sym (ap (λ (m : Model). refusal setup n m c) (R .is)))
       R
-      (λ z. subst (λ (m : Model). Alike setup n (done c s) (effect real setup n c m)) (sym (R .is)) (all-done c model s R z)))
+      (λ z. subst (λ (m : Model). Alike setup n (done c s) (effect batchSemantics setup n c m)) (sym (R .is)) (all-done c model s R z)))
 
   -- any list of calls
   pub follow : (cs : List Call) (model : Model) (s : State) → Related setup n model s →
-      (answersOf cs s ≡ answers real setup n cs model) × Related setup n (after real setup n cs model) (stateAfter cs s)
+      (answersOf cs s ≡ answers batchSemantics setup n cs model) × Related setup n (after batchSemantics setup n cs model) (stateAfter cs s)
   unfolding answersOf stateAfter answers after
   follow [] model s R = (refl, R)
   follow (c ∷ cs) model s R =
       let q = together c model s R in
-      let r = follow cs (step real setup n c model .after) (called c s .after) (q .1) in
+      let r = follow cs (step batchSemantics setup n c model .after) (performCall c s .after) (q .1) in
       (ap₂ (λ (a : Answer) (rest : List Answer). a ∷ rest) (q .0) (r .0), r .1)
 
 -- ---- from the start
 
-module _ (setup : Setup) (ring : List ℕ) (A : Accepted setup) where
-  none : firstOf (setUpTable (numbersIn setup)) ≡ 0
+module _ (setup : Setup) (ring : List ℕ) (A : SetUpAccepted setup) where
+  none : firstRefusal (setUpTable (numbersIn setup)) ≡ 0
   none = sym (set-up-number (numbersIn setup)) ∙ A
 
-  begun : (memory : List ℕ) → begin setup ring memory ≡ state (freshRecord (numbersIn setup)) ring memory
-  unfolding setUp unless
+  begun : (memory : List ℕ) → initialState setup ring memory ≡ mkState (freshRecord (numbersIn setup)) ring memory
+  unfolding setUpResult unlessRefused
   begun memory = rw none
 
-  fresh-related : (memory : List ℕ) → Related setup (length ring) (fresh memory) (state (freshRecord (numbersIn setup)) ring memory)
+  fresh-related : (memory : List ℕ) → Related setup (length ring) (initialModel memory) (mkState (freshRecord (numbersIn setup)) ring memory)
   unfolding freshRecord windowsOf seenWindows held
   fresh-related memory = record {
     sound = record {
@@ -74,17 +74,17 @@ module _ (setup : Setup) (ring : List ℕ) (A : Accepted setup) where
     is = rw (fresh-waiting (numbersIn setup));
   }
 
-  pub start : (memory : List ℕ) → Related setup (length ring) (fresh memory) (begin setup ring memory)
+  pub start : (memory : List ℕ) → Related setup (length ring) (initialModel memory) (initialState setup ring memory)
   start memory = rw (begun memory) (fresh-related memory)
 
   module _ (calls : List Call) (memory : List ℕ) where
-    both : (answersOf calls (begin setup ring memory) ≡ answers real setup (length ring) calls (fresh memory))
-        × Related setup (length ring) (end real setup (length ring) calls memory) (stateAfter calls (begin setup ring memory))
-    both = follow setup (length ring) calls (fresh memory) (begin setup ring memory) (start memory)
+    both : (answersOf calls (initialState setup ring memory) ≡ answers batchSemantics setup (length ring) calls (initialModel memory))
+        × Related setup (length ring) (modelAfterAll batchSemantics setup (length ring) calls memory) (stateAfter calls (initialState setup ring memory))
+    both = follow setup (length ring) calls (initialModel memory) (initialState setup ring memory) (start memory)
 
     -- the two stay related
-    pub at-end : Related setup (length ring) (end real setup (length ring) calls memory) (stateAfter calls (begin setup ring memory))
+    pub at-end : Related setup (length ring) (modelAfterAll batchSemantics setup (length ring) calls memory) (stateAfter calls (initialState setup ring memory))
     at-end = both .1
 
-    pub like-model : LikeModel setup ring calls memory
+    pub like-model : RefinesModel setup ring calls memory
     like-model = record { every-answer = both .0; every-byte = sym (ap (λ (m : Model). m .memory) (at-end .is)) }

@@ -4,26 +4,26 @@ use mathlib.Core.List.{List, [], _∷_, _++_, List·Memᴰ, List·Memᴰ·head, 
 use mathlib.Core.Logic.{_⊎_, inl, inr}
 use Prim.Native.Nat.{ℕ, zero, suc}
 use lib.ListN.{length, take}
-use Rattle.model.specs.Calls.{Setup, Call, opens, submit, run, pending, Verdict, Answer, completed}
-use Rattle.model.specs.Drawing.{Way}
+use Rattle.model.specs.Calls.{Setup, Call, opens, submit, run, pending, CompletionStatus, Answer, completed}
+use Rattle.model.specs.BatchSemantics.{BatchSemantics}
 use Rattle.model.specs.State.{Batch, batch, Model}
 use Rattle.model.specs.Refusals.{refusal}
-use Rattle.model.specs.Model.{Step, runStep, effect, step, answers, executed, end}
+use Rattle.model.specs.Model.{Step, runStep, effect, step, answers, executed, modelAfterAll}
 use Rattle.model.proofs.Refusals.{unless-cases}
-use Rattle.claims.specs.OfModel.{real}
-use Rattle.claims.specs.Engine.{called, Accepted}
-use Rattle.claims.specs.Demand3.{completedOf, last, InTime}
+use Rattle.claims.specs.ModelProperties.{batchSemantics}
+use Rattle.claims.specs.Engine.{performCall, SetUpAccepted}
+use Rattle.claims.specs.Demand3.{completedOf, finalState, BoundedWaiting}
 use Rattle.claims.proofs.OfModel.{of-model}
 use Rattle.claims.proofs.Follows.{together, follow, at-end}
 
 -- completions of these batches, one of each, in order
 data Names : List Answer → List Batch → Type 0 where
   none : Names [] []
-  more : (b : Batch) (v : Verdict) {told : List Answer} {bs : List Batch} → Names told bs → Names (completed (b .client) (b .ticket) v ∷ told) (b ∷ bs)
+  more : (b : Batch) (v : CompletionStatus) {told : List Answer} {bs : List Batch} → Names told bs → Names (completed (b .client) (b .ticket) v ∷ told) (b ∷ bs)
 
 -- of a batch among the first k there is a completion among the first k
 abbrev Told : Batch → List Answer → Type 0
-Told b told = (v : Verdict) × List·Memᴰ (completed (b .client) (b .ticket) v) told
+Told b told = (v : CompletionStatus) × List·Memᴰ (completed (b .client) (b .ticket) v) told
 
 later : (b : Batch) (a : Answer) (told : List Answer) → Told b told → Told b (a ∷ told)
 later b a told t = (t .0, List·Memᴰ·tail (t .1))
@@ -39,7 +39,7 @@ named (suc k) b (more c v {told} {bs} n) m = go (List·Memᴰ·cases-cons m) (λ
 
 -- ---- each call of the model completes what it executes
 
-module _ (way : Way) (setup : Setup) (ring : ℕ) where
+module _ (way : BatchSemantics) (setup : Setup) (ring : ℕ) where
   abbrev One : Step → Type 0
   One s = (told : List Answer) (bs : List Batch) → Names (completedOf told) bs → Names (completedOf (s .answer ∷ told)) (s .executed ++ bs)
 
@@ -63,12 +63,12 @@ module _ (way : Way) (setup : Setup) (ring : ℕ) where
 
 -- ---- and the engine answers told the model does
 
-pub in-time : (setup : Setup) (ring : List ℕ) → Accepted setup → (calls later : List Call) (memory : List ℕ) → InTime setup ring calls memory later
+pub in-time : (setup : Setup) (ring : List ℕ) → SetUpAccepted setup → (calls later : List Call) (memory : List ℕ) → BoundedWaiting setup ring calls memory later
 in-time setup ring A calls later memory client ticket bytes a h =
     let n : ℕ = length ring in
-    let model : Model = end real setup n calls memory in
-    let first : Step = step real setup n (submit client bytes) model in
-    let q = together setup n (submit client bytes) model (last setup ring calls memory) (at-end setup ring A calls memory) in
-    let same = follow setup n later (first .after) (called (submit client bytes) (last setup ring calls memory) .after) (q .1) .0 in
+    let model : Model = modelAfterAll batchSemantics setup n calls memory in
+    let first : Step = step batchSemantics setup n (submit client bytes) model in
+    let q = together setup n (submit client bytes) model (finalState setup ring calls memory) (at-end setup ring A calls memory) in
+    let same = follow setup n later (first .after) (performCall (submit client bytes) (finalState setup ring calls memory) .after) (q .1) .0 in
     let among = of-model setup n .in-time calls later memory client ticket bytes (sym (q .0) ∙ a) (rw same at h) in
-    rw same (named 8 (batch client ticket bytes) (all-named real setup n later (first .after)) among)
+    rw same (named 8 (batch client ticket bytes) (all-named batchSemantics setup n later (first .after)) among)

@@ -3,6 +3,7 @@ pub mod Confined
 pub mod OfModel
 pub mod Cases
 pub mod Demand1
+pub mod Demand2
 pub mod Seen
 pub mod Related
 pub mod Tables
@@ -12,5 +13,6 @@ pub mod Follows
 pub mod InTime
 pub mod Fruitless
 pub mod Theorem
+pub mod Queue
 pub mod Order
 pub mod Twelve

@@ -3,12 +3,12 @@ use Prim.Native.Nat.{ℕ}
 use Rattle.register.specs.Bank.{resetBank}
 use Rattle.model.specs.Calls.{Setup}
 use Rattle.model.proofs.Theorems.{claims}
-use Rattle.claims.specs.OfModel.{OfModel, real}
+use Rattle.claims.specs.ModelProperties.{ModelPropertiesHold, batchSemantics}
 use Rattle.claims.proofs.Confined.{confined}
 
-pub of-model : (setup : Setup) (ring : ℕ) → OfModel setup ring
+pub of-model : (setup : Setup) (ring : ℕ) → ModelPropertiesHold setup ring
 of-model setup ring =
-    let c = claims real setup ring in
+    let c = claims batchSemantics setup ring in
     record {
       separate = c .separate (confined resetBank);
       unmoved = c .unmoved (confined resetBank);

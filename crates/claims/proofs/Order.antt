@@ -5,19 +5,19 @@ use Prim.Native.Nat.{ℕ}
 use lib.ListN.{length}
 use Rattle.register.specs.Bank.{resetBank}
 use Rattle.model.specs.Calls.{Setup, Call}
-use Rattle.model.specs.State.{fresh}
+use Rattle.model.specs.State.{initialModel}
 use Rattle.model.specs.Order.{verdictsOf, SameOutcome as SameInModel}
-use Rattle.model.specs.Claims.{Claims}
+use Rattle.model.specs.Properties.{ModelProperties}
 use Rattle.model.proofs.Theorems.{claims}
-use Rattle.claims.specs.OfModel.{real}
-use Rattle.claims.specs.Engine.{Accepted}
+use Rattle.claims.specs.ModelProperties.{batchSemantics}
+use Rattle.claims.specs.Engine.{SetUpAccepted}
 use Rattle.claims.specs.Order.{SameOutcome, Promise}
 use Rattle.claims.proofs.Confined.{confined}
 use Rattle.claims.proofs.Follows.{like-model}
 
-module _ (setup : Setup) (ring : List ℕ) (A : Accepted setup) where
+module _ (setup : Setup) (ring : List ℕ) (A : SetUpAccepted setup) where
   -- what is the same of the model is the same of the engine
-  of-engine : (calls calls′ : List Call) (memory : List ℕ) → SameInModel real setup (length ring) calls calls′ (fresh memory) (fresh memory) → SameOutcome setup ring calls calls′ memory
+  of-engine : (calls calls′ : List Call) (memory : List ℕ) → SameInModel batchSemantics setup (length ring) calls calls′ (initialModel memory) (initialModel memory) → SameOutcome setup ring calls calls′ memory
   of-engine calls calls′ memory same =
       let one = like-model setup ring A calls memory in
       let two = like-model setup ring A calls′ memory in
@@ -28,7 +28,7 @@ module _ (setup : Setup) (ring : List ℕ) (A : Accepted setup) where
 
 pub promise : Promise
 promise setup ring A =
-    let c : Claims real setup (length ring) = claims real setup (length ring) in
+    let c : ModelProperties batchSemantics setup (length ring) = claims batchSemantics setup (length ring) in
     record {
       exchange = c .exchange (confined resetBank);
       any-order = c .any-order (confined resetBank);

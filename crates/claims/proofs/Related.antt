@@ -7,10 +7,10 @@ use native.Mathlib.Omega.{arith}
 use lib.ListN.{length}
 use lib.Seq.{length-take-le}
 use lib.Dec.{eqb}
-use Rattle.ring.specs.Segment.{wrapped}
+use Rattle.ring.specs.Segment.{wrapOffset}
 use Rattle.ring.proofs.Wrapped.{wrapped-in}
 use Rattle.record.specs.declared.Setup.{Setup as Numbers}
-use Rattle.record.specs.Slots.{ready, countOf as countIn}
+use Rattle.record.specs.Slots.{readyBatches, countOf as countIn}
 use Rattle.record.specs.Clients.{openClients, openWindows, clientAt}
 use Rattle.record.specs.Queue.{takenSlots, takenBytes, waiting}
 use Rattle.record.specs.Rules.{valid}
@@ -67,14 +67,14 @@ module _ (setup : Setup) (n : ℕ) (s : State) (S : Sound setup n s) where
   pub bytes-count : n ≡ setup .ring → totalBytes (seenWaiting (s .ring) (waiting (s .engine))) ≡ takenBytes (s .engine)
   bytes-count same =
       let ring : s .engine .setup .ring ≡ length (s .ring) = ap (λ (x : Numbers). x .ring) (S .numbers) ∙ omega (arith, S .long) in
-      let first : wrapped (length (s .ring)) (s .engine .read + 0) ≡ s .engine .read =
+      let first : wrapOffset (length (s .ring)) (s .engine .read + 0) ≡ s .engine .read =
       rw add-zero (wrapped-in (length (s .ring)) (s .engine .read) (omega (arith, facts .numbers .below)))
       in
       waits-bytes (s .ring) (s .engine .read) 0 (waiting (s .engine)) (omega (arith, facts .numbers .below)) (omega (arith, facts .within)) (rw (first, ← ring) (facts .ends))
       ∙ sym (sum-waiting (s .engine) facts (few-taken (s .engine) (S .sized)) (λ b. b .length))
 
   -- and the counts of each client
-  pub client-count : (client : ℕ) → countOf client (seenWaiting (s .ring) (waiting (s .engine))) ≡ countIn client (ready (s .engine .slots))
+  pub client-count : (client : ℕ) → countOf client (seenWaiting (s .ring) (waiting (s .engine))) ≡ countIn client (readyBatches (s .engine .slots))
   client-count client =
       waits-count client (s .ring) (waiting (s .engine))
       ∙ sym (sum-waiting (s .engine) facts (few-taken (s .engine) (S .sized)) (λ b. cond (eqb (b .client) client) 1 0))

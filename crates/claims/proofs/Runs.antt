@@ -7,16 +7,16 @@ use Rattle.word.specs.Word.{words}
 use Rattle.ring.specs.Segment.{segment}
 use Rattle.register.specs.Bank.{resetBank}
 use Rattle.rules.specs.declared.task.Bounds.{Bounds}
-use Rattle.batch.specs.Batch.{readBatch, verdictOf}
+use Rattle.batch.specs.Batch.{decodeBatch, verdictOf}
 use Rattle.record.specs.Queue.{waiting}
-use Rattle.engine.specs.Run.{oldest, boundsFor, oldestWords, withoutOldest}
+use Rattle.engine.specs.Run.{oldest, boundsOfClient, oldestWords, withoutOldest}
 use Rattle.engine.proofs.Refusals.{RunAllowed, run-allowed}
 use Rattle.engine.proofs.Stays.{run-sized, run-valid, oldest-owner, run-windows, oldest-words, run-held}
 use Rattle.model.specs.Calls.{Setup, run, completed}
 use Rattle.model.specs.State.{Batch, windowOf}
 use Rattle.model.specs.Model.{runStep, effect}
-use Rattle.claims.specs.Way.{boundsOf, numbersOf}
-use Rattle.claims.specs.OfModel.{real}
+use Rattle.claims.specs.BatchSemantics.{boundsOf, completionStatusOf}
+use Rattle.claims.specs.ModelProperties.{batchSemantics}
 use Rattle.claims.specs.Engine.{State}
 use Rattle.claims.proofs.Cases.{number, done}
 use Rattle.claims.proofs.Seen.{seenBatch, seenWaiting}
@@ -28,7 +28,7 @@ module _ (setup : Setup) (n : ℕ) (s : State) (S : Sound setup n s) (count : �
   allowed = run-allowed (s .engine) (length (s .ring)) (length (s .memory)) z
 
   -- the client's window and common
-  bounds : boundsFor (s .engine) (oldest (s .engine) .client) ≡ boundsOf (windowOf (seen count s) (oldest (s .engine) .client)) (setup .common)
+  bounds : boundsOfClient (s .engine) (oldest (s .engine) .client) ≡ boundsOf (windowOf (seen count s) (oldest (s .engine) .client)) (setup .common)
   bounds = rw (window-at setup n s S count (oldest (s .engine) .client) (oldest-owner (s .engine) (S .sized) (length (s .ring)) (length (s .memory)) allowed), S .numbers)
 
   -- the words
@@ -58,9 +58,9 @@ module _ (setup : Setup) (n : ℕ) (s : State) (S : Sound setup n s) (count : �
   unfolding withoutOldest
   run-next = next
 
-  run-like : Alike setup n (done run s) (runStep real (setup .common) (seen count s) (first ∷ rest))
+  run-like : Alike setup n (done run s) (runStep batchSemantics (setup .common) (seen count s) (first ∷ rest))
   run-like = (
-    ap₂ (λ (b : Bounds) (ws : List ℕ). completed (oldest (s .engine) .client) (oldest (s .engine) .ticket) (numbersOf (verdictOf (readBatch b resetBank ws)))) bounds read,
+    ap₂ (λ (b : Bounds) (ws : List ℕ). completed (oldest (s .engine) .client) (oldest (s .engine) .ticket) (completionStatusOf (verdictOf (decodeBatch b resetBank ws)))) bounds read,
     record {
       sound = run-sound;
       next = run-next;
@@ -68,6 +68,6 @@ module _ (setup : Setup) (n : ℕ) (s : State) (S : Sound setup n s) (count : �
     },
   )
 
-  pub run-done : Alike setup n (done run s) (effect real setup n run (seen count s))
+  pub run-done : Alike setup n (done run s) (effect batchSemantics setup n run (seen count s))
   unfolding effect
   run-done = rw waits run-like

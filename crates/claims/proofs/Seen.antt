@@ -5,11 +5,11 @@ use mathlib.Core.Bool.{true}
 use Prim.Native.Nat.{ℕ, zero, suc, _+_, _≤_, _<_}
 use native.Mathlib.Omega.{arith}
 use lib.ListN.{length, getD}
-use Rattle.ring.specs.Segment.{wrapped}
+use Rattle.ring.specs.Segment.{wrapOffset}
 use Rattle.ring.proofs.Segment.{lies-wrapped, length-segment}
 use Rattle.record.specs.declared.Window.{Window as Place}
 use Rattle.record.specs.declared.Batch.{Batch as Ready}
-use Rattle.record.specs.Slots.{sum, total, countOf as countIn}
+use Rattle.record.specs.Slots.{sumOver, totalLength, countOf as countIn}
 use Rattle.record.specs.Clients.{noClient}
 use Rattle.record.specs.Rules.{endToEnd}
 use Rattle.record.proofs.Line.{headed, held}
@@ -55,17 +55,17 @@ waits-length ring [] = refl
 waits-length ring (b ∷ bs) = ap suc (waits-length ring bs)
 
 pub waits-count : (client : ℕ) (ring : List ℕ) (bs : List Ready) → countOf client (seenWaiting ring bs) ≡ countIn client bs
-unfolding held countOf sum
+unfolding held countOf sumOver
 waits-count client ring [] = refl
 waits-count client ring (b ∷ bs) = rw (waits-count client ring bs)
 
 -- batches that lie end to end in the ring, from u bytes past `read` on, have their lengths in bytes
-pub waits-bytes : (ring : List ℕ) (read u : ℕ) (bs : List Ready) → read < length ring → u + total bs ≤ length ring →
-    endToEnd (length ring) (wrapped (length ring) (read + u)) bs ≡ true → totalBytes (seenWaiting ring bs) ≡ total bs
-unfolding held totalBytes sum
+pub waits-bytes : (ring : List ℕ) (read u : ℕ) (bs : List Ready) → read < length ring → u + totalLength bs ≤ length ring →
+    endToEnd (length ring) (wrapOffset (length ring) (read + u)) bs ≡ true → totalBytes (seenWaiting ring bs) ≡ totalLength bs
+unfolding held totalBytes sumOver
 waits-bytes ring read u [] below h e = refl
 waits-bytes ring read u (b ∷ bs) below h e =
     let q = headed (length ring) read below u b bs (omega arith) e in
-    let size = length-segment ring (wrapped (length ring) (read + u)) (b .length) (lies-wrapped ring read u (b .length) below (omega arith)) in
+    let size = length-segment ring (wrapOffset (length ring) (read + u)) (b .length) (lies-wrapped ring read u (b .length) below (omega arith)) in
     let rest = waits-bytes ring read (u + b .length) bs below (omega arith) (q .rest) in
     rw (q .at, size, rest)

@@ -15,24 +15,24 @@ use Rattle.queue.proofs.Room.{submit-lies}
 use Rattle.model.specs.Windows.{Window}
 use Rattle.model.specs.Calls.{Setup, opens, submit, pending, opened, accepted, ready}
 use Rattle.model.specs.State.{Model}
-use Rattle.model.specs.Model.{Step, unless, effect}
-use Rattle.claims.specs.OfModel.{real}
-use Rattle.claims.specs.Engine.{State, Called}
+use Rattle.model.specs.Model.{Step, refuseOr, effect}
+use Rattle.claims.specs.ModelProperties.{batchSemantics}
+use Rattle.claims.specs.Engine.{State, CallResult}
 use Rattle.claims.proofs.Cases.{given, number, done, either}
 use Rattle.claims.proofs.Seen.{seen-snoc, seenBatch}
 use Rattle.claims.proofs.Related.{seen, Sound, Related, open-count, client-count}
 
 -- the same answer, and related ends
-abbrev pub Alike : Setup → ℕ → Called → Step → Type 0
+abbrev pub Alike : Setup → ℕ → CallResult → Step → Type 0
 Alike setup n c t = (c .answer ≡ t .answer) × Related setup n (t .after) (c .after)
 
 -- refused alike, or alike if they are done
-pub either-alike : (setup : Setup) (n k k′ : ℕ) (model : Model) (s : State) (d : Called) (t : Step) → k ≡ k′ → Related setup n model s →
-    (k ≡ 0 → Alike setup n d t) → Alike setup n (either k s d) (unless k′ model t)
-unfolding either unless
+pub either-alike : (setup : Setup) (n k k′ : ℕ) (model : Model) (s : State) (d : CallResult) (t : Step) → k ≡ k′ → Related setup n model s →
+    (k ≡ 0 → Alike setup n d t) → Alike setup n (either k s d) (refuseOr k′ model t)
+unfolding either refuseOr
 either-alike setup n k k′ model s d t e R h = rw (← e) (go k h)
   where
-    go : (k : ℕ) → (k ≡ 0 → Alike setup n d t) → Alike setup n (either k s d) (unless k model t)
+    go : (k : ℕ) → (k ≡ 0 → Alike setup n d t) → Alike setup n (either k s d) (refuseOr k model t)
     go zero h = h refl
     go (suc k) h = (refl, R)
 
@@ -52,7 +52,7 @@ module _ (setup : Setup) (n : ℕ) (s : State) (S : Sound setup n s) (count : �
   unfolding withClient
   open-next w = next
 
-  pub open-done : (w : Window) → number (opens w) s ≡ 0 → Alike setup n (done (opens w) s) (effect real setup n (opens w) (seen count s))
+  pub open-done : (w : Window) → number (opens w) s ≡ 0 → Alike setup n (done (opens w) s) (effect batchSemantics setup n (opens w) (seen count s))
   unfolding effect
   open-done w z = (
     ap opened (sym (open-count setup n s S)),
@@ -85,7 +85,7 @@ module _ (setup : Setup) (n : ℕ) (s : State) (S : Sound setup n s) (count : �
     unfolding withBatch
     submit-next = rw next (omega arith)
 
-    pub submit-done : Alike setup n (done (submit client bytes) s) (effect real setup n (submit client bytes) (seen count s))
+    pub submit-done : Alike setup n (done (submit client bytes) s) (effect batchSemantics setup n (submit client bytes) (seen count s))
     unfolding effect
     submit-done = (
       ap accepted next,
@@ -98,6 +98,6 @@ module _ (setup : Setup) (n : ℕ) (s : State) (S : Sound setup n s) (count : �
 
   -- ---- pending
 
-  pub pending-done : (client : ℕ) → Alike setup n (done (pending client) s) (effect real setup n (pending client) (seen count s))
+  pub pending-done : (client : ℕ) → Alike setup n (done (pending client) s) (effect batchSemantics setup n (pending client) (seen count s))
   unfolding effect
   pending-done client = (ap ready (sym (client-count setup n s S client)), record { sound = S; next = next; is = refl })

@@ -8,15 +8,15 @@ use native.Mathlib.Omega.{arith}
 use lib.Dec.{ltb, leb, eqb}
 use borrow.Author.Tests.{lt-ltb, le-ltb, le-leb, lt-leb, eqb-true, eqb-false, not-true}
 use Rattle.word.proofs.Tests.{split, and-true}
-use Rattle.range.specs.Range.{inside, shared}
+use Rattle.range.specs.Range.{containedIn, overlaps}
 use Rattle.record.specs.declared.Setup.{Setup as Numbers}
 use Rattle.record.specs.declared.Window.{Window as Place}
-use Rattle.record.specs.Clients.{openWindows, bytesOf, firstBytes, sharesAny, badWindow as badPlace, noneBad}
+use Rattle.record.specs.Clients.{openWindows, windowRange, prefixRange, overlapsAny, badWindow as badPlace, windowsValid}
 use Rattle.record.proofs.Windows.{placed, shared-tests, shared-first}
-use Rattle.queue.specs.Refusals.{firstOf}
+use Rattle.queue.specs.Refusals.{firstRefusal}
 use Rattle.model.specs.Windows.{Window, window, overlap, overlapAny}
 use Rattle.model.specs.Calls.{Setup, Call, opens, submit, run, pending}
-use Rattle.model.specs.Refusals.{table, firstOf as firstRow, refusal}
+use Rattle.model.specs.Refusals.{refusalTable, firstHolding as firstRow, refusal}
 use Rattle.claims.specs.Engine.{State}
 use Rattle.claims.proofs.Cases.{given, number}
 use Rattle.claims.proofs.Seen.{seenWindows}
@@ -34,27 +34,27 @@ both-true : (a : Bool) → a ≡ (a && true)
 both-true true = refl
 both-true false = refl
 
-common-like : (w : Window) (n : ℕ) → 0 < w .length → shared (bytesOf (given w)) (firstBytes n) ≡ overlap w (window 0 n)
+common-like : (w : Window) (n : ℕ) → 0 < w .length → overlaps (windowRange (given w)) (prefixRange n) ≡ overlap w (window 0 n)
 common-like w n h =
     let z : 0 + n ≡ n = omega arith in
-    shared-first (bytesOf (given w)) n (omega arith) ∙ rw (z, lt-ltb 0 (w .start + w .length) (omega arith)) (both-true (ltb (w .start) n))
+    shared-first (windowRange (given w)) n (omega arith) ∙ rw (z, lt-ltb 0 (w .start + w .length) (omega arith)) (both-true (ltb (w .start) n))
 
 -- sharing with one of the windows, where none is empty
-shares-like : (numbers : Numbers) (w : Window) (ws : List Place) → 0 < w .length → noneBad numbers ws ≡ true → sharesAny (bytesOf (given w)) ws ≡ overlapAny w (seenWindows ws)
-unfolding sharesAny overlapAny seenWindows noneBad
+shares-like : (numbers : Numbers) (w : Window) (ws : List Place) → 0 < w .length → windowsValid numbers ws ≡ true → overlapsAny (windowRange (given w)) ws ≡ overlapAny w (seenWindows ws)
+unfolding overlapsAny overlapAny seenWindows windowsValid
 shares-like numbers w [] h e = refl
 shares-like numbers w (v ∷ ws) h e =
-    let both = and-true (not (badPlace numbers ws v)) (noneBad numbers ws) e in
+    let both = and-true (not (badPlace numbers ws v)) (windowsValid numbers ws) e in
     let p = placed numbers ws v (not-true (badPlace numbers ws v) (both .0)) in
-    ap₂ _||_ (shared-tests (bytesOf (given w)) (bytesOf v) (omega arith) (omega arith)) (shares-like numbers w ws h (both .1))
+    ap₂ _||_ (shared-tests (windowRange (given w)) (windowRange v) (omega arith) (omega arith)) (shares-like numbers w ws h (both .1))
 
-bad-like : (setup : Setup) (w : Window) (ws : List Place) → noneBad (numbersIn setup) ws ≡ true →
+bad-like : (setup : Setup) (w : Window) (ws : List Place) → windowsValid (numbersIn setup) ws ≡ true →
     badPlace (numbersIn setup) ws (given w) ≡
     (eqb (w .length) 0 || ltb (setup .memory) (w .start + w .length) || overlap w (window 0 (setup .common)) || overlapAny w (seenWindows ws))
 bad-like setup w ws e = go (eqb (w .length) 0) refl
   where
     go : (t : Bool) → eqb (w .length) 0 ≡ t →
-        (t || not (inside (bytesOf (given w)) (firstBytes (setup .memory))) || shared (bytesOf (given w)) (firstBytes (setup .common)) || sharesAny (bytesOf (given w)) ws) ≡
+        (t || not (containedIn (windowRange (given w)) (prefixRange (setup .memory))) || overlaps (windowRange (given w)) (prefixRange (setup .common)) || overlapsAny (windowRange (given w)) ws) ≡
         (t || ltb (setup .memory) (w .start + w .length) || overlap w (window 0 (setup .common)) || overlapAny w (seenWindows ws))
     go true f = refl
     go false f =
@@ -71,21 +71,21 @@ past-ten false a b h = refl
 
 module _ (setup : Setup) (n : ℕ) (s : State) (S : Sound setup n s) (accepted : ℕ) where
   open-alike : (w : Window) → number (opens w) s ≡ refusal setup n (seen accepted s) (opens w)
-  unfolding firstOf firstRow table
+  unfolding firstRefusal firstRow refusalTable
   open-alike w = rw (S .ok, open-count setup n s S, S .numbers, bad-like setup w (openWindows (s .engine)) (rw (S .numbers) at (facts setup n s S .windows)))
 
   submit-alike : (client : ℕ) (bytes : List ℕ) → number (submit client bytes) s ≡ refusal setup n (seen accepted s) (submit client bytes)
-  unfolding firstOf firstRow table
+  unfolding firstRefusal firstRow refusalTable
   submit-alike client bytes =
       rw (S .ok, S .long, S .numbers, open-count setup n s S, slots-count setup n s S)
       (past-ten (eqb n (setup .ring)) _ _ (λ e. rw (bytes-count setup n s S (eqb-true n (setup .ring) e))))
 
   run-alike : number run s ≡ refusal setup n (seen accepted s) run
-  unfolding firstOf firstRow table
+  unfolding firstRefusal firstRow refusalTable
   run-alike = rw (S .ok, S .long, S .numbers, slots-count setup n s S)
 
   pending-alike : (client : ℕ) → number (pending client) s ≡ refusal setup n (seen accepted s) (pending client)
-  unfolding firstOf firstRow table
+  unfolding firstRefusal firstRow refusalTable
   pending-alike client = rw (S .ok, open-count setup n s S)
 
   pub alike : (c : Call) → number c s ≡ refusal setup n (seen accepted s) c

@@ -4,18 +4,18 @@ use mathlib.Core.List.{List}
 use Prim.Native.Nat.{ℕ}
 use lib.ListN.{length}
 use Rattle.model.specs.Calls.{Setup, Call}
-use Rattle.model.specs.TwoRuns.{Twins}
-use Rattle.claims.specs.OfModel.{real}
-use Rattle.claims.specs.Engine.{Accepted}
-use Rattle.claims.specs.Demand3.{Separate, Unmoved, Promise}
+use Rattle.model.specs.Noninterference.{LowEquivalent}
+use Rattle.claims.specs.ModelProperties.{batchSemantics}
+use Rattle.claims.specs.Engine.{SetUpAccepted}
+use Rattle.claims.specs.Demand3.{Isolation, Noninterference, Demand3Holds}
 use Rattle.claims.proofs.OfModel.{of-model}
-use Rattle.claims.proofs.Cases.{harmless}
+use Rattle.claims.proofs.Demand1.{demand1}
 use Rattle.claims.proofs.Follows.{like-model}
 use Rattle.claims.proofs.InTime.{in-time}
 use Rattle.claims.proofs.Fruitless.{fruitless}
 
-module _ (setup : Setup) (A : Accepted setup) where
-  separate : (ring : List ℕ) (calls : List Call) (memory : List ℕ) → Separate setup ring calls memory
+module _ (setup : Setup) (A : SetUpAccepted setup) where
+  separate : (ring : List ℕ) (calls : List Call) (memory : List ℕ) → Isolation setup ring calls memory
   separate ring calls memory =
       let same = like-model setup ring A calls memory .every-byte in
       let q = of-model setup (length ring) .separate calls memory in
@@ -27,7 +27,7 @@ module _ (setup : Setup) (A : Accepted setup) where
       }
 
   unmoved : (client : ℕ) (ring ring′ : List ℕ) (calls calls′ : List Call) (memory memory′ : List ℕ) → length ring ≡ length ring′ →
-      Twins real setup (length ring) client calls calls′ memory memory′ → Unmoved setup ring client ring′ calls calls′ memory memory′
+      LowEquivalent batchSemantics setup (length ring) client calls calls′ memory memory′ → Noninterference setup ring client ring′ calls calls′ memory memory′
   unmoved client ring ring′ calls calls′ memory memory′ long t =
       let one = like-model setup ring A calls memory in
       let two = like-model setup ring′ A calls′ memory′ in
@@ -39,12 +39,12 @@ module _ (setup : Setup) (A : Accepted setup) where
       }
 
 -- the promise, with no premise but that set up was accepted
-pub promise : Promise
+pub promise : Demand3Holds
 promise setup ring A = record {
   like-model = like-model setup ring A;
   separate = separate setup A ring;
   unmoved = λ client ring′. unmoved setup A client ring ring′;
   in-time = in-time setup ring A;
-  harmless = harmless;
+  harmless = λ call s. demand1 .calls s .harmless call;
   fruitless = fruitless setup ring A;
 }

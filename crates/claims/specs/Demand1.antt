@@ -1,36 +1,66 @@
--- Demand 1, of any call on any engine record, ring and memory, not only on those that calls lead to. That a call ends and does nothing
--- undefined is asked of every function before its contract is; this is what the contracts' definitions make of the rest of the demand.
--- proofs/Demand1.antt proves it.
+-- Demand 1, of set up, of any call on any engine record, ring and memory, not only on those that calls lead to, and of the encoder. The tool checks
+-- termination and safety of every function; this file states the rest of demand 1. proofs/Demand1.antt proves it.
 use mathlib.Core.Path.{_≡_}
-use mathlib.Core.List.{List}
+use mathlib.Core.Bool.{not}
+use mathlib.Core.List.{List, [], _∷_}
 use Prim.Native.Nat.{ℕ}
 use lib.ListN.{length}
+use lib.Dec.{ltb}
+use Rattle.record.specs.declared.Setup.{Setup}
 use Rattle.rules.specs.declared.fault.Fault.{Fault}
 use Rattle.rules.specs.Faults.{faultNumber, faultStatus}
 use Rattle.batch.specs.declared.verdict.Verdict.the-variants.{Faulty}
-use Rattle.queue.specs.Refusals.{Row, firstOf, openTable, submitTable, pendingTable}
+use Rattle.encoder.specs.declared.fields.Fields.{Fields}
+use Rattle.encoder.specs.Fields.{allowed}
+use Rattle.encoder.specs.Encoder.{answerOf, bufferAfter, encodeRefusalOf as encoderNumber}
+use Rattle.queue.specs.Answers.{refusalNumberOf}
+use Rattle.queue.specs.Refusals.{RefusalRow, _when_, firstRefusal, setUpTable, openTable, submitTable, pendingTable}
+use Rattle.queue.specs.Calls.{setUpResult}
 use Rattle.engine.specs.Run.{runTable, oldest, oldestVerdict, withoutOldest}
 use Rattle.model.specs.Calls.{Call, opens, submit, run, pending, completed, refused}
-use Rattle.claims.specs.Engine.{State, state, called}
+use Rattle.claims.specs.Engine.{State, mkState, performCall}
 
 -- the rows of the paper's table that a call can be refused by, in its order
-abbrev pub tableOf : Call → State → List Row
-tableOf (opens w) s = openTable (s .engine) (record { start = w .start; length = w .length })
-tableOf (submit client bytes) s = submitTable (s .engine) (length (s .ring)) client (length bytes)
-tableOf run s = runTable (s .engine) (length (s .ring)) (length (s .memory))
-tableOf (pending client) s = pendingTable (s .engine) client
+abbrev pub refusalTableOf : Call → State → List RefusalRow
+refusalTableOf (opens w) s = openTable (s .engine) (record { start = w .start; length = w .length })
+refusalTableOf (submit client bytes) s = submitTable (s .engine) (length (s .ring)) client (length bytes)
+refusalTableOf run s = runTable (s .engine) (length (s .ring)) (length (s .memory))
+refusalTableOf (pending client) s = pendingTable (s .engine) client
 
-pub record Demand1 (s : State) : Type 0 where
+-- and the encoder; size: the length of the buffer that is lent
+abbrev pub encoderTable : Fields → (size : ℕ) → List RefusalRow
+encoderTable fields size =
+    24 when not (allowed fields)
+    ∷ 12 when ltb size 80
+    ∷ []
+
+-- a refused call leaves record, ring and memory as they were, whatever they are
+abbrev pub RefusalNoOp : Call → State → Type 0
+RefusalNoOp call s = (number : ℕ) → performCall call s .answer ≡ refused number → performCall call s .after ≡ s
+
+-- the four calls on a record
+pub record OfCalls (s : State) : Type 0 where
   -- "A refusal comes exactly under its listed condition, in the listed order": it is the first row whose condition holds; without one there is none
-  pub listed : (call : Call) (n : ℕ) → ¬ (n ≡ 0) → firstOf (tableOf call s) ≡ n → called call s .answer ≡ refused n
-  pub only : (call : Call) (n : ℕ) → called call s .answer ≡ refused n → (firstOf (tableOf call s) ≡ n) × ¬ (n ≡ 0)
+  pub listed : (call : Call) (n : ℕ) → ¬ (n ≡ 0) → firstRefusal (refusalTableOf call s) ≡ n → performCall call s .answer ≡ refused n
+  pub only : (call : Call) (n : ℕ) → performCall call s .answer ≡ refused n → (firstRefusal (refusalTableOf call s) ≡ n) × ¬ (n ≡ 0)
   -- "and changes nothing"
-  pub harmless : (call : Call) (n : ℕ) → called call s .answer ≡ refused n → called call s .after ≡ s
+  pub harmless : (call : Call) → RefusalNoOp call s
   -- "A faulty batch draws nothing and leaves with fault number, place, status": a run that is not refused, and finds a fault
-  pub faulty : (fault : Fault) (place : ℕ) → firstOf (tableOf run s) ≡ 0 → oldestVerdict (s .engine) (s .ring) ≡ Faulty fault place →
-      called run s ≡ record {
+  pub faulty : (fault : Fault) (place : ℕ) → firstRefusal (refusalTableOf run s) ≡ 0 → oldestVerdict (s .engine) (s .ring) ≡ Faulty fault place →
+      performCall run s ≡ record {
         answer =
             completed (oldest (s .engine) .client) (oldest (s .engine) .ticket)
             (record { status = faultStatus fault; fault = faultNumber fault; offset = place });
-        after = state (withoutOldest (s .engine)) (s .ring) (s .memory);
+        after = mkState (withoutOldest (s .engine)) (s .ring) (s .memory);
       }
+
+-- the encoder; "and changes nothing" is said of the buffer that is lent
+pub record OfEncoder (fields : Fields) (buffer : List ℕ) : Type 0 where
+  pub listed : encoderNumber (answerOf fields (length buffer)) ≡ firstRefusal (encoderTable fields (length buffer))
+  pub harmless : ¬ (encoderNumber (answerOf fields (length buffer)) ≡ 0) → bufferAfter fields buffer ≡ buffer
+
+pub record Demand1 : Type 0 where
+  -- set up's refusal, 0 for none, is by its table; it is lent nothing
+  pub set-up : (setup : Setup) → refusalNumberOf (setUpResult (setup .ring) (setup .memory) (setup .common) .answer) ≡ firstRefusal (setUpTable setup)
+  pub calls : (s : State) → OfCalls s
+  pub encoder : (fields : Fields) (buffer : List ℕ) → OfEncoder fields buffer

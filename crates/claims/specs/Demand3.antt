@@ -1,6 +1,6 @@
 -- Demand 3 (01, "The book of demand 3"): what is promised of the engine over any list of open, submit, run and pending calls, refused ones
--- included, from an accepted set up, with any ring and memory at the start. `real` is reading, judging and drawing by demand 2's definitions
--- (OfModel); what the words of the model mean stands in crate model, specs. proofs/Theorem.antt proves `Demand3`; no premise is left over.
+-- included, from an accepted set up, with any ring and memory at the start. `batchSemantics` is reading, judging and drawing by demand 2's definitions
+-- (ModelProperties). The model is in crates/model/specs. One hypothesis: set up was accepted. proofs/Theorem.antt proves it.
 use mathlib.Core.Path.{_≡_}
 use mathlib.Core.List.{List, [], _∷_, List·Memᴰ}
 use Prim.Native.Nat.{ℕ, _≤_, _<_}
@@ -8,13 +8,14 @@ use lib.ListN.{length, take}
 use Rattle.record.specs.Queue.{waiting}
 use Rattle.engine.specs.Run.{oldest}
 use Rattle.model.specs.Windows.{byte}
-use Rattle.model.specs.Calls.{Setup, Call, submit, run, Verdict, Answer, opened, accepted, completed, ready, refused, completions}
-use Rattle.model.specs.State.{Model, fresh, Owns}
-use Rattle.model.specs.Model.{answers, end}
-use Rattle.model.specs.Alone.{replayedAlone}
-use Rattle.model.specs.TwoRuns.{Each, SameAnswer, Twins}
-use Rattle.claims.specs.OfModel.{real}
-use Rattle.claims.specs.Engine.{State, Called, called, answersOf, stateAfter, Accepted, begin}
+use Rattle.model.specs.Calls.{Setup, Call, submit, run, CompletionStatus, Answer, opened, accepted, completed, ready, refused, completions}
+use Rattle.model.specs.State.{Model, initialModel, Owns}
+use Rattle.model.specs.Model.{answers, modelAfterAll}
+use Rattle.model.specs.ReplayedAlone.{replayedAlone}
+use Rattle.model.specs.Noninterference.{Pointwise, LowEqualAnswer, LowEquivalent}
+use Rattle.claims.specs.ModelProperties.{batchSemantics}
+use Rattle.claims.specs.Engine.{State, CallResult, performCall, answersOf, stateAfter, SetUpAccepted, initialState}
+use Rattle.claims.specs.Demand1.{RefusalNoOp}
 
 -- the completions among the answers, in order: the successful runs
 unfoldable pub completedOf : List Answer → List Answer
@@ -28,59 +29,56 @@ completedOf (refused n ∷ rest) = completedOf rest
 module _ (setup : Setup) (ring : List ℕ) where
   module _ (calls : List Call) (memory : List ℕ) where
     -- record, ring and memory after the calls; and the model after them
-    abbrev pub last : State
-    last = stateAfter calls (begin setup ring memory)
+    abbrev pub finalState : State
+    finalState = stateAfter calls (initialState setup ring memory)
 
-    abbrev pub final : Model
-    final = end real setup (length ring) calls memory
+    abbrev pub finalModel : Model
+    finalModel = modelAfterAll batchSemantics setup (length ring) calls memory
 
     -- a: every answer, and at the end every byte of memory, is the model's
-    pub record LikeModel : Type 0 where
-      pub every-answer : answersOf calls (begin setup ring memory) ≡ answers real setup (length ring) calls (fresh memory)
-      pub every-byte : last .memory ≡ final .memory
+    pub record RefinesModel : Type 0 where
+      pub every-answer : answersOf calls (initialState setup ring memory) ≡ answers batchSemantics setup (length ring) calls (initialModel memory)
+      pub every-byte : finalState .memory ≡ finalModel .memory
 
     -- b: each open client's window holds what that client's own executed batches, drawn alone and in order, make of the starting memory; bytes
     -- in no window, common among them, are as at the start
-    pub record Separate : Type 0 where
-      pub window : (client i : ℕ) → Owns final client i → byte (last .memory) i ≡ byte (replayedAlone real setup (length ring) client calls memory) i
-      pub no-window : (i : ℕ) → ((client : ℕ) → ¬ (Owns final client i)) → byte (last .memory) i ≡ byte memory i
-      pub common : (i : ℕ) → i < setup .common → byte (last .memory) i ≡ byte memory i
-      pub size : length (last .memory) ≡ length memory
+    pub record Isolation : Type 0 where
+      pub window : (client i : ℕ) → Owns finalModel client i → byte (finalState .memory) i ≡ byte (replayedAlone batchSemantics setup (length ring) client calls memory) i
+      pub no-window : (i : ℕ) → ((client : ℕ) → ¬ (Owns finalModel client i)) → byte (finalState .memory) i ≡ byte memory i
+      pub common : (i : ℕ) → i < setup .common → byte (finalState .memory) i ≡ byte memory i
+      pub size : length (finalState .memory) ≡ length memory
 
     -- d: a batch that is accepted now is among the first eight that later calls complete, once eight of their runs have succeeded
-    abbrev pub InTime : (later : List Call) → Type 0
-    InTime later = (client ticket : ℕ) (bytes : List ℕ) →
-        let submitted : Called = called (submit client bytes) last in
+    abbrev pub BoundedWaiting : (later : List Call) → Type 0
+    BoundedWaiting later = (client ticket : ℕ) (bytes : List ℕ) →
+        let submitted : CallResult = performCall (submit client bytes) finalState in
         submitted .answer ≡ accepted ticket →
         8 ≤ completions (answersOf later (submitted .after)) →
-        (v : Verdict) × List·Memᴰ (completed client ticket v) (take 8 (completedOf (answersOf later (submitted .after))))
+        (v : CompletionStatus) × List·Memᴰ (completed client ticket v) (take 8 (completedOf (answersOf later (submitted .after))))
 
     -- e: a faulty batch leaves memory as it was, and the queue without it
-    abbrev pub Fruitless : Type 0
-    Fruitless = (client ticket : ℕ) (v : Verdict) → called run last .answer ≡ completed client ticket v → ¬ (v .fault ≡ 0) →
-        (called run last .after .memory ≡ last .memory) × (waiting (last .engine) ≡ oldest (last .engine) ∷ waiting (called run last .after .engine))
+    abbrev pub FaultyBatchNoOp : Type 0
+    FaultyBatchNoOp = (client ticket : ℕ) (v : CompletionStatus) → performCall run finalState .answer ≡ completed client ticket v → ¬ (v .fault ≡ 0) →
+        (performCall run finalState .after .memory ≡ finalState .memory) × (waiting (finalState .engine) ≡ oldest (finalState .engine) ∷ waiting (performCall run finalState .after .engine))
 
   -- c: two runs that differ only in the bytes of one client's batches and in what its window holds at the start, and in what the rings hold. Every
   -- answer is the same but for status, fault and offset of that client's own batches, and so is every byte of memory outside that one window.
-  pub record Unmoved (client : ℕ) (ring′ : List ℕ) (calls calls′ : List Call) (memory memory′ : List ℕ) : Type 0 where
-    pub told : Each (SameAnswer client) (answersOf calls (begin setup ring memory)) (answersOf calls′ (begin setup ring′ memory′))
-    pub size : length (last calls memory .memory) ≡ length (stateAfter calls′ (begin setup ring′ memory′) .memory)
-    pub bytes : (i : ℕ) → ¬ (Owns (final calls memory) client i) →
-        byte (last calls memory .memory) i ≡ byte (stateAfter calls′ (begin setup ring′ memory′) .memory) i
-
--- e: a refused call leaves record, ring and memory as they were, whatever they are
-abbrev pub Harmless : Call → State → Type 0
-Harmless call s = (number : ℕ) → called call s .answer ≡ refused number → called call s .after ≡ s
+  pub record Noninterference (client : ℕ) (ring′ : List ℕ) (calls calls′ : List Call) (memory memory′ : List ℕ) : Type 0 where
+    pub told : Pointwise (LowEqualAnswer client) (answersOf calls (initialState setup ring memory)) (answersOf calls′ (initialState setup ring′ memory′))
+    pub size : length (finalState calls memory .memory) ≡ length (stateAfter calls′ (initialState setup ring′ memory′) .memory)
+    pub bytes : (i : ℕ) → ¬ (Owns (finalModel calls memory) client i) →
+        byte (finalState calls memory .memory) i ≡ byte (stateAfter calls′ (initialState setup ring′ memory′) .memory) i
 
 pub record Demand3 (setup : Setup) (ring : List ℕ) : Type 0 where
-  pub like-model : (calls : List Call) (memory : List ℕ) → LikeModel setup ring calls memory
-  pub separate : (calls : List Call) (memory : List ℕ) → Separate setup ring calls memory
+  pub like-model : (calls : List Call) (memory : List ℕ) → RefinesModel setup ring calls memory
+  pub separate : (calls : List Call) (memory : List ℕ) → Isolation setup ring calls memory
   pub unmoved : (client : ℕ) (ring′ : List ℕ) (calls calls′ : List Call) (memory memory′ : List ℕ) → length ring ≡ length ring′ →
-      Twins real setup (length ring) client calls calls′ memory memory′ → Unmoved setup ring client ring′ calls calls′ memory memory′
-  pub in-time : (calls later : List Call) (memory : List ℕ) → InTime setup ring calls memory later
-  pub harmless : (call : Call) (s : State) → Harmless call s
-  pub fruitless : (calls : List Call) (memory : List ℕ) → Fruitless setup ring calls memory
+      LowEquivalent batchSemantics setup (length ring) client calls calls′ memory memory′ → Noninterference setup ring client ring′ calls calls′ memory memory′
+  pub in-time : (calls later : List Call) (memory : List ℕ) → BoundedWaiting setup ring calls memory later
+  -- e: a refused call changes nothing (demand 1)
+  pub harmless : (call : Call) (s : State) → RefusalNoOp call s
+  pub fruitless : (calls : List Call) (memory : List ℕ) → FaultyBatchNoOp setup ring calls memory
 
 -- The promise.
-abbrev pub Promise : Type 0
-Promise = (setup : Setup) (ring : List ℕ) → Accepted setup → Demand3 setup ring
+abbrev pub Demand3Holds : Type 0
+Demand3Holds = (setup : Setup) (ring : List ℕ) → SetUpAccepted setup → Demand3 setup ring

@@ -6,11 +6,11 @@ use Prim.Native.Nat.{ℕ, zero, suc}
 use Rattle.record.specs.declared.Record.{Record}
 use Rattle.queue.specs.declared.Answer.{Answer as Told}
 use Rattle.queue.specs.declared.Reply.{Reply}
-use Rattle.queue.specs.Answers.{numberOf, valueOf}
-use Rattle.queue.specs.Calls.{setUp, openOf, submitOf, submitRing, pendingOf}
+use Rattle.queue.specs.Answers.{refusalNumberOf, valueOf}
+use Rattle.queue.specs.Calls.{setUpResult, openResult, submitResult, submitRing, pendingAnswer}
 use Rattle.engine.specs.declared.Ran.{Ran}
-use Rattle.engine.specs.Outcome.{Values, numberOf as refusalOf, valuesOf}
-use Rattle.engine.specs.Run.{runOf, runMemory}
+use Rattle.engine.specs.Outcome.{CompletionValues, runRefusalOf as refusalOf, valuesOf}
+use Rattle.engine.specs.Run.{runResult, runMemory}
 use Rattle.model.specs.Calls.{Setup, Call, opens, submit, run, pending, Answer, opened, accepted, completed, ready, refused}
 
 -- the engine record, and the ring and memory that are lent to every call
@@ -19,59 +19,59 @@ pub record State : Type 0 where
   pub ring : List ℕ
   pub memory : List ℕ
 
-abbrev pub state : Record → (ring memory : List ℕ) → State
-state engine ring memory = record { engine = engine; ring = ring; memory = memory }
+abbrev pub mkState : Record → (ring memory : List ℕ) → State
+mkState engine ring memory = record { engine = engine; ring = ring; memory = memory }
 
 -- what a call answered, and what it left
-pub record Called : Type 0 where
+pub record CallResult : Type 0 where
   pub answer : Answer
   pub after : State
 
 -- the refusal's number, 0 for none, and what is answered without one
-unfoldable pub told : (number : ℕ) → Answer → Answer
-told zero answer = answer
-told (suc n) answer = refused (suc n)
+unfoldable pub answerOrRefusal : (number : ℕ) → Answer → Answer
+answerOrRefusal zero answer = answer
+answerOrRefusal (suc n) answer = refused (suc n)
 
 -- run's five values
-abbrev pub completion : Values → Answer
+abbrev pub completion : CompletionValues → Answer
 completion v = completed (v .client) (v .ticket) (record { status = v .status; fault = v .fault; offset = v .offset })
 
-unfoldable pub called : Call → State → Called
-called (opens w) s =
-    let r : Reply = openOf (s .engine) (record { start = w .start; length = w .length }) in
-    record { answer = told (numberOf (r .answer)) (opened (valueOf (r .answer))); after = state (r .engine) (s .ring) (s .memory) }
-called (submit client bytes) s =
-    let r : Reply = submitOf (s .engine) (s .ring) client bytes in
+unfoldable pub performCall : Call → State → CallResult
+performCall (opens w) s =
+    let r : Reply = openResult (s .engine) (record { start = w .start; length = w .length }) in
+    record { answer = answerOrRefusal (refusalNumberOf (r .answer)) (opened (valueOf (r .answer))); after = mkState (r .engine) (s .ring) (s .memory) }
+performCall (submit client bytes) s =
+    let r : Reply = submitResult (s .engine) (s .ring) client bytes in
     record {
-      answer = told (numberOf (r .answer)) (accepted (valueOf (r .answer)));
-      after = state (r .engine) (submitRing (s .engine) (s .ring) client bytes) (s .memory);
+      answer = answerOrRefusal (refusalNumberOf (r .answer)) (accepted (valueOf (r .answer)));
+      after = mkState (r .engine) (submitRing (s .engine) (s .ring) client bytes) (s .memory);
     }
-called run s =
-    let r : Ran = runOf (s .engine) (s .ring) (s .memory) in
+performCall run s =
+    let r : Ran = runResult (s .engine) (s .ring) (s .memory) in
     record {
-      answer = told (refusalOf (r .outcome)) (completion (valuesOf (r .outcome)));
-      after = state (r .engine) (s .ring) (runMemory (s .engine) (s .ring) (s .memory));
+      answer = answerOrRefusal (refusalOf (r .outcome)) (completion (valuesOf (r .outcome)));
+      after = mkState (r .engine) (s .ring) (runMemory (s .engine) (s .ring) (s .memory));
     }
-called (pending client) s =
-    let a : Told = pendingOf (s .engine) client in
-    record { answer = told (numberOf a) (ready (valueOf a)); after = s }
+performCall (pending client) s =
+    let a : Told = pendingAnswer (s .engine) client in
+    record { answer = answerOrRefusal (refusalNumberOf a) (ready (valueOf a)); after = s }
 
 -- ---- a list of calls
 
 unfoldable pub answersOf : List Call → State → List Answer
 answersOf [] s = []
-answersOf (c ∷ cs) s = called c s .answer ∷ answersOf cs (called c s .after)
+answersOf (c ∷ cs) s = performCall c s .answer ∷ answersOf cs (performCall c s .after)
 
 unfoldable pub stateAfter : List Call → State → State
 stateAfter [] s = s
-stateAfter (c ∷ cs) s = stateAfter cs (called c s .after)
+stateAfter (c ∷ cs) s = stateAfter cs (performCall c s .after)
 
 -- ---- the start
 
 -- set up is not refused
-abbrev pub Accepted : Setup → Type 0
-Accepted setup = numberOf (setUp (setup .ring) (setup .memory) (setup .common) .answer) ≡ 0
+abbrev pub SetUpAccepted : Setup → Type 0
+SetUpAccepted setup = refusalNumberOf (setUpResult (setup .ring) (setup .memory) (setup .common) .answer) ≡ 0
 
 -- 01, "The book of demand 3": "The list starts from the record of an accepted set up"; ring and memory are any
-abbrev pub begin : Setup → (ring memory : List ℕ) → State
-begin setup ring memory = state (setUp (setup .ring) (setup .memory) (setup .common) .engine) ring memory
+abbrev pub initialState : Setup → (ring memory : List ℕ) → State
+initialState setup ring memory = mkState (setUpResult (setup .ring) (setup .memory) (setup .common) .engine) ring memory

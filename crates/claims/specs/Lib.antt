@@ -1,8 +1,10 @@
--- What is promised of any call, and of whole lists of calls.
-pub mod Way
-pub mod OfModel
+-- What is promised of any call, of any batch, and of whole lists of calls.
+pub mod BatchSemantics
+pub mod ModelProperties
 pub mod Engine
 pub mod Demand1
+pub mod Demand2
 pub mod Demand3
+pub mod Queue
 pub mod Order
-pub mod Twelve
+pub mod WorkedExamples

@@ -1,54 +1,54 @@
 -- Order between clients (02, 9: "Order between desks"), whole: of the model at the real definitions of reading, judging and drawing, and of the engine
--- itself. The words are those of crate model, specs/Order (`SameSequences`, `submitted`, `verdictsOf`) and specs/Claims (the statements of the model).
+-- itself. The words are those of crate model, specs/Order (`SameSequences`, `submitted`, `verdictsOf`) and specs/Properties (the statements of the model).
 -- proofs/Order.antt proves `Promise`; no premise is left over but that set up was accepted.
 use mathlib.Core.Path.{_≡_}
 use mathlib.Core.List.{List, []}
 use Prim.Native.Nat.{ℕ}
 use lib.ListN.{length}
 use Rattle.model.specs.Calls.{Setup, Call}
-use Rattle.model.specs.State.{fresh}
+use Rattle.model.specs.State.{initialModel}
 use Rattle.model.specs.Order.{SameSequences, submitted, verdictsOf}
-use Rattle.model.specs.Claims.{final, done, Exchange, AnyOrder, AnySubmissions, ReorderedByHand}
-use Rattle.claims.specs.OfModel.{real}
-use Rattle.claims.specs.Engine.{State, answersOf, stateAfter, Accepted, begin}
+use Rattle.model.specs.Properties.{finalModel, executedBatches, Exchange, AnyOrder, AnySubmissions, ReorderedByHand}
+use Rattle.claims.specs.ModelProperties.{batchSemantics}
+use Rattle.claims.specs.Engine.{State, answersOf, stateAfter, SetUpAccepted, initialState}
 
--- Two lists of calls that the engine is given, from the same record, ring and memory. What they open, accept and execute, and what waits, is told by
+-- Two lists of calls that the engine is given, from the same record, ring and memory. What they open, accept and execute, and what waits, is given by
 -- the model, whose answers are the engine's (Demand3, a).
 module _ (setup : Setup) (ring : List ℕ) (calls calls′ : List Call) (memory : List ℕ) where
   -- All of memory is the same at the end. Each client's first batch that is executed gets the same status, fault and offset (02: place) in both, and so
   -- its second, and so on. "Tickets follow the order of submission and are excepted."
   pub record SameOutcome : Type 0 where
-    pub every-byte : stateAfter calls (begin setup ring memory) .memory ≡ stateAfter calls′ (begin setup ring memory) .memory
-    pub verdicts : (client : ℕ) → verdictsOf client (answersOf calls (begin setup ring memory)) ≡ verdictsOf client (answersOf calls′ (begin setup ring memory))
+    pub every-byte : stateAfter calls (initialState setup ring memory) .memory ≡ stateAfter calls′ (initialState setup ring memory) .memory
+    pub verdicts : (client : ℕ) → verdictsOf client (answersOf calls (initialState setup ring memory)) ≡ verdictsOf client (answersOf calls′ (initialState setup ring memory))
 
   -- The same windows are opened in the same order.
   abbrev pub SameWindows : Type 0
-  SameWindows = final real setup (length ring) calls memory .windows ≡ final real setup (length ring) calls′ memory .windows
+  SameWindows = finalModel batchSemantics setup (length ring) calls memory .windows ≡ finalModel batchSemantics setup (length ring) calls′ memory .windows
 
   -- "any order that keeps each desk's own sequence", of executed batches
   abbrev pub EngineOrder : Type 0
   EngineOrder = SameWindows →
-      SameSequences (done real setup (length ring) calls memory) (done real setup (length ring) calls′ memory) → SameOutcome
+      SameSequences (executedBatches batchSemantics setup (length ring) calls memory) (executedBatches batchSemantics setup (length ring) calls′ memory) → SameOutcome
 
   -- and of accepted batches, "where every batch is accepted and run in both": none waits at the end
   abbrev pub EngineSubmissions : Type 0
   EngineSubmissions = SameWindows →
-      final real setup (length ring) calls memory .waiting ≡ [] → final real setup (length ring) calls′ memory .waiting ≡ [] →
-      SameSequences (submitted real setup (length ring) calls (fresh memory)) (submitted real setup (length ring) calls′ (fresh memory)) → SameOutcome
+      finalModel batchSemantics setup (length ring) calls memory .waiting ≡ [] → finalModel batchSemantics setup (length ring) calls′ memory .waiting ≡ [] →
+      SameSequences (submitted batchSemantics setup (length ring) calls (initialModel memory)) (submitted batchSemantics setup (length ring) calls′ (initialModel memory)) → SameOutcome
 
 pub record Order (setup : Setup) (ring : List ℕ) : Type 0 where
   -- "two faultless or faulty batches of different desks, taken one right after the other", at any moment: "either order leaves the same memory and gives
   -- each batch the same status, fault and place"
-  pub exchange : (calls : List Call) (memory : List ℕ) → Exchange real setup (length ring) calls memory
+  pub exchange : (calls : List Call) (memory : List ℕ) → Exchange batchSemantics setup (length ring) calls memory
   -- "whole queues": any order of what is executed, and of what is handed in where all of it is run
-  pub any-order : (calls calls′ : List Call) (memory : List ℕ) → AnyOrder real setup (length ring) calls calls′ memory
-  pub any-submissions : (calls calls′ : List Call) (memory : List ℕ) → AnySubmissions real setup (length ring) calls calls′ memory
+  pub any-order : (calls calls′ : List Call) (memory : List ℕ) → AnyOrder batchSemantics setup (length ring) calls calls′ memory
+  pub any-submissions : (calls calls′ : List Call) (memory : List ℕ) → AnySubmissions batchSemantics setup (length ring) calls calls′ memory
   -- "Night staff reorder the queue by hand", at any moment, and it is run to the end
-  pub by-hand : (calls : List Call) (memory : List ℕ) → ReorderedByHand real setup (length ring) calls memory
+  pub by-hand : (calls : List Call) (memory : List ℕ) → ReorderedByHand batchSemantics setup (length ring) calls memory
   -- whole queues, of the engine. No call changes places in its queue, so the other two are of the model alone.
   pub engine-order : (calls calls′ : List Call) (memory : List ℕ) → EngineOrder setup ring calls calls′ memory
   pub engine-submissions : (calls calls′ : List Call) (memory : List ℕ) → EngineSubmissions setup ring calls calls′ memory
 
 -- The promise.
 abbrev pub Promise : Type 0
-Promise = (setup : Setup) (ring : List ℕ) → Accepted setup → Order setup ring
+Promise = (setup : Setup) (ring : List ℕ) → SetUpAccepted setup → Order setup ring

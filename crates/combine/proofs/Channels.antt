@@ -4,13 +4,13 @@ use Prim.Native.Nat.{ℕ, _+_, _-_, _*_, _/_, _%_, _≤_, _<_, min}
 use native.Mathlib.Omega.{arith}
 use native.Mathlib.Nat.{min-le-left}
 use borrow.Author.Needs.{needs}
-use Rattle.pixel.specs.Alpha.{near}
+use Rattle.pixel.specs.Alpha.{div255}
 use Rattle.pixel.specs.Blending.{blendedChannel}
 use Rattle.combine.specs.Blend.{duo}
 
 pub channel-small : (s fs d fd : ℕ) → blendedChannel s fs d fd ≤ 255
 unfolding blendedChannel
-channel-small s fs d fd = min-le-left 255 (near (s * fs + d * fd))
+channel-small s fs d fd = min-le-left 255 (div255 (s * fs + d * fd))
 
 pub duo-low : (s fs d fd : ℕ) → duo s fs d fd % 256 ≡ blendedChannel (s % 256) fs (d % 256) fd
 unfolding duo
@@ -22,7 +22,7 @@ duo-high s fs d fd = omega (arith, channel-small (s % 256) fs (d % 256) fd)
 
 -- 255 less what is left of the complement c after near p
 pub kept-is : (c d f : ℕ) → c ≤ 255 → 255 - (c - (d * f + 127) / 255) ≡ blendedChannel (255 - c) 255 d f
-unfolding blendedChannel near
+unfolding blendedChannel div255
 kept-is c d f h = kept (d * f)
   where
     kept : (p : ℕ) → 255 - (c - (p + 127) / 255) ≡ min 255 (((255 - c) * 255 + p + 127) / 255)
@@ -40,13 +40,13 @@ over-duo c d f a b h e q =
     ∙ cc (kept-is (c % 256) (d % 256) f (omega arith), kept-is (c / 256) (d / 256) f (omega arith))
 
 pub copied : (s d : ℕ) → s ≤ 255 → blendedChannel s 255 d 0 ≡ s
-unfolding blendedChannel near
+unfolding blendedChannel div255
 copied s d h = search needs
 
 pub stayed : (s d : ℕ) → d ≤ 255 → blendedChannel s 0 d 255 ≡ d
-unfolding blendedChannel near
+unfolding blendedChannel div255
 stayed s d h = search needs
 
 pub cleared : (fs d : ℕ) → d ≤ 255 → blendedChannel 0 fs d 255 ≡ d
-unfolding blendedChannel near
+unfolding blendedChannel div255
 cleared fs d h = search needs

@@ -11,7 +11,7 @@ use Rattle.pixel.specs.declared.blend.Factor.the-variants.{Zero, One, SourceAlp
 use mathlib.Core.Bool.{Bool}
 use lib.Dec.{eqb}
 use borrow.Author.Tests.{eqb-true}
-use Rattle.pixel.specs.Rules.{ruleOf}
+use Rattle.pixel.specs.Rules.{blendModeFactors}
 use Rattle.pixel.specs.declared.blend.Rule.{Rule}
 use Rattle.pixel.specs.declared.blend.RuleName.the-variants.{SrcOver, Add}
 use Rattle.combine.specs.declared.plans.Masks.{Masks}
@@ -104,7 +104,7 @@ module _ (p : Plan) (planned : Planned p) where
   unfolding planOf
   destination-is x y h k = ap (λ (q : Plan). factorBy (q .destination) x y) planned ∙ factor-is (p .rule .destination) x y h k
 
-  pub over-is : p .over ≡ true → p .rule ≡ ruleOf SrcOver
+  pub over-is : p .over ≡ true → p .rule ≡ blendModeFactors SrcOver
   unfolding planOf
   over-is e =
       let b = both _ _ (sym (ap (λ (q : Plan). q .over) planned) ∙ e) in
@@ -112,7 +112,7 @@ module _ (p : Plan) (planned : Planned p) where
       let d = ends-are (p .rule .destination) 0 255 (b .1) in
       rule-is (p .rule) _ _ (one-is (p .rule .source) (s .0) (s .1)) (inverse-is (p .rule .destination) (d .0) (d .1))
 
-  pub adds-is : p .adds ≡ true → p .rule ≡ ruleOf Add
+  pub adds-is : p .adds ≡ true → p .rule ≡ blendModeFactors Add
   unfolding planOf
   adds-is e =
       let b = both _ _ (sym (ap (λ (q : Plan). q .adds) planned) ∙ e) in

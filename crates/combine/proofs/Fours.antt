@@ -7,7 +7,7 @@ use native.Mathlib.Omega.{arith}
 use native.Mathlib.Nat.{eq-zero-or-pos}
 use lib.ListN.{length, getD, set}
 use Rattle.pixel.specs.Blending.{factorValue, blendedChannel}
-use Rattle.pixel.specs.Rules.{ruleOf}
+use Rattle.pixel.specs.Rules.{blendModeFactors}
 use Rattle.pixel.specs.declared.blend.Rule.{Rule}
 use Rattle.pixel.specs.declared.blend.RuleName.the-variants.{SrcOver, Add}
 use Rattle.lanes.specs.Lanes.{two, Done}
@@ -60,7 +60,7 @@ module _ (s d a b : List ℕ) (o : ℕ) (is-b : (k : ℕ) → k < 8 → getD b k
 
   -- SRC_OVER by the source's complement
   pub over-two : Bytes s → ((k : ℕ) → k < 8 → getD a k 0 ≡ 65535 - two s (o + k * 2)) → (k : ℕ) → k < 8 →
-      duo (65535 - getD a k 0) 255 (getD b k 0) (getD a (k / 2 * 2 + 1) 0 / 256) ≡ twoAt (ruleOf SrcOver) s d o k
+      duo (65535 - getD a k 0) 255 (getD b k 0) (getD a (k / 2 * 2 + 1) 0 / 256) ≡ twoAt (blendModeFactors SrcOver) s d o k
   unfolding twoAt
   over-two in-s is-a k l =
       let t : k / 2 * 2 + 1 < 8 = omega arith in
@@ -154,7 +154,7 @@ module _ (rule : Rule) (s d e : List ℕ) (o : ℕ) (four : o % 4 ≡ 0) (in-s :
   }
 
   -- SRC_OVER without alpha
-  pub clear-done : ((j : ℕ) → o ≤ j → j < o + 16 → getD s j 0 ≡ 0) → Done (blendAt (ruleOf SrcOver) s d) d d o (o + 16)
+  pub clear-done : ((j : ℕ) → o ≤ j → j < o + 16 → getD s j 0 ≡ 0) → Done (blendAt (blendModeFactors SrcOver) s d) d d o (o + 16)
   unfolding blendAt
   clear-done z = record {
     done = λ j h l. sym (cc (z j h l, z (j / 4 * 4 + 3) (omega arith) (omega arith), cleared 255 (getD d j 0) (omega (arith, in-d j))));
@@ -163,9 +163,9 @@ module _ (rule : Rule) (s d e : List ℕ) (o : ℕ) (four : o % 4 ≡ 0) (in-s :
   }
 
   pub add-done : getD s (o + 3) 0 + getD s (o + 7) 0 + getD s (o + 11) 0 + getD s (o + 15) 0 ≡ 0 →
-      Done (blendAt (ruleOf Add) s d) d e o (o + 16) → Done (blendAt (ruleOf SrcOver) s d) d e o (o + 16)
+      Done (blendAt (blendModeFactors Add) s d) d e o (o + 16) → Done (blendAt (blendModeFactors SrcOver) s d) d e o (o + 16)
   unfolding blendAt
   add-done z did =
-      same-done (blendAt (ruleOf Add) s d) (blendAt (ruleOf SrcOver) s d) d e o (o + 16)
+      same-done (blendAt (blendModeFactors Add) s d) (blendAt (blendModeFactors SrcOver) s d) d e o (o + 16)
       (λ j h l. ap (λ (x : ℕ). blendedChannel (getD s j 0) 255 (getD d j 0) (255 - x)) (sym (all-empty s o four in-s z j h l)))
       did

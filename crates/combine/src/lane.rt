@@ -3,7 +3,7 @@ ghost use mathlib.Core.Path.{_≡_};
 ghost use Prim.Native.Nat.{ℕ, _+_, _*_, _/_, _%_, _-_, _≤_, _<_};
 ghost use lib.ListN.{length, getD};
 ghost use Rattle.pixel.specs.Blending.{factorValue};
-ghost use Rattle.pixel.specs.Rules.{ruleOf};
+ghost use Rattle.pixel.specs.Rules.{blendModeFactors};
 ghost use Rattle.pixel.specs.declared.blend.RuleName.the-variants.{SrcOver};
 ghost use Rattle.lanes.specs.Lanes.{Done};
 ghost use Rattle.combine.specs.Blend.{blendAt, duo, laneAt};
@@ -80,7 +80,7 @@ pub fn blend_four(d: &mut [u8], s: &[u8], o: usize, p: Plan)
 
 pub fn over_four(d: &mut [u8], s: &[u8], o: usize)
     requires { ⌜ ((o + 16 ≤ length (now d)) × (o + 16 ≤ length (now s))) × (o % 4 ≡ 0) ⌝ }
-    ensures { λ _. ⌜ Done (blendAt (ruleOf SrcOver) (now (s .entry)) (now (d .entry))) (now (d .entry)) (now (d .exit)) o (o + 16) ⌝ }
+    ensures { λ _. ⌜ Done (blendAt (blendModeFactors SrcOver) (now (s .entry)) (now (d .entry))) (now (d .entry)) (now (d .exit)) o (o + 16) ⌝ }
 {
     let c = load8c(s, o);
     let b = load8(d, o);

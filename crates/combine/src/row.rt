@@ -2,7 +2,7 @@
 ghost use mathlib.Core.Path.{_≡_};
 ghost use Prim.Native.Nat.{ℕ, _+_, _%_, _≤_, _<_};
 ghost use lib.ListN.{length, getD};
-ghost use Rattle.pixel.specs.Rules.{ruleOf};
+ghost use Rattle.pixel.specs.Rules.{blendModeFactors};
 ghost use Rattle.pixel.specs.Blending.{factorValue, blendedChannel};
 ghost use Rattle.pixel.specs.declared.blend.RuleName.the-variants.{SrcOver, Add};
 ghost use Rattle.lanes.specs.Lanes.{Done};
@@ -26,7 +26,7 @@ fn held_sum(a: u8, b: u8) -> u8
 
 fn add_bytes(d: &mut [u8], s: &[u8], a: usize, n: usize)
     requires { ⌜ (a ≤ n) × ((n ≤ length (now d)) × (n ≤ length (now s))) ⌝ }
-    ensures { λ _. ⌜ Done (blendAt (ruleOf Add) (now (s .entry)) (now (d .entry))) (now (d .entry)) (now (d .exit)) a n ⌝ }
+    ensures { λ _. ⌜ Done (blendAt (blendModeFactors Add) (now (s .entry)) (now (d .entry))) (now (d .entry)) (now (d .exit)) a n ⌝ }
 {
     let mut j = a;
     while j < n {
@@ -90,7 +90,7 @@ fn turns(d: &mut [u8], s: &[u8], n: usize, p: Plan)
 // Without alpha, SRC_OVER is ADD.
 fn over_turn(d: &mut [u8], s: &[u8], o: usize)
     requires { ⌜ ((o + 16 ≤ length (now d)) × (o + 16 ≤ length (now s))) × (o % 4 ≡ 0) ⌝ }
-    ensures { λ _. ⌜ Done (blendAt (ruleOf SrcOver) (now (s .entry)) (now (d .entry))) (now (d .entry)) (now (d .exit)) o (o + 16) ⌝ }
+    ensures { λ _. ⌜ Done (blendAt (blendModeFactors SrcOver) (now (s .entry)) (now (d .entry))) (now (d .entry)) (now (d .exit)) o (o + 16) ⌝ }
 {
     let t = alphas(s, o);
     if t == 1020 {
@@ -109,7 +109,7 @@ fn over_turn(d: &mut [u8], s: &[u8], o: usize)
 
 fn over_turns(d: &mut [u8], s: &[u8], n: usize)
     requires { ⌜ ((n ≤ length (now d)) × (n ≤ length (now s))) × (n % 16 ≡ 0) ⌝ }
-    ensures { λ _. ⌜ Done (blendAt (ruleOf SrcOver) (now (s .entry)) (now (d .entry))) (now (d .entry)) (now (d .exit)) 0 n ⌝ }
+    ensures { λ _. ⌜ Done (blendAt (blendModeFactors SrcOver) (now (s .entry)) (now (d .entry))) (now (d .entry)) (now (d .exit)) 0 n ⌝ }
 {
     let mut o = 0;
     while o < n {

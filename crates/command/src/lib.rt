@@ -23,7 +23,7 @@ pub fn number_argument(index: usize, name: &[u8]) -> Number {
     let mut text = io::buffer();
     let n = os::arg(index, &mut text);
     let number = ppm::number_of(&text[..n]);
-    if let Number::Wrong = number {
+    if let Number::Invalid = number {
         complain(name, b" is not a number from 0 to 4294967295\n");
     }
     number

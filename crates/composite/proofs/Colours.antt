@@ -5,24 +5,24 @@ use Prim.Native.Nat.{ℕ, _+_, _-_, _*_, _/_, _%_, _^_, _≤_, _<_}
 use native.Mathlib.Omega.{arith}
 use lib.ListN.{length, getD}
 use Rattle.word.specs.Word.{byteOf}
-use Rattle.pixel.specs.Alpha.{alphaBy, withAlpha}
+use Rattle.pixel.specs.Alpha.{effectiveAlpha, withAlpha}
 use Rattle.pixel.specs.Blending.{factorValue, blendedChannel, blended}
 use Rattle.pixel.specs.Colours.{narrowed, packed, unpacked}
-use Rattle.pixel.specs.Formats.{layoutOf, bytesOf}
+use Rattle.pixel.specs.Formats.{layoutOf, bytesPerPixel}
 use Rattle.pixel.specs.declared.colour.Colour.{Colour}
 use Rattle.pixel.specs.declared.blend.AlphaMode.{AlphaMode}
 use Rattle.pixel.specs.declared.blend.Rule.{Rule}
 use Rattle.pixel.specs.declared.format.Format.the-variants.{Argb8888}
 use Rattle.pixel.proofs.Stored.{Bytes}
 use Rattle.pixel.proofs.Kept.{word-colour}
-use Rattle.surface.specs.Drawn.{loaded}
+use Rattle.surface.specs.Drawn.{loadPixel}
 use Rattle.surface.specs.Rows.{rowByte}
 use Rattle.surface.proofs.Loaded.{loaded-bytes}
 use Rattle.surface.proofs.Mapi.{is-mapi}
 use Rattle.register.specs.declared.task.Alpha.{Alpha}
 use Rattle.register.specs.declared.task.Blending.{Blending}
-use Rattle.rows.specs.Row.{colourIn, rowOf}
-use Rattle.rows.specs.Mixed.{mixed}
+use Rattle.rows.specs.Row.{colourIn, rowStored}
+use Rattle.rows.specs.Mixed.{composite}
 use Rattle.lanes.specs.Lanes.{Done}
 use Rattle.lanes.proofs.Laws.{under-or}
 use Rattle.lanes.proofs.Passes.{to-end}
@@ -73,7 +73,7 @@ bytesAt m i = record { alpha = getD m (i + 3) 0; red = getD m (i + 2) 0; green =
 pub all-bytes : (m : List ℕ) (i : ℕ) → Row m → Bytes (bytesAt m i)
 all-bytes m i h = record { alpha = h (i + 3); red = h (i + 2); green = h (i + 1); blue = h i }
 
-pub colour-is : (m : List ℕ) (i : ℕ) → Row m → i + 4 ≤ length m → loaded Argb8888 m i ≡ bytesAt m i
+pub colour-is : (m : List ℕ) (i : ℕ) → Row m → i + 4 ≤ length m → loadPixel Argb8888 m i ≡ bytesAt m i
 colour-is m i h l =
     loaded-bytes Argb8888 m i (bytesAt m i) l (four-bytes (bytesAt m i) (all-bytes m i h) m i refl refl refl refl)
     ∙ word-colour (bytesAt m i) (all-bytes m i h)
@@ -106,8 +106,8 @@ module _ (d e : List ℕ) (width : ℕ) (in-d : Row d) (in-e : Row e) (long-d : 
       ∙ rw (colour-is s (x * 4) in-s (omega arith), colour-is d (x * 4) in-d (omega arith), a, r, h, b, i₃, i₂, i₁, i₀)
 
   -- a row is given by its colours
-  pub row-is : (p : ℕ → Colour) → length e ≡ length d → length d ≡ width * 4 → ((x : ℕ) → x < width → colourIn e x ≡ p x) → e ≡ rowOf Argb8888 p d
-  unfolding rowOf rowByte
+  pub row-is : (p : ℕ → Colour) → length e ≡ length d → length d ≡ width * 4 → ((x : ℕ) → x < width → colourIn e x ≡ p x) → e ≡ rowStored Argb8888 p d
+  unfolding rowStored rowByte
   row-is p same long is =
       is-mapi _ d e same
       (λ j l.
@@ -124,8 +124,8 @@ pub mix-is : (blending : Blending) (source destination : Alpha) (rule : Rule) (s
     width * 4 ≤ length s → length s′ ≡ length s → length d ≡ width * 4 → length d′ ≡ length d → length e ≡ length d → rule ≡ blending .rule →
     Done (modeAt (source .mode) (source .global) s) s s′ 0 (width * 4) → Done (modeAt (destination .mode) (destination .global) d) d d′ 0 (width * 4) →
     Done (blendAt rule s′ d′) d′ e 0 (length d′) →
-    e ≡ rowOf Argb8888 (λ x. mixed blending source destination (colourIn s x) (colourIn d x)) d
-unfolding mixed
+    e ≡ rowStored Argb8888 (λ x. composite blending source destination (colourIn s x) (colourIn d x)) d
+unfolding composite
 mix-is blending source destination rule s s′ d d′ e width in-s in-s′ in-d in-d′ in-e ls ls′ ld ld′ le is-rule on-s on-d did =
     row-is d e width in-d in-e (omega arith) (omega arith) _ le ld
     (λ x l.

@@ -5,13 +5,13 @@ use Prim.Native.Nat.{ℕ, _*_, _≤_}
 use lib.ListN.{length}
 use Rattle.pixel.specs.declared.format.Format.the-variants.{Argb8888}
 use Rattle.register.specs.declared.task.Blending.{Blending}
-use Rattle.rows.specs.Row.{Wide}
+use Rattle.rows.specs.Row.{RowIsWide}
 use Rattle.combine.specs.Plan.{Planned}
 use Rattle.combine.specs.declared.plans.Plan.{Plan}
 
 -- what is asked where a row is blended in place
 pub record Mixes (d s : List ℕ) (width : ℕ) (blending : Blending) (p : Plan) : Type 0 where
-  pub wide : Wide d width Argb8888
+  pub wide : RowIsWide d width Argb8888
   pub room : width * 4 ≤ length s
   pub planned : Planned p
   pub rule : p .rule ≡ blending .rule

@@ -1,8 +1,8 @@
 // A row of colours blended with a row of colours, in place: alpha modes, then the rule.
 ghost use mathlib.Core.Path.{_≡_};
 ghost use Rattle.pixel.specs.declared.format.Format.the-variants.{Argb8888};
-ghost use Rattle.rows.specs.Row.{colourIn, rowOf};
-ghost use Rattle.rows.specs.Mixed.{mixed};
+ghost use Rattle.rows.specs.Row.{colourIn, rowStored};
+ghost use Rattle.rows.specs.Mixed.{composite};
 ghost use Rattle.composite.specs.Buffer.{Mixes};
 use alpha_modes::alpha_row;
 use combine::Plan;
@@ -20,7 +20,7 @@ pub fn mix_row(
     destination: Alpha,
 )
     requires { ⌜ Mixes (now d) (now s) width blending p ⌝ }
-    ensures { λ _. ⌜ now (d .exit) ≡ rowOf Argb8888 (λ x. mixed blending source destination (colourIn (now (s .entry)) x) (colourIn (now (d .entry)) x)) (now (d .entry)) ⌝ }
+    ensures { λ _. ⌜ now (d .exit) ≡ rowStored Argb8888 (λ x. composite blending source destination (colourIn (now (s .entry)) x) (colourIn (now (d .entry)) x)) (now (d .entry)) ⌝ }
 {
     let sm = source.mode;
     let dm = destination.mode;

@@ -11,16 +11,16 @@ use Rattle.pixel.proofs.Channels.{widened-byte, narrowed-byte}
 use Rattle.lanes.proofs.Laws.{set-under, set-past}
 use Rattle.word.specs.Word.{byteOf}
 use Rattle.pixel.specs.Colours.{widened, narrowed, packed, unpacked}
-use Rattle.pixel.specs.Formats.{layoutOf, bytesOf}
+use Rattle.pixel.specs.Formats.{layoutOf, bytesPerPixel}
 use Rattle.pixel.specs.declared.colour.Colour.{Colour}
 use Rattle.pixel.specs.declared.format.Format.{Format}
 use Rattle.pixel.specs.declared.format.Format.the-variants.{Argb8888, Rgb888, Rgb565}
-use Rattle.surface.specs.Drawn.{loaded}
+use Rattle.surface.specs.Drawn.{loadPixel}
 use Rattle.surface.specs.Rows.{rowByte}
 use Rattle.surface.specs.Memory.{pixelAt}
 use Rattle.surface.proofs.Loaded.{pixel-bytes, loaded-bytes}
 use Rattle.surface.proofs.Mapi.{is-mapi}
-use Rattle.rows.specs.Row.{colourIn, rowOf}
+use Rattle.rows.specs.Row.{colourIn, rowStored}
 use Rattle.lanes.specs.Lanes.{two, Done}
 use Rattle.lanes.proofs.Laws.{under-or}
 use Rattle.lanes.proofs.Passes.{more-done}
@@ -28,8 +28,8 @@ use Rattle.composite.proofs.Colours.{Row, bytesAt, all-bytes, four-bytes, colou
 use Rattle.convert.specs.Line.{pixelByte, four, Three}
 
 -- a row that was stored to its end
-pub row-done : (f : Format) (p : ℕ → Colour) (d e : List ℕ) (n : ℕ) → length e ≡ length d → length d ≡ n → Done (pixelByte f p) d e 0 n → e ≡ rowOf f p d
-unfolding rowOf
+pub row-done : (f : Format) (p : ℕ → Colour) (d e : List ℕ) (n : ℕ) → length e ≡ length d → length d ≡ n → Done (pixelByte f p) d e 0 n → e ≡ rowStored f p d
+unfolding rowStored
 row-done f p d e n same long did = is-mapi _ d e same (λ j l. did .done j (omega arith) (omega arith))
 
 -- ---- RGB565
@@ -124,8 +124,8 @@ module _ (s : List ℕ) (i : ℕ) (h : Row s) where
       (λ q. let e : k ≡ 0 = omega arith in let o : i + 0 ≡ i = omega arith in rw (e, o) low-byte)
       (λ q. let e : k ≡ 1 = omega arith in rw e high-byte)
 
-  loaded-565 : i + 2 ≤ length s → loaded Rgb565 s i ≡ unpacked (layoutOf Rgb565) (two s i)
-  unfolding loaded
+  loaded-565 : i + 2 ≤ length s → loadPixel Rgb565 s i ≡ unpacked (layoutOf Rgb565) (two s i)
+  unfolding loadPixel
   loaded-565 l = ap (unpacked (layoutOf Rgb565)) (pixel-bytes 2 i (two s i) s l each ∙ whole)
 
 low-part : (l h : ℕ) → l < 256 → (l + h * 256) % 256 ≡ l
@@ -187,7 +187,7 @@ module _ (s e f : List ℕ) (x v : ℕ) (in-s : Row s) (long : x * 2 + 2 ≤ len
   unfolding unpacked
   by-channels = rw (blue-is, green-is, red-is, alpha-is)
 
-  pub widen-is : Row f → (k : ℕ) → k < 4 → getD f (x * 4 + k) 0 ≡ byteOf (packed (layoutOf Argb8888) (loaded Rgb565 s (x * 2))) k
+  pub widen-is : Row f → (k : ℕ) → k < 4 → getD f (x * 4 + k) 0 ≡ byteOf (packed (layoutOf Argb8888) (loadPixel Rgb565 s (x * 2))) k
   widen-is in-f k l =
       four-bytes (bytesAt f (x * 4)) (all-bytes f (x * 4) in-f) f (x * 4) refl refl refl refl k l
       ∙ ap (λ (c : Colour). byteOf (packed (layoutOf Argb8888) c) k) (sym (loaded-565 s (x * 2) in-s long ∙ (ap (unpacked (layoutOf Rgb565)) (sym is) ∙ by-channels)))
@@ -232,7 +232,7 @@ opaqueAt m i = record { alpha = 255; red = getD m (i + 2) 0; green = getD m (i +
 byte-kept : (c : ℕ) → c < 256 → widened 8 (narrowed 8 c) ≡ c
 byte-kept c l = ap (widened 8) (narrowed-byte c) ∙ widened-byte c l
 
-loaded-888 : (s : List ℕ) (i : ℕ) → Row s → i + 3 ≤ length s → loaded Rgb888 s i ≡ opaqueAt s i
+loaded-888 : (s : List ℕ) (i : ℕ) → Row s → i + 3 ≤ length s → loadPixel Rgb888 s i ≡ opaqueAt s i
 loaded-888 s i h l =
     let b : Bytes (opaqueAt s i) = record { alpha = lit< tt; red = h (i + 2); green = h (i + 1); blue = h i } in
     loaded-bytes Rgb888 s i (opaqueAt s i) l (three-bytes (opaqueAt s i) b s i refl refl refl)
@@ -260,12 +260,12 @@ module _ (s d₀ d e : List ℕ) (x : ℕ) (in-s : Row s) (long : x * 4 + 4 ≤ 
 
 -- one pixel of RGB888 more, made ARGB8888
 pub opaque-more : (s d₀ d e : List ℕ) (x : ℕ) → Row s → x * 3 + 3 ≤ length s → x * 4 + 3 < length e → Three d e (x * 4) (getD s (x * 3) 0) (getD s (x * 3 + 1) 0) (getD s (x * 3 + 2) 0) →
-    Done (pixelByte Argb8888 (λ n. loaded Rgb888 s (n * 3))) d₀ d 0 (x * 4) → Done (pixelByte Argb8888 (λ n. loaded Rgb888 s (n * 3))) d₀ (set e (x * 4 + 3) 255) 0 ((x + 1) * 4)
+    Done (pixelByte Argb8888 (λ n. loadPixel Rgb888 s (n * 3))) d₀ d 0 (x * 4) → Done (pixelByte Argb8888 (λ n. loadPixel Rgb888 s (n * 3))) d₀ (set e (x * 4 + 3) 255) 0 ((x + 1) * 4)
 opaque-more s d₀ d e x in-s long room put was =
     let f : List ℕ = set e (x * 4 + 3) 255 in
     let c : Colour = opaqueAt s (x * 3) in
     let b : Bytes c = record { alpha = lit< tt; red = in-s (x * 3 + 2); green = in-s (x * 3 + 1); blue = in-s (x * 3) } in
-    four-more (λ n. loaded Rgb888 s (n * 3)) d₀ d f x
+    four-more (λ n. loadPixel Rgb888 s (n * 3)) d₀ d f x
     (λ k l.
     four-bytes c b f (x * 4)
     (set-under e (x * 4 + 3) (x * 4) 255 (omega arith) ∙ put .first)

@@ -3,9 +3,9 @@ ghost use mathlib.Core.Path.{_≡_};
 ghost use Prim.Native.Nat.{ℕ, _+_, _*_, _/_, _%_, _≤_, _<_};
 ghost use lib.ListN.{length, getD};
 ghost use Rattle.pixel.specs.declared.format.Format.the-variants.{Argb8888, Rgb888, Rgb565};
-ghost use Rattle.surface.specs.Drawn.{loaded};
+ghost use Rattle.surface.specs.Drawn.{loadPixel};
 ghost use Rattle.lanes.specs.Lanes.{Done};
-ghost use Rattle.rows.specs.Row.{colourIn, rowOf, Wide};
+ghost use Rattle.rows.specs.Row.{colourIn, rowStored, RowIsWide};
 ghost use Rattle.convert.specs.Line.{four, Three};
 use lanes::get2;
 use lanes::put2;
@@ -44,8 +44,8 @@ fn narrow(w: u32) -> u16
 
 // A buffer stored as a row of RGB565.
 pub fn to_565(d: &mut [u8], s: &[u8], width: usize)
-    requires { ⌜ Wide (now d) width Rgb565 × (width * 4 ≤ length (now s)) ⌝ }
-    ensures { λ _. ⌜ now (d .exit) ≡ rowOf Rgb565 (λ x. colourIn (now (s .entry)) x) (now (d .entry)) ⌝ }
+    requires { ⌜ RowIsWide (now d) width Rgb565 × (width * 4 ≤ length (now s)) ⌝ }
+    ensures { λ _. ⌜ now (d .exit) ≡ rowStored Rgb565 (λ x. colourIn (now (s .entry)) x) (now (d .entry)) ⌝ }
 {
     let mut x = 0;
     while x < width {
@@ -70,8 +70,8 @@ fn high(v: u16) -> u16
 
 // A row of RGB565 made a buffer.
 pub fn from_565(d: &mut [u8], s: &[u8], width: usize)
-    requires { ⌜ Wide (now d) width Argb8888 × (width * 2 ≤ length (now s)) ⌝ }
-    ensures { λ _. ⌜ now (d .exit) ≡ rowOf Argb8888 (λ x. loaded Rgb565 (now (s .entry)) (x * 2)) (now (d .entry)) ⌝ }
+    requires { ⌜ RowIsWide (now d) width Argb8888 × (width * 2 ≤ length (now s)) ⌝ }
+    ensures { λ _. ⌜ now (d .exit) ≡ rowStored Argb8888 (λ x. loadPixel Rgb565 (now (s .entry)) (x * 2)) (now (d .entry)) ⌝ }
 {
     let mut x = 0;
     while x < width {
@@ -94,8 +94,8 @@ fn put_three(d: &mut [u8], o: usize, b: u8, g: u8, r: u8)
 
 // A buffer stored as a row of RGB888.
 pub fn to_888(d: &mut [u8], s: &[u8], width: usize)
-    requires { ⌜ Wide (now d) width Rgb888 × (width * 4 ≤ length (now s)) ⌝ }
-    ensures { λ _. ⌜ now (d .exit) ≡ rowOf Rgb888 (λ x. colourIn (now (s .entry)) x) (now (d .entry)) ⌝ }
+    requires { ⌜ RowIsWide (now d) width Rgb888 × (width * 4 ≤ length (now s)) ⌝ }
+    ensures { λ _. ⌜ now (d .exit) ≡ rowStored Rgb888 (λ x. colourIn (now (s .entry)) x) (now (d .entry)) ⌝ }
 {
     let mut x = 0;
     while x < width {
@@ -106,8 +106,8 @@ pub fn to_888(d: &mut [u8], s: &[u8], width: usize)
 
 // A row of RGB888 made a buffer.
 pub fn from_888(d: &mut [u8], s: &[u8], width: usize)
-    requires { ⌜ Wide (now d) width Argb8888 × (width * 3 ≤ length (now s)) ⌝ }
-    ensures { λ _. ⌜ now (d .exit) ≡ rowOf Argb8888 (λ x. loaded Rgb888 (now (s .entry)) (x * 3)) (now (d .entry)) ⌝ }
+    requires { ⌜ RowIsWide (now d) width Argb8888 × (width * 3 ≤ length (now s)) ⌝ }
+    ensures { λ _. ⌜ now (d .exit) ≡ rowStored Argb8888 (λ x. loadPixel Rgb888 (now (s .entry)) (x * 3)) (now (d .entry)) ⌝ }
 {
     let mut x = 0;
     while x < width {

@@ -8,22 +8,22 @@ use lib.Dec.{eqb}
 use lib.ListN.{length, length-append}
 use borrow.Author.Tests.{ne-eqb, le-ltb}
 use Rattle.word.specs.Field.{field}
-use Rattle.register.specs.Table.{kindOf, isWritable, takes, sourceTakes, destinationTakes, outputTakes, sizeTakes, strideTakes, blendingTakes}
-use Rattle.register.specs.Bank.{storedSurface, stored, written}
+use Rattle.register.specs.Table.{registerKindOf, isWritable, acceptsWord, sourceControlAccepts, destinationControlAccepts, outputControlAccepts, sizeAccepts, strideAccepts, blendingAccepts}
+use Rattle.register.specs.Bank.{surfaceAfterWrite, bankAfterWrite, writeRegister}
 use Rattle.register.specs.Task.{taskOf}
 use Rattle.register.specs.declared.bank.Bank.{Bank}
 use Rattle.register.specs.declared.bank.Write.the-variants.{Bank as Taken}
 use Rattle.rules.specs.declared.task.Bounds.{Bounds}
-use Rattle.rules.specs.Rules.{taskFault}
-use Rattle.batch.specs.Batch.{start, inside, reservedBits, badLength, judged, readFrom}
-use Rattle.encoder.specs.Words.{wordsOf}
+use Rattle.rules.specs.Rules.{checkTask}
+use Rattle.batch.specs.Batch.{start, inside, reservedBits, badGroupLength, afterTaskCheck, decodeFrom}
+use Rattle.encoder.specs.Words.{taskWords}
 
 -- the register at an offset takes a word
 abbrev TakenAt : ℕ → ℕ → Type 0
-TakenAt offset w = (b : Bank) → written b offset w ≡ Taken (stored b offset w)
+TakenAt offset w = (b : Bank) → writeRegister b offset w ≡ Taken (bankAfterWrite b offset w)
 
-taken-at : (offset w : ℕ) → isWritable (kindOf offset) ≡ true → takes (kindOf offset) w ≡ true → TakenAt offset w
-unfolding written
+taken-at : (offset w : ℕ) → isWritable (registerKindOf offset) ≡ true → acceptsWord (registerKindOf offset) w ≡ true → TakenAt offset w
+unfolding writeRegister
 taken-at offset w e t b = rw (e, t)
 
 -- so do the registers from an offset on, a word each
@@ -34,13 +34,13 @@ TakenFrom offset (w ∷ ws) = TakenAt offset w × TakenFrom (offset + 4) ws
 -- the bank after words were written from an offset on
 abbrev storedFrom : Bank → ℕ → List ℕ → Bank
 storedFrom b offset [] = b
-storedFrom b offset (w ∷ ws) = storedFrom (stored b offset w) (offset + 4) ws
+storedFrom b offset (w ∷ ws) = storedFrom (bankAfterWrite b offset w) (offset + 4) ws
 
 -- the words of a group, from word k on
 words-read : (bounds : Bounds) (b : Bank) (k offset : ℕ) (ends : Bool) (head : ℕ) (vs rest : List ℕ) → TakenFrom offset vs
-    → readFrom bounds b k (inside (length vs) offset ends head) (vs ++ rest)
-    ≡ readFrom bounds (storedFrom b offset vs) (k + length vs) (inside zero (offset + 4 * length vs) ends head) rest
-unfolding readFrom
+    → decodeFrom bounds b k (inside (length vs) offset ends head) (vs ++ rest)
+    ≡ decodeFrom bounds (storedFrom b offset vs) (k + length vs) (inside zero (offset + 4 * length vs) ends head) rest
+unfolding decodeFrom
 words-read bounds b k offset ends head [] rest t =
     let e : k + 0 ≡ k = omega arith in
     let o : offset + 4 * 0 ≡ offset = omega arith in
@@ -48,9 +48,9 @@ words-read bounds b k offset ends head [] rest t =
 words-read bounds b k offset ends head (v ∷ vs) rest t =
     let e : k + 1 + length vs ≡ k + suc (length vs) = omega arith in
     let o : offset + 4 + 4 * length vs ≡ offset + 4 * suc (length vs) = omega arith in
-    rw (t .0 b) (words-read bounds (stored b offset v) (k + 1) (offset + 4) ends head vs rest (t .1) ∙ rw (e, o))
+    rw (t .0 b) (words-read bounds (bankAfterWrite b offset v) (k + 1) (offset + 4) ends head vs rest (t .1) ∙ rw (e, o))
 
-fine-length : (vs rest : List ℕ) → 0 < length vs → badLength (length vs) (length (vs ++ rest)) ≡ false
+fine-length : (vs rest : List ℕ) → 0 < length vs → badGroupLength (length vs) (length (vs ++ rest)) ≡ false
 fine-length vs rest h =
     let some = ne-eqb (length vs) 0 (λ e. omega arith) in
     let enough = le-ltb (length (vs ++ rest)) (length vs) (simp length-append (omega arith)) in
@@ -59,50 +59,50 @@ fine-length vs rest h =
 -- a group of these words, whose header is word k
 group-read : (bounds : Bounds) (b : Bank) (k next h : ℕ) (vs rest : List ℕ) → reservedBits h ≡ false → field 15 2 h ≡ length vs
     → 0 < length vs → next ≡ k + 1 + length vs → TakenFrom (field 31 16 h) vs
-    → readFrom bounds b k start (h ∷ vs ++ rest)
-    ≡ readFrom bounds (storedFrom b (field 31 16 h) vs) next (inside zero (field 31 16 h + 4 * length vs) (eqb (field 0 0 h) 1) k) rest
-unfolding readFrom
+    → decodeFrom bounds b k start (h ∷ vs ++ rest)
+    ≡ decodeFrom bounds (storedFrom b (field 31 16 h) vs) next (inside zero (field 31 16 h + 4 * length vs) (eqb (field 0 0 h) 1) k) rest
+unfolding decodeFrom
 group-read bounds b k next h vs rest e l s n t =
     rw (e, l, fine-length vs rest s, n) (words-read bounds b (k + 1) (field 31 16 h) (eqb (field 0 0 h) 1) k vs rest t)
 
 -- a group that does not end the task, and another header after it
 group-on : (bounds : Bounds) (b : Bank) (k next h : ℕ) (vs : List ℕ) (h′ : ℕ) (ws : List ℕ) → reservedBits h ≡ false → field 15 2 h ≡ length vs
     → 0 < length vs → next ≡ k + 1 + length vs → eqb (field 0 0 h) 1 ≡ false → TakenFrom (field 31 16 h) vs
-    → readFrom bounds b k start (h ∷ vs ++ (h′ ∷ ws)) ≡ readFrom bounds (storedFrom b (field 31 16 h) vs) next start (h′ ∷ ws)
-unfolding readFrom
+    → decodeFrom bounds b k start (h ∷ vs ++ (h′ ∷ ws)) ≡ decodeFrom bounds (storedFrom b (field 31 16 h) vs) next start (h′ ∷ ws)
+unfolding decodeFrom
 group-on bounds b k next h vs h′ ws e l s n m t =
     group-read bounds b k next h vs (h′ ∷ ws) e l s n t
     ∙ rw m (header (storedFrom b (field 31 16 h) vs) (field 31 16 h + 4 * length vs))
   where
-    header : (c : Bank) (offset : ℕ) → readFrom bounds c next (inside zero offset false k) (h′ ∷ ws) ≡ readFrom bounds c next start (h′ ∷ ws)
+    header : (c : Bank) (offset : ℕ) → decodeFrom bounds c next (inside zero offset false k) (h′ ∷ ws) ≡ decodeFrom bounds c next start (h′ ∷ ws)
     header c offset = refl
 
 -- a group that ends the task
 group-last : (bounds : Bounds) (b : Bank) (k next h : ℕ) (vs ws : List ℕ) → reservedBits h ≡ false → field 15 2 h ≡ length vs
     → 0 < length vs → next ≡ k + 1 + length vs → eqb (field 0 0 h) 1 ≡ true → TakenFrom (field 31 16 h) vs → (after : Bank) → storedFrom b (field 31 16 h) vs ≡ after
-    → readFrom bounds b k start (h ∷ vs ++ ws) ≡ judged (taskFault bounds (taskOf after)) after k (readFrom bounds after next start ws)
-unfolding readFrom
+    → decodeFrom bounds b k start (h ∷ vs ++ ws) ≡ afterTaskCheck (checkTask bounds (taskOf after)) after k (decodeFrom bounds after next start ws)
+unfolding decodeFrom
 group-last bounds b k next h vs ws e l s n m t after is =
     group-read bounds b k next h vs ws e l s n t ∙ rw (m, is) (ended ws)
   where
     ended : (rest : List ℕ)
-        → readFrom bounds after next (inside zero (field 31 16 h + 4 * length vs) true k) rest
-        ≡ judged (taskFault bounds (taskOf after)) after k (readFrom bounds after next start rest)
+        → decodeFrom bounds after next (inside zero (field 31 16 h + 4 * length vs) true k) rest
+        ≡ afterTaskCheck (checkTask bounds (taskOf after)) after k (decodeFrom bounds after next start rest)
     ended [] = refl
     ended (w ∷ rest) = refl
 
 -- each register of a bank holds a word that it takes
 pub record AllTaken (b : Bank) : Type 0 where
-  pub source : sourceTakes (b .source .control) ≡ true
-  pub source-size : sizeTakes (b .source .size) ≡ true
-  pub source-stride : strideTakes (b .source .stride) ≡ true
-  pub destination : destinationTakes (b .destination .control) ≡ true
-  pub destination-size : sizeTakes (b .destination .size) ≡ true
-  pub destination-stride : strideTakes (b .destination .stride) ≡ true
-  pub output : outputTakes (b .output .control) ≡ true
-  pub output-size : sizeTakes (b .output .size) ≡ true
-  pub output-stride : strideTakes (b .output .stride) ≡ true
-  pub blending : blendingTakes (b .blending) ≡ true
+  pub source : sourceControlAccepts (b .source .control) ≡ true
+  pub source-size : sizeAccepts (b .source .size) ≡ true
+  pub source-stride : strideAccepts (b .source .stride) ≡ true
+  pub destination : destinationControlAccepts (b .destination .control) ≡ true
+  pub destination-size : sizeAccepts (b .destination .size) ≡ true
+  pub destination-stride : strideAccepts (b .destination .stride) ≡ true
+  pub output : outputControlAccepts (b .output .control) ≡ true
+  pub output-size : sizeAccepts (b .output .size) ≡ true
+  pub output-stride : strideAccepts (b .output .stride) ≡ true
+  pub blending : blendingAccepts (b .blending) ≡ true
 
 -- the words of the groups that have more than one
 abbrev words1 : Bank → List ℕ
@@ -117,7 +117,7 @@ words5 b = b .output .control ∷ b .output .size ∷ b .output .stride ∷ []
 module _ (b : Bank) (t : AllTaken b) where
   -- the words of each group are taken
   first : TakenFrom 0x010 (words1 b)
-  unfolding kindOf
+  unfolding registerKindOf
   first = (
     taken-at 0x010 (b .source .control) refl (t .source),
     (
@@ -133,7 +133,7 @@ module _ (b : Bank) (t : AllTaken b) where
   )
 
   second : TakenFrom 0x050 (words2 b)
-  unfolding kindOf
+  unfolding registerKindOf
   second = (
     taken-at 0x050 (b .destination .control) refl (t .destination),
     (
@@ -143,15 +143,15 @@ module _ (b : Bank) (t : AllTaken b) where
   )
 
   third : TakenFrom 0x060 (b .destination .address ∷ [])
-  unfolding kindOf
+  unfolding registerKindOf
   third = (taken-at 0x060 (b .destination .address) refl refl, tt)
 
   fourth : TakenFrom 0x090 (b .blending ∷ [])
-  unfolding kindOf
+  unfolding registerKindOf
   fourth = (taken-at 0x090 (b .blending) refl (t .blending), tt)
 
   fifth : TakenFrom 0x100 (words5 b)
-  unfolding kindOf
+  unfolding registerKindOf
   fifth = (
     taken-at 0x100 (b .output .control) refl (t .output),
     (
@@ -161,7 +161,7 @@ module _ (b : Bank) (t : AllTaken b) where
   )
 
   sixth : TakenFrom 0x110 (b .output .address ∷ [])
-  unfolding kindOf
+  unfolding registerKindOf
   sixth = (taken-at 0x110 (b .output .address) refl refl, tt)
 
 -- the bank after each of the first five groups
@@ -182,13 +182,13 @@ after5 old b = storedFrom (after4 old b) 0x100 (words5 b)
 
 -- every register is written
 all-stored : (old b : Bank) → storedFrom (after5 old b) 0x110 (b .output .address ∷ []) ≡ b
-unfolding stored storedSurface
+unfolding bankAfterWrite surfaceAfterWrite
 all-stored old b = refl
 
 -- from any bank and any word on: one task, of which this bank is the registers, and then the rest
 pub task-read : (bounds : Bounds) (old b : Bank) (k : ℕ) (rest : List ℕ) → AllTaken b
-    → readFrom bounds old k start (wordsOf b ++ rest) ≡ judged (taskFault bounds (taskOf b)) b (k + 18) (readFrom bounds b (k + 20) start rest)
-unfolding wordsOf
+    → decodeFrom bounds old k start (taskWords b ++ rest) ≡ afterTaskCheck (checkTask bounds (taskOf b)) b (k + 18) (decodeFrom bounds b (k + 20) start rest)
+unfolding taskWords
 task-read bounds old b k rest t =
     let from6 : List ℕ = b .output .address ∷ rest in
     let from5 : List ℕ = words5 b ++ (0x01100005 ∷ from6) in

@@ -4,8 +4,8 @@ use mathlib.Core.Bool.{true}
 use Prim.Native.Nat.{ℕ, _+_, _*_}
 use borrow.Author.Tests.{le-leb}
 use Rattle.word.specs.Field.{field}
-use Rattle.register.specs.Table.{sourceTakes, destinationTakes, outputTakes, sizeTakes, strideTakes, blendingTakes}
-use Rattle.register.specs.Task.{surfaceOf, transformOf, alphaOf, sourceOf, destinationOf, blendingOf, taskOf}
+use Rattle.register.specs.Table.{sourceControlAccepts, destinationControlAccepts, outputControlAccepts, sizeAccepts, strideAccepts, blendingAccepts}
+use Rattle.register.specs.Task.{surfaceOf, transformOf, alphaOf, sourceOfBank, destinationOf, blendingOf, taskOf}
 use Rattle.encoder.specs.declared.fields.SurfaceFields.{SurfaceFields}
 use Rattle.encoder.specs.declared.fields.AlphaFields.{AlphaFields}
 use Rattle.encoder.specs.declared.fields.TransformFields.{TransformFields}
@@ -23,27 +23,27 @@ use Rattle.encoder.proofs.Groups.{AllTaken}
 -- ---- the words are taken
 
 module _ (s : SurfaceFields) (h : SurfaceFits s) where
-  size-taken : sizeTakes (s .height * 0x10000 + s .width) ≡ true
+  size-taken : sizeAccepts (s .height * 0x10000 + s .width) ≡ true
   size-taken = rw (bits.size-unused s h, bits.size-unused-low s h)
 
-  stride-taken : strideTakes (s .stride) ≡ true
+  stride-taken : strideAccepts (s .stride) ≡ true
   stride-taken = rw (bits.stride-unused s h)
 
-  output-taken : outputTakes (s .format * 0x100) ≡ true
+  output-taken : outputControlAccepts (s .format * 0x100) ≡ true
   output-taken = rw (bits.output-unused s h, bits.output-format s h, bits.output-unused-low s h, h .code)
 
-source-taken : (s : SourceFields) → SourceFits s → sourceTakes (sourceControl s) ≡ true
+source-taken : (s : SourceFields) → SourceFits s → sourceControlAccepts (sourceControl s) ≡ true
 source-taken s h =
     let alpha = le-leb (s .alpha .mode) 2 (h .alpha .mode) in
     let mode = le-leb (s .mode) 1 (h .mode) in
     rw (bits.source-alpha-mode s h, bits.source-unused s h, bits.source-format s h, bits.source-mode s h, bits.source-bit-1 s h, alpha, h .surface .code, mode)
 
-destination-taken : (d : DestinationFields) → DestinationFits d → destinationTakes (destinationControl d) ≡ true
+destination-taken : (d : DestinationFields) → DestinationFits d → destinationControlAccepts (destinationControl d) ≡ true
 destination-taken d h =
     let alpha = le-leb (d .alpha .mode) 2 (h .alpha .mode) in
     rw (bits.destination-alpha-mode d h, bits.destination-unused d h, bits.destination-format d h, bits.destination-unused-low d h, alpha, h .surface .code)
 
-blending-taken : (b : BlendingFields) → BlendingFits b → blendingTakes (blendingWord b) ≡ true
+blending-taken : (b : BlendingFields) → BlendingFits b → blendingAccepts (blendingWord b) ≡ true
 blending-taken b h =
     let source = le-leb (b .source) 5 (h .source) in
     let destination = le-leb (b .destination) 5 (h .destination) in
@@ -84,8 +84,8 @@ transform-back : (t : TransformFields) (control : ℕ) → field 7 7 control ≡
 unfolding transformOf transformWith
 transform-back t control v h r = simp (v, h, r)
 
-source-back : (f : Fields) → SourceFits (f .source) → sourceOf (bankOf f) ≡ sourceWith (f .source) (f .colour)
-unfolding sourceOf bankOf surfaceRegisters sourceWith
+source-back : (f : Fields) → SourceFits (f .source) → sourceOfBank (bankOf f) ≡ sourceWith (f .source) (f .colour)
+unfolding sourceOfBank bankOf surfaceRegisters sourceWith
 source-back f h =
     let s : SourceFields = f .source in
     let surface = surface-back (s .surface) (sourceControl s) (h .surface) (bits.source-format s h) in

@@ -7,22 +7,22 @@ use Rattle.register.specs.Bank.{resetBank}
 use Rattle.encoder.specs.declared.fields.Fields.{Fields}
 use Rattle.encoder.specs.Fields.{surfaceAllowed, alphaAllowed, transformAllowed, sourceAllowed, destinationAllowed, blendingAllowed, allowed}
 use Rattle.encoder.specs.Registers.{surfaceRegisters, sourceControl, destinationControl, blendingWord, bankOf}
-use Rattle.encoder.specs.Words.{wordsOf}
-use Rattle.encoder.specs.Encoder.{numberOf, answerOf, taskBytes}
+use Rattle.encoder.specs.Words.{taskWords}
+use Rattle.encoder.specs.Encoder.{encodeRefusalOf, answerOf, taskBytes}
 use Rattle.encoder.specs.Solid.{resetFields, solidFields}
 
 -- colour 0x80FF0000, 2 by 1, stride 8, at 16384, rest at reset
 abbrev pub worked : Fields
 worked = solidFields 0x80FF0000 2 1 8 16384
 
-pub worked-words : wordsOf (bankOf worked)
+pub worked-words : taskWords (bankOf worked)
     ≡ 0x00100014 ∷ 0x00000005 ∷ 0x00010002 ∷ 0x00000000 ∷ 0x80FF0000 ∷ 0x00000000
     ∷ 0x0050000C ∷ 0x00000000 ∷ 0x00000000 ∷ 0x00000000
     ∷ 0x00600004 ∷ 0x00000000
     ∷ 0x00900004 ∷ 0x00001300
     ∷ 0x0100000C ∷ 0x00000000 ∷ 0x00010002 ∷ 0x00000008
     ∷ 0x01100005 ∷ 0x00004000 ∷ []
-unfolding wordsOf bankOf surfaceRegisters sourceControl destinationControl blendingWord
+unfolding taskWords bankOf surfaceRegisters sourceControl destinationControl blendingWord
 worked-words = refl
 
 pub worked-bytes : taskBytes worked
@@ -31,7 +31,7 @@ pub worked-bytes : taskBytes worked
     ∷ 0x00 ∷ 0x00 ∷ 0x00 ∷ 0x00 ∷ 0x00 ∷ 0x00 ∷ 0x00 ∷ 0x00 ∷ 0x04 ∷ 0x00 ∷ 0x60 ∷ 0x00 ∷ 0x00 ∷ 0x00 ∷ 0x00 ∷ 0x00
     ∷ 0x04 ∷ 0x00 ∷ 0x90 ∷ 0x00 ∷ 0x00 ∷ 0x13 ∷ 0x00 ∷ 0x00 ∷ 0x0C ∷ 0x00 ∷ 0x00 ∷ 0x01 ∷ 0x00 ∷ 0x00 ∷ 0x00 ∷ 0x00
     ∷ 0x02 ∷ 0x00 ∷ 0x01 ∷ 0x00 ∷ 0x08 ∷ 0x00 ∷ 0x00 ∷ 0x00 ∷ 0x05 ∷ 0x00 ∷ 0x10 ∷ 0x01 ∷ 0x00 ∷ 0x40 ∷ 0x00 ∷ 0x00 ∷ []
-unfolding taskBytes wordsBytes leBytes byteOf wordsOf bankOf surfaceRegisters sourceControl destinationControl blendingWord
+unfolding taskBytes wordsBytes leBytes byteOf taskWords bankOf surfaceRegisters sourceControl destinationControl blendingWord
 worked-bytes = refl
 
 -- the fields of a bank at reset are those of the bank at reset
@@ -41,7 +41,7 @@ reset-registers = refl
 
 -- written into 80 bytes, not into 79; a width of 8,192 or a stride of 65,536 is refused first, a side of 0 or a stride of 9 is written
 abbrev number : Fields → ℕ → ℕ
-number f size = numberOf (answerOf f size)
+number f size = encodeRefusalOf (answerOf f size)
 
 pub edges :
     number worked 80 ∷ number worked 79

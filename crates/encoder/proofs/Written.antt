@@ -12,7 +12,7 @@ use Rattle.encoder.specs.declared.Answer.the-variants.{Written, Forbidde
 use Rattle.encoder.specs.declared.fields.Fields.{Fields}
 use Rattle.encoder.specs.Fields.{allowed}
 use Rattle.encoder.specs.Registers.{bankOf}
-use Rattle.encoder.specs.Words.{wordsOf}
+use Rattle.encoder.specs.Words.{taskWords}
 use Rattle.encoder.specs.Encoder.{answerOf, taskBytes, bufferAfter}
 
 -- ---- words in bytes
@@ -38,6 +38,6 @@ module _ (f : Fields) (xs : List ℕ) where
   unfolding answerOf bufferAfter
   short e h = let test = lt-ltb (length xs) 80 h in (simp (e, test), simp (e, test))
 
-  pub fitting : allowed f ≡ true → 80 ≤ length xs → (Written ≡ answerOf f (length xs)) × (spliced 0 (wordsBytes (wordsOf (bankOf f))) xs ≡ bufferAfter f xs)
+  pub fitting : allowed f ≡ true → 80 ≤ length xs → (Written ≡ answerOf f (length xs)) × (spliced 0 (wordsBytes (taskWords (bankOf f))) xs ≡ bufferAfter f xs)
   unfolding answerOf bufferAfter taskBytes
   fitting e h = let test = le-ltb (length xs) 80 h in (simp (e, test), simp (e, test))

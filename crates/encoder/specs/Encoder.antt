@@ -11,15 +11,15 @@ use Rattle.encoder.specs.declared.Answer.the-variants.{Written, Forbidde
 use Rattle.encoder.specs.declared.fields.Fields.{Fields}
 use Rattle.encoder.specs.Fields.{allowed}
 use Rattle.encoder.specs.Registers.{bankOf}
-use Rattle.encoder.specs.Words.{wordsOf}
+use Rattle.encoder.specs.Words.{taskWords}
 
 -- the paper's number of each refusal
-abbrev pub numberOf : Answer → ℕ
-numberOf Written = 0
+abbrev pub encodeRefusalOf : Answer → ℕ
+encodeRefusalOf Written = 0
 -- a field that its register's rule forbids
-numberOf Forbidden = 24
+encodeRefusalOf Forbidden = 24
 -- a buffer of under 80 bytes
-numberOf ShortBuffer = 12
+encodeRefusalOf ShortBuffer = 12
 
 -- for a buffer of this length: 24 before 12
 unfoldable pub answerOf : Fields → ℕ → Answer
@@ -27,13 +27,13 @@ answerOf fields size = cond (allowed fields) (cond (ltb size 80) ShortBuffer Wri
 
 -- the 80 bytes of the task with these fields
 unfoldable pub taskBytes : Fields → List ℕ
-taskBytes fields = wordsBytes (wordsOf (bankOf fields))
+taskBytes fields = wordsBytes (taskWords (bankOf fields))
 
 -- a refusal changes nothing; else the first 80 bytes, and no others, are written
-abbrev pub leaves : Answer → List ℕ → List ℕ → List ℕ
-leaves Written bytes buffer = spliced 0 bytes buffer
-leaves Forbidden bytes buffer = buffer
-leaves ShortBuffer bytes buffer = buffer
+abbrev pub bufferOnAnswer : Answer → List ℕ → List ℕ → List ℕ
+bufferOnAnswer Written bytes buffer = spliced 0 bytes buffer
+bufferOnAnswer Forbidden bytes buffer = buffer
+bufferOnAnswer ShortBuffer bytes buffer = buffer
 
 unfoldable pub bufferAfter : Fields → List ℕ → List ℕ
-bufferAfter fields buffer = leaves (answerOf fields (length buffer)) (taskBytes fields) buffer
+bufferAfter fields buffer = bufferOnAnswer (answerOf fields (length buffer)) (taskBytes fields) buffer

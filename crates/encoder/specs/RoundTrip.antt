@@ -19,9 +19,9 @@ use Rattle.register.specs.declared.task.Destination.{Destination}
 use Rattle.register.specs.declared.task.Blending.{Blending}
 use Rattle.register.specs.declared.task.Task.{Task}
 use Rattle.rules.specs.declared.task.Bounds.{Bounds}
-use Rattle.rules.specs.declared.task.Check.the-variants.{Fine}
-use Rattle.rules.specs.Rules.{taskFault}
-use Rattle.batch.specs.Batch.{Reading, finished, done, judged}
+use Rattle.rules.specs.declared.task.Check.the-variants.{Valid}
+use Rattle.rules.specs.Rules.{checkTask}
+use Rattle.batch.specs.Batch.{DecodedBatch, finished, stopWith, afterTaskCheck}
 use Rattle.encoder.specs.declared.fields.SurfaceFields.{SurfaceFields}
 use Rattle.encoder.specs.declared.fields.AlphaFields.{AlphaFields}
 use Rattle.encoder.specs.declared.fields.TransformFields.{TransformFields}
@@ -31,7 +31,7 @@ use Rattle.encoder.specs.declared.fields.BlendingFields.{BlendingFields}
 use Rattle.encoder.specs.declared.fields.Fields.{Fields}
 use Rattle.encoder.specs.Fields.{allowed}
 use Rattle.encoder.specs.Registers.{bankOf}
-use Rattle.encoder.specs.Words.{wordsOf}
+use Rattle.encoder.specs.Words.{taskWords}
 use Rattle.encoder.specs.Encoder.{taskBytes}
 
 -- ---- the task with exactly these fields
@@ -83,9 +83,10 @@ taskWith f = record {
 
 -- ---- encoded tasks one after the other
 
+-- Internal: as words
 unfoldable pub allWords : List Fields → List ℕ
 allWords [] = []
-allWords (f ∷ fs) = wordsOf (bankOf f) ++ allWords fs
+allWords (f ∷ fs) = taskWords (bankOf f) ++ allWords fs
 
 unfoldable pub allBytes : List Fields → List ℕ
 allBytes [] = []
@@ -97,26 +98,26 @@ AllAllowed [] = Unit
 AllAllowed (f ∷ fs) = (allowed f ≡ true) × AllAllowed fs
 
 -- addresses and a colour are 32-bit numbers, as those that the encoder is handed are
-pub record Plain (f : Fields) : Type 0 where
+pub record Fits32Bits (f : Fields) : Type 0 where
   pub source : f .source .surface .address < 2 ^ 32
   pub destination : f .destination .surface .address < 2 ^ 32
   pub output : f .output .address < 2 ^ 32
   pub colour : f .colour < 2 ^ 32
 
-abbrev pub AllPlain : List Fields → Type 0
-AllPlain [] = Unit
-AllPlain (f ∷ fs) = Plain f × AllPlain fs
+abbrev pub AllFit32Bits : List Fields → Type 0
+AllFit32Bits [] = Unit
+AllFit32Bits (f ∷ fs) = Fits32Bits f × AllFit32Bits fs
 
 -- 25 to 28 do not come of any of them
-abbrev pub AllFine : Bounds → List Fields → Type 0
-AllFine bounds [] = Unit
-AllFine bounds (f ∷ fs) = (taskFault bounds (taskWith f) ≡ Fine) × AllFine bounds fs
+abbrev pub AllPassTaskCheck : Bounds → List Fields → Type 0
+AllPassTaskCheck bounds [] = Unit
+AllPassTaskCheck bounds (f ∷ fs) = (checkTask bounds (taskWith f) ≡ Valid) × AllPassTaskCheck bounds fs
 
 -- what the tasks of these fields are read as from a bank on, the first of them at word k: each in order, 25 to 28 judged of its
 -- fields, a fault at the task-end header, which is 18 words after the task's first. Each leaves its own registers in the bank
-unfoldable pub readAs : Bounds → Bank → ℕ → List Fields → Reading
-readAs bounds bank k [] = done bank finished
-readAs bounds bank k (f ∷ fs) = judged (taskFault bounds (taskWith f)) (bankOf f) (k + 18) (readAs bounds (bankOf f) (k + 20) fs)
+unfoldable pub expectedDecoding : Bounds → Bank → ℕ → List Fields → DecodedBatch
+expectedDecoding bounds bank k [] = stopWith bank finished
+expectedDecoding bounds bank k (f ∷ fs) = afterTaskCheck (checkTask bounds (taskWith f)) (bankOf f) (k + 18) (expectedDecoding bounds (bankOf f) (k + 20) fs)
 
 -- the bank after tasks of these fields: that of the last of them
 unfoldable pub bankAfter : Bank → List Fields → Bank

@@ -1,4 +1,5 @@
--- A rectangle of one colour, all else at reset (01, "Writer and replay").
+-- A rectangle of one colour, all else at reset (01, "Writer and replay"). Internal, except what tints use: `resetAlpha`, `resetTransform`,
+-- `solidSource`.
 use Prim.Native.Nat.{ℕ}
 use Rattle.encoder.specs.declared.fields.SurfaceFields.{SurfaceFields}
 use Rattle.encoder.specs.declared.fields.AlphaFields.{AlphaFields}

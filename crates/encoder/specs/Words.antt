@@ -4,8 +4,8 @@ use mathlib.Core.List.{List, [], _∷_}
 use Rattle.register.specs.declared.bank.Bank.{Bank}
 
 -- the twenty words that write every register of a bank: six groups, each a header and its words, the last of them task end
-unfoldable pub wordsOf : Bank → List ℕ
-wordsOf b =
+unfoldable pub taskWords : Bank → List ℕ
+taskWords b =
     0x00100014 ∷ b .source .control ∷ b .source .size ∷ b .source .stride ∷ b .colour ∷ b .source .address
     ∷ 0x0050000C ∷ b .destination .control ∷ b .destination .size ∷ b .destination .stride
     ∷ 0x00600004 ∷ b .destination .address

@@ -1,8 +1,8 @@
 // The encoder (the papers' writer): a task's fields in, the 80 bytes of a batch of that one task out.
 ghost use mathlib.Core.Path.{_≡_};
 ghost use lib.ListN.{length};
-ghost use Rattle.encoder.specs.Words.{wordsOf};
-ghost use Rattle.encoder.specs.Encoder.{numberOf, answerOf, bufferAfter};
+ghost use Rattle.encoder.specs.Words.{taskWords};
+ghost use Rattle.encoder.specs.Encoder.{encodeRefusalOf, answerOf, bufferAfter};
 
 pub mod fields;
 
@@ -27,7 +27,7 @@ pub enum Answer {
 impl Answer {
     // The papers' number of a refusal, 0 without one.
     pub fn number(self) -> u32
-        ensures { λ r. ⌜ r ≡ numberOf self ⌝ }
+        ensures { λ r. ⌜ r ≡ encodeRefusalOf self ⌝ }
     {
         match self {
             Answer::Written => 0,
@@ -39,7 +39,7 @@ impl Answer {
 
 // The words of a batch that writes every register of a bank: six groups, the last of which ends the task.
 fn words_of(bank: Bank) -> [u32; 20]
-    ensures { λ r. ⌜ r ≡ wordsOf bank ⌝ }
+    ensures { λ r. ⌜ r ≡ taskWords bank ⌝ }
 {
     let source = bank.source;
     let destination = bank.destination;

@@ -7,40 +7,40 @@ use Rattle.register.specs.declared.bank.Bank.{Bank}
 use Rattle.register.specs.Bank.{resetBank}
 use Rattle.rules.specs.declared.task.Bounds.{Bounds}
 use Rattle.batch.specs.declared.verdict.Verdict.{Verdict}
-use Rattle.batch.specs.Batch.{readBatch, verdictOf}
+use Rattle.batch.specs.Batch.{decodeBatch, verdictOf}
 use Rattle.raster.specs.Batch.{drawBatch}
 use Rattle.record.specs.declared.Batch.{Batch}
 use Rattle.record.specs.declared.Record.{Record}
-use Rattle.queue.specs.Calls.{unless}
+use Rattle.queue.specs.Calls.{unlessRefused}
 use Rattle.engine.specs.declared.Completion.{Completion}
 use Rattle.engine.specs.declared.Outcome.the-variants.{Refused, Completed}
-use Rattle.engine.specs.Run.{runNumber, oldest, boundsFor, oldestWords, oldestVerdict, withoutOldest, answered, runOf, runMemory}
+use Rattle.engine.specs.Run.{runNumber, oldest, boundsOfClient, oldestWords, oldestVerdict, withoutOldest, outcomeUnlessRefused, runResult, runMemory}
 
 -- what run answers of the oldest batch, and memory after it
 abbrev pub completion : Record → List ℕ → Completion
 completion engine ring = record { client = oldest engine .client; ticket = oldest engine .ticket; verdict = oldestVerdict engine ring }
 
 abbrev pub drawn : Record → (ring memory : List ℕ) → List ℕ
-drawn engine ring memory = drawBatch (boundsFor engine (oldest engine .client)) resetBank (oldestWords engine ring) memory
+drawn engine ring memory = drawBatch (boundsOfClient engine (oldest engine .client)) resetBank (oldestWords engine ring) memory
 
 module _ (engine : Record) (ring memory : List ℕ) where
   -- a refusal changes neither record nor memory
   pub run-refused : (n : ℕ) → n ≡ runNumber engine ring memory → (n ≡ 0 → ⊥) →
-      (record { outcome = Refused n; engine = engine } ≡ runOf engine ring memory) × (memory ≡ runMemory engine ring memory)
-  unfolding runOf runMemory answered unless
+      (record { outcome = Refused n; engine = engine } ≡ runResult engine ring memory) × (memory ≡ runMemory engine ring memory)
+  unfolding runResult runMemory outcomeUnlessRefused unlessRefused
   run-refused zero is z = absurd (z refl)
   run-refused (suc n) is z = rw (← is) (refl, refl)
 
   pub run-done : runNumber engine ring memory ≡ 0 →
-      (runOf engine ring memory ≡ record { outcome = Completed (completion engine ring); engine = withoutOldest engine }) × (runMemory engine ring memory ≡ drawn engine ring memory)
-  unfolding runOf runMemory answered unless
+      (runResult engine ring memory ≡ record { outcome = Completed (completion engine ring); engine = withoutOldest engine }) × (runMemory engine ring memory ≡ drawn engine ring memory)
+  unfolding runResult runMemory outcomeUnlessRefused unlessRefused
   run-done z = rw z (refl, refl)
 
   -- the same of what the code made
-  pub run-made : runNumber engine ring memory ≡ 0 → (b : Batch) → b ≡ oldest engine → (bounds : Bounds) → bounds ≡ boundsFor engine (b .client) → (bank : Bank) → bank ≡ resetBank →
-      (verdict : Verdict) → verdict ≡ verdictOf (readBatch bounds bank (batchWords ring (b .offset) (b .length))) → (after : Record) → after ≡ withoutOldest engine →
+  pub run-made : runNumber engine ring memory ≡ 0 → (b : Batch) → b ≡ oldest engine → (bounds : Bounds) → bounds ≡ boundsOfClient engine (b .client) → (bank : Bank) → bank ≡ resetBank →
+      (verdict : Verdict) → verdict ≡ verdictOf (decodeBatch bounds bank (batchWords ring (b .offset) (b .length))) → (after : Record) → after ≡ withoutOldest engine →
       (new : List ℕ) → new ≡ drawBatch bounds bank (batchWords ring (b .offset) (b .length)) memory →
-      (record { outcome = Completed (record { client = b .client; ticket = b .ticket; verdict = verdict }); engine = after } ≡ runOf engine ring memory) × (new ≡ runMemory engine ring memory)
+      (record { outcome = Completed (record { client = b .client; ticket = b .ticket; verdict = verdict }); engine = after } ≡ runResult engine ring memory) × (new ≡ runMemory engine ring memory)
   run-made z b is bounds e bank r verdict v after a new d =
       let done = run-done z in
       (rw (v, a, e, r, is) (sym (done .0)), d ∙ rw (e, r, is) (sym (done .1)))

@@ -8,36 +8,36 @@ use lib.ListN.{length, set}
 use lib.Dec.{eqb}
 use borrow.Author.Tests.{ltb-true, eq-eqb}
 use Rattle.word.proofs.Tests.{and-true}
-use Rattle.ring.specs.Segment.{wrapped}
+use Rattle.ring.specs.Segment.{wrapOffset}
 use Rattle.rules.specs.declared.task.Bounds.{Bounds}
-use Rattle.raster.specs.Clear.{Room}
+use Rattle.raster.specs.Preconditions.{BoundsInMemory}
 use Rattle.record.specs.declared.Batch.{Batch}
 use Rattle.record.specs.declared.Client.{Client}
 use Rattle.record.specs.declared.Slot.{Slot}
 use Rattle.record.specs.declared.Record.{Record}
-use Rattle.record.specs.Slots.{free, ready, sum, countOf}
-use Rattle.record.specs.Tickets.{ticketBefore, place, batchWith, lastGiven, inOrder}
+use Rattle.record.specs.Slots.{free, readyBatches, sumOver, countOf}
+use Rattle.record.specs.Tickets.{ticketBefore, slotOfTicket, batchOfTicket, ticketsConsecutive, inTicketOrder}
 use Rattle.record.specs.Clients.{isOpen, clientAt}
 use Rattle.record.specs.Queue.{takenSlots, waiting}
-use Rattle.record.specs.Rules.{ofOpen, valid}
+use Rattle.record.specs.Rules.{clientsOpen, valid}
 use Rattle.record.proofs.Slots.{ready-most}
 use Rattle.record.proofs.Order.{oldest as is-oldest}
 use Rattle.record.proofs.Rules.{LengthGood, Valid, valid-facts, sum-waiting}
 use Rattle.record.proofs.Taken.{first, waiting-first, first-good}
 use Rattle.record.proofs.Windows.{window-placed}
 use Rattle.queue.proofs.Room.{pending-right}
-use Rattle.engine.specs.Run.{oldestTicket, oldest, boundsFor, lowered, withoutOldest}
+use Rattle.engine.specs.Run.{oldestTicket, oldest, boundsOfClient, pendingLowered, withoutOldest}
 
 -- its client is open
 pub owner-open : (engine : Record) → valid engine ≡ true → 0 < takenSlots engine → isOpen engine (oldest engine .client) ≡ true
-unfolding inOrder ofOpen
+unfolding inTicketOrder clientsOpen
 owner-open engine ok some = go (takenSlots engine) refl some
   where
     go : (n : ℕ) → takenSlots engine ≡ n → 0 < n → isOpen engine (oldest engine .client) ≡ true
     go zero e h = absurd (omega arith)
     go (suc k) e h =
-        let b : Batch = batchWith (ticketBefore (engine .next) (suc k)) (engine .slots) in
-        rw e (and-true (isOpen engine (b .client)) (ofOpen engine (inOrder k (engine .next) (engine .slots))) (rw e at (valid-facts engine ok .owners)) .0)
+        let b : Batch = batchOfTicket (ticketBefore (engine .next) (suc k)) (engine .slots) in
+        rw e (and-true (isOpen engine (b .client)) (clientsOpen engine (inTicketOrder k (engine .next) (engine .slots))) (rw e at (valid-facts engine ok .owners)) .0)
 
 -- it is one of the four
 pub owner-small : (engine : Record) → valid engine ≡ true → 0 < takenSlots engine → oldest engine .client < 4
@@ -45,14 +45,14 @@ owner-small engine ok some =
     omega (arith, ltb-true (oldest engine .client) (engine .opened) (owner-open engine ok some), valid-facts engine ok .numbers .clients)
 
 -- its slot is one of the eight
-pub slot-below : (engine : Record) → valid engine ≡ true → 0 < takenSlots engine → length (engine .slots) ≡ 8 → place (oldestTicket engine) (engine .slots) < 8
+pub slot-below : (engine : Record) → valid engine ≡ true → 0 < takenSlots engine → length (engine .slots) ≡ 8 → slotOfTicket (oldestTicket engine) (engine .slots) < 8
 slot-below engine ok some eight =
     let k : ℕ = takenSlots engine - 1 in
     let more : takenSlots engine ≡ suc k = omega arith in
     let few = ready-most (engine .slots) in
-    let given : lastGiven (suc k) (engine .next) (engine .slots) ≡ true = ap (λ (n : ℕ). lastGiven n (engine .next) (engine .slots)) (sym more) ∙ valid-facts engine ok .given in
+    let given : ticketsConsecutive (suc k) (engine .next) (engine .slots) ≡ true = ap (λ (n : ℕ). ticketsConsecutive n (engine .next) (engine .slots)) (sym more) ∙ valid-facts engine ok .given in
     let found = is-oldest (engine .next) k (engine .slots) (omega arith) given .found in
-    let same : place (oldestTicket engine) (engine .slots) ≡ place (ticketBefore (engine .next) (suc k)) (engine .slots) = ap (λ (n : ℕ). place (ticketBefore (engine .next) n) (engine .slots)) more in
+    let same : slotOfTicket (oldestTicket engine) (engine .slots) ≡ slotOfTicket (ticketBefore (engine .next) (suc k)) (engine .slots) = ap (λ (n : ℕ). slotOfTicket (ticketBefore (engine .next) n) (engine .slots)) more in
     omega arith
 
 -- k batches are ready beside it
@@ -67,16 +67,16 @@ module _ (engine : Record) (ok : valid engine ≡ true) (k : ℕ) (more : takenS
   first-is = rw more
 
   -- it is the first in ticket order
-  oldest-first : waiting engine ≡ oldest engine ∷ inOrder k (engine .next) (engine .slots)
+  oldest-first : waiting engine ≡ oldest engine ∷ inTicketOrder k (engine .next) (engine .slots)
   oldest-first = rw first-is (waiting-first engine ok k more few four)
 
   -- its client has it for one
-  owned : 1 ≤ countOf (oldest engine .client) (ready (engine .slots))
-  unfolding sum
+  owned : 1 ≤ countOf (oldest engine .client) (readyBatches (engine .slots))
+  unfolding sumOver
   owned =
       let client : ℕ = oldest engine .client in
       let all = sum-waiting engine v (omega (arith, few)) (λ b. cond (eqb (b .client) client) 1 0) in
-      let parts : countOf client (waiting engine) ≡ cond (eqb client client) 1 0 + countOf client (inOrder k (engine .next) (engine .slots)) = ap (countOf client) oldest-first in
+      let parts : countOf client (waiting engine) ≡ cond (eqb client client) 1 0 + countOf client (inTicketOrder k (engine .next) (engine .slots)) = ap (countOf client) oldest-first in
       let own : _≡_ {A = ℕ} (cond (eqb client client) 1 0) 1 = rw (eq-eqb client client refl) in
       omega arith
 
@@ -86,7 +86,7 @@ module _ (engine : Record) (ok : valid engine ≡ true) (k : ℕ) (more : takenS
 
 -- what taking it needs
 pub record Takes (engine : Record) : Type 0 where
-  pub slot : place (oldestTicket engine) (engine .slots) < 8
+  pub slot : slotOfTicket (oldestTicket engine) (engine .slots) < 8
   pub client : oldest engine .client < 4
   pub counted : 1 ≤ clientAt engine (oldest engine .client) .pending
   pub offset : engine .read + oldest engine .length < 65536
@@ -104,16 +104,16 @@ takes engine ok some four eight =
     }
 
 -- the record that the code makes without it
-pub without-made : (engine : Record) (at : ℕ) → at ≡ place (oldestTicket engine) (engine .slots) → (b : Batch) → b ≡ oldest engine →
-    (clients : List Client) → clients ≡ lowered (engine .clients) (b .client) → (slots : List Slot) → slots ≡ set (engine .slots) at free →
-    (read : ℕ) → read ≡ wrapped (engine .setup .ring) (engine .read + b .length) →
+pub without-made : (engine : Record) (at : ℕ) → at ≡ slotOfTicket (oldestTicket engine) (engine .slots) → (b : Batch) → b ≡ oldest engine →
+    (clients : List Client) → clients ≡ pendingLowered (engine .clients) (b .client) → (slots : List Slot) → slots ≡ set (engine .slots) at free →
+    (read : ℕ) → read ≡ wrapOffset (engine .setup .ring) (engine .read + b .length) →
     record { setup = engine .setup; clients = clients; opened = engine .opened; slots = slots; read = read; next = engine .next } ≡ withoutOldest engine
 unfolding withoutOldest
 without-made engine at ea b eb clients ec slots es read er = rw (ec, es, er, ea, eb)
 
 -- its client's window and common lie in memory
 pub oldest-room : (engine : Record) → valid engine ≡ true → 0 < takenSlots engine → length (engine .clients) ≡ 4 →
-    (n : ℕ) → n ≡ engine .setup .memory → (b : Batch) → b ≡ oldest engine → (bounds : Bounds) → bounds ≡ boundsFor engine (b .client) → Room bounds n
+    (n : ℕ) → n ≡ engine .setup .memory → (b : Batch) → b ≡ oldest engine → (bounds : Bounds) → bounds ≡ boundsOfClient engine (b .client) → BoundsInMemory bounds n
 oldest-room engine ok some four n en b eb bounds is =
     let v = valid-facts engine ok in
     let owner = ltb-true (oldest engine .client) (engine .opened) (owner-open engine ok some) in

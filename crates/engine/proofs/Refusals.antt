@@ -9,7 +9,7 @@ use Rattle.word.proofs.Tests.{or-false}
 use Rattle.record.specs.declared.Record.{Record}
 use Rattle.record.specs.Queue.{takenSlots}
 use Rattle.record.specs.Rules.{valid}
-use Rattle.queue.specs.Refusals.{firstOf}
+use Rattle.queue.specs.Refusals.{firstRefusal}
 use Rattle.queue.proofs.Refusals.{clear}
 use Rattle.engine.specs.Run.{runTable}
 
@@ -19,7 +19,7 @@ pub record RunAllowed (engine : Record) (given lent : ℕ) : Type 0 where
   pub memory : lent ≡ engine .setup .memory
   pub some : 0 < takenSlots engine
 
-pub run-allowed : (engine : Record) (given lent : ℕ) → firstOf (runTable engine given lent) ≡ 0 → RunAllowed engine given lent
+pub run-allowed : (engine : Record) (given lent : ℕ) → firstRefusal (runTable engine given lent) ≡ 0 → RunAllowed engine given lent
 run-allowed engine given lent e =
     let eleven = clear (runTable engine given lent) e (omega arith) in
     let ten = eleven .1 (omega arith) in

@@ -9,14 +9,14 @@ use lib.ListN.{length, getD, length-set}
 use lib.Seq.{getD-take, take-set-lt}
 use borrow.Author.Tests.{ltb-true}
 use Rattle.word.specs.Word.{words}
-use Rattle.ring.specs.Segment.{segment, Lies}
+use Rattle.ring.specs.Segment.{segment, LiesInRing}
 use Rattle.ring.proofs.Segment.{batch-words}
 use Rattle.register.specs.Bank.{resetBank}
 use Rattle.raster.proofs.Outside.{length-batch}
 use Rattle.record.specs.declared.Batch.{Batch}
 use Rattle.record.specs.declared.Record.{Record}
 use Rattle.record.specs.Slots.{free}
-use Rattle.record.specs.Tickets.{place}
+use Rattle.record.specs.Tickets.{slotOfTicket}
 use Rattle.record.specs.Clients.{noClient, openClients, openWindows}
 use Rattle.record.specs.Queue.{takenSlots, waiting}
 use Rattle.record.specs.Rules.{valid}
@@ -28,27 +28,27 @@ use Rattle.queue.proofs.Kept.{Sized}
 use Rattle.queue.proofs.Stays.{unless-keeps}
 use Rattle.engine.specs.declared.Outcome.{Outcome}
 use Rattle.engine.specs.declared.Outcome.the-variants.{Refused, Completed}
-use Rattle.engine.specs.Outcome.{numberOf}
-use Rattle.engine.specs.Run.{runNumber, oldestTicket, oldest, boundsFor, oldestWords, withoutOldest, answered, runOf, runMemory}
+use Rattle.engine.specs.Outcome.{runRefusalOf}
+use Rattle.engine.specs.Run.{runNumber, oldestTicket, oldest, boundsOfClient, oldestWords, withoutOldest, outcomeUnlessRefused, runResult, runMemory}
 use Rattle.engine.proofs.Oldest.{owner-open, few, first-is, good}
 use Rattle.engine.proofs.Refusals.{RunAllowed, run-allowed}
 use Rattle.engine.proofs.Calls.{completion, drawn, run-refused}
 
 -- ---- the paper's number
 
-number-answered : (n : ℕ) (o : Outcome) → numberOf o ≡ 0 → numberOf (answered n o) ≡ n
-unfolding answered
+number-answered : (n : ℕ) (o : Outcome) → runRefusalOf o ≡ 0 → runRefusalOf (outcomeUnlessRefused n o) ≡ n
+unfolding outcomeUnlessRefused
 number-answered zero o e = e
 number-answered (suc n) o e = refl
 
-pub run-number : (engine : Record) (ring memory : List ℕ) → numberOf (runOf engine ring memory .outcome) ≡ runNumber engine ring memory
-unfolding runOf
+pub run-number : (engine : Record) (ring memory : List ℕ) → runRefusalOf (runResult engine ring memory .outcome) ≡ runNumber engine ring memory
+unfolding runResult
 run-number engine ring memory = number-answered (runNumber engine ring memory) (Completed (completion engine ring)) refl
 
 -- ---- a refusal changes nothing
 
 pub run-same : (engine : Record) (ring memory : List ℕ) → (runNumber engine ring memory ≡ 0 → ⊥) →
-    (runOf engine ring memory ≡ record { outcome = Refused (runNumber engine ring memory); engine = engine }) × (runMemory engine ring memory ≡ memory)
+    (runResult engine ring memory ≡ record { outcome = Refused (runNumber engine ring memory); engine = engine }) × (runMemory engine ring memory ≡ memory)
 run-same engine ring memory z =
     let both = run-refused engine ring memory (runNumber engine ring memory) refl z in
     (sym (both .0), sym (both .1))
@@ -59,7 +59,7 @@ pub run-sized : (engine : Record) → Sized engine → Sized (withoutOldest engi
 unfolding withoutOldest
 run-sized engine s = record {
   clients = length-set (engine .clients) (oldest engine .client) (record { window = getD (engine .clients) (oldest engine .client) noClient .window; pending = getD (engine .clients) (oldest engine .client) noClient .pending - 1 }) ∙ s .clients;
-  slots = length-set (engine .slots) (place (oldestTicket engine) (engine .slots)) free ∙ s .slots;
+  slots = length-set (engine .slots) (slotOfTicket (oldestTicket engine) (engine .slots)) free ∙ s .slots;
   next = s .next;
 }
 
@@ -124,7 +124,7 @@ module _ (engine : Record) (s : Sized engine) (given lent : ℕ) (a : RunAllowed
 -- ---- the batch in the ring
 
 module _ (engine : Record) (s : Sized engine) (ring : List ℕ) (lent : ℕ) (a : RunAllowed engine (length ring) lent) where
-  pub oldest-lies : Lies ring (oldest engine .offset) (oldest engine .length)
+  pub oldest-lies : LiesInRing ring (oldest engine .offset) (oldest engine .length)
   oldest-lies =
       let at = oldest-at engine s (length ring) lent a in
       let size = oldest-good engine s (length ring) lent a in
@@ -145,8 +145,8 @@ module _ (engine : Record) (s : Sized engine) (ring : List ℕ) (lent : ℕ) (a 
 -- ---- every run, refused or not
 
 pub run-stays : (engine : Record) → Sized engine → valid engine ≡ true → (ring memory : List ℕ) →
-    (valid (runOf engine ring memory .engine) ≡ true) × Sized (runOf engine ring memory .engine)
-unfolding runOf
+    (valid (runResult engine ring memory .engine) ≡ true) × Sized (runResult engine ring memory .engine)
+unfolding runResult
 run-stays engine s ok ring memory =
     unless-keeps (λ e. (valid e ≡ true) × Sized e) (runNumber engine ring memory) engine (withoutOldest engine) (ok, s)
     (λ z. (run-valid engine s (length ring) (length memory) (run-allowed engine (length ring) (length memory) z), run-sized engine s))
@@ -156,4 +156,4 @@ pub run-length : (engine : Record) (ring memory : List ℕ) → length (runMemor
 unfolding runMemory
 run-length engine ring memory =
     unless-keeps (λ m. length m ≡ length memory) (runNumber engine ring memory) memory (drawn engine ring memory) refl
-    (λ z. length-batch (boundsFor engine (oldest engine .client)) resetBank (oldestWords engine ring) memory)
+    (λ z. length-batch (boundsOfClient engine (oldest engine .client)) resetBank (oldestWords engine ring) memory)

@@ -6,28 +6,28 @@ use mathlib.Core.Bool.{_||_, not}
 use Prim.Native.Nat.{ℕ, zero, suc, _+_, _-_}
 use lib.ListN.{length, getD, set}
 use lib.Dec.{eqb}
-use Rattle.ring.specs.Segment.{batchWords, wrapped}
+use Rattle.ring.specs.Segment.{batchWords, wrapOffset}
 use Rattle.register.specs.Bank.{resetBank}
 use Rattle.rules.specs.declared.task.Bounds.{Bounds}
 use Rattle.batch.specs.declared.verdict.Verdict.{Verdict}
-use Rattle.batch.specs.Batch.{readBatch, verdictOf}
+use Rattle.batch.specs.Batch.{decodeBatch, verdictOf}
 use Rattle.raster.specs.Batch.{drawBatch}
 use Rattle.record.specs.declared.Client.{Client}
 use Rattle.record.specs.declared.Batch.{Batch}
 use Rattle.record.specs.declared.Record.{Record}
 use Rattle.record.specs.Slots.{free}
-use Rattle.record.specs.Tickets.{ticketBefore, place, batchWith}
-use Rattle.record.specs.Clients.{noClient, clientAt, bytesOf}
+use Rattle.record.specs.Tickets.{ticketBefore, slotOfTicket, batchOfTicket}
+use Rattle.record.specs.Clients.{noClient, clientAt, windowRange}
 use Rattle.record.specs.Queue.{takenSlots}
 use Rattle.record.specs.Rules.{valid}
-use Rattle.queue.specs.Refusals.{Row, _when_, firstOf}
-use Rattle.queue.specs.Calls.{unless}
+use Rattle.queue.specs.Refusals.{RefusalRow, _when_, firstRefusal}
+use Rattle.queue.specs.Calls.{unlessRefused}
 use Rattle.engine.specs.declared.Outcome.{Outcome}
 use Rattle.engine.specs.declared.Outcome.the-variants.{Refused, Completed}
 use Rattle.engine.specs.declared.Ran.{Ran}
 
 -- when run is refused; ring and memory: the lengths of those that are lent
-abbrev pub runTable : Record → (ring memory : ℕ) → List Row
+abbrev pub runTable : Record → (ring memory : ℕ) → List RefusalRow
 runTable engine ring memory =
     11 when not (valid engine)
     ∷ 10 when (not (eqb ring (engine .setup .ring)) || not (eqb memory (engine .setup .memory)))
@@ -36,7 +36,7 @@ runTable engine ring memory =
 
 -- what run is refused with, 0 if it takes a batch
 abbrev pub runNumber : Record → (ring memory : List ℕ) → ℕ
-runNumber engine ring memory = firstOf (runTable engine (length ring) (length memory))
+runNumber engine ring memory = firstRefusal (runTable engine (length ring) (length memory))
 
 -- ---- the batch that is taken
 
@@ -45,11 +45,11 @@ abbrev pub oldestTicket : Record → ℕ
 oldestTicket engine = ticketBefore (engine .next) (takenSlots engine)
 
 abbrev pub oldest : Record → Batch
-oldest engine = batchWith (oldestTicket engine) (engine .slots)
+oldest engine = batchOfTicket (oldestTicket engine) (engine .slots)
 
 -- its client's window, and common
-abbrev pub boundsFor : Record → (client : ℕ) → Bounds
-boundsFor engine client = record { window = bytesOf (clientAt engine client .window); common = engine .setup .common }
+abbrev pub boundsOfClient : Record → (client : ℕ) → Bounds
+boundsOfClient engine client = record { window = windowRange (clientAt engine client .window); common = engine .setup .common }
 
 -- its words, in order
 abbrev pub oldestWords : Record → (ring : List ℕ) → List ℕ
@@ -57,39 +57,39 @@ oldestWords engine ring = batchWords ring (oldest engine .offset) (oldest engine
 
 -- "Registers are at reset values at the start of every batch"
 abbrev pub oldestVerdict : Record → (ring : List ℕ) → Verdict
-oldestVerdict engine ring = verdictOf (readBatch (boundsFor engine (oldest engine .client)) resetBank (oldestWords engine ring))
+oldestVerdict engine ring = verdictOf (decodeBatch (boundsOfClient engine (oldest engine .client)) resetBank (oldestWords engine ring))
 
 -- ---- record, answer and memory after it
 
 -- the clients with one batch fewer pending for one of them
-abbrev pub lowered : List Client → ℕ → List Client
-lowered clients client = set clients client (record { window = getD clients client noClient .window; pending = getD clients client noClient .pending - 1 })
+abbrev pub pendingLowered : List Client → ℕ → List Client
+pendingLowered clients client = set clients client (record { window = getD clients client noClient .window; pending = getD clients client noClient .pending - 1 })
 
 -- its slot is free, and "each run moves" the read offset "past its batch"
 unfoldable pub withoutOldest : Record → Record
 withoutOldest engine = record {
   setup = engine .setup;
-  clients = lowered (engine .clients) (oldest engine .client);
+  clients = pendingLowered (engine .clients) (oldest engine .client);
   opened = engine .opened;
-  slots = set (engine .slots) (place (oldestTicket engine) (engine .slots)) free;
-  read = wrapped (engine .setup .ring) (engine .read + oldest engine .length);
+  slots = set (engine .slots) (slotOfTicket (oldestTicket engine) (engine .slots)) free;
+  read = wrapOffset (engine .setup .ring) (engine .read + oldest engine .length);
   next = engine .next;
 }
 
 -- with a refusal number, 0 for none: the refusal, or else the outcome
-unfoldable pub answered : (number : ℕ) → Outcome → Outcome
-answered zero otherwise = otherwise
-answered (suc n) otherwise = Refused (suc n)
+unfoldable pub outcomeUnlessRefused : (number : ℕ) → Outcome → Outcome
+outcomeUnlessRefused zero otherwise = otherwise
+outcomeUnlessRefused (suc n) otherwise = Refused (suc n)
 
-unfoldable pub runOf : Record → (ring memory : List ℕ) → Ran
-runOf engine ring memory =
+unfoldable pub runResult : Record → (ring memory : List ℕ) → Ran
+runResult engine ring memory =
     let number : ℕ = runNumber engine ring memory in
     record {
-      outcome = answered number (Completed (record { client = oldest engine .client; ticket = oldest engine .ticket; verdict = oldestVerdict engine ring }));
-      engine = unless number engine (withoutOldest engine);
+      outcome = outcomeUnlessRefused number (Completed (record { client = oldest engine .client; ticket = oldest engine .ticket; verdict = oldestVerdict engine ring }));
+      engine = unlessRefused number engine (withoutOldest engine);
     }
 
 -- memory after it: the batch drawn with its client's window; a faulty one draws nothing
 unfoldable pub runMemory : Record → (ring memory : List ℕ) → List ℕ
 runMemory engine ring memory =
-    unless (runNumber engine ring memory) memory (drawBatch (boundsFor engine (oldest engine .client)) resetBank (oldestWords engine ring) memory)
+    unlessRefused (runNumber engine ring memory) memory (drawBatch (boundsOfClient engine (oldest engine .client)) resetBank (oldestWords engine ring) memory)

@@ -5,13 +5,13 @@ ghost use mathlib.Core.Bool.{true};
 ghost use Prim.Native.Nat.{_≤_, _<_};
 ghost use lib.ListN.{length, getD, set};
 ghost use Rattle.record.specs.Slots.{free};
-ghost use Rattle.record.specs.Tickets.{place};
-ghost use Rattle.record.specs.Clients.{noClient, bytesOf};
+ghost use Rattle.record.specs.Tickets.{slotOfTicket};
+ghost use Rattle.record.specs.Clients.{noClient, windowRange};
 ghost use Rattle.record.specs.Queue.{takenSlots};
 ghost use Rattle.record.specs.Rules.{valid};
-ghost use Rattle.queue.specs.Refusals.{firstOf};
-ghost use Rattle.queue.specs.Calls.{setUp, openOf, submitOf, submitRing, pendingOf};
-ghost use Rattle.engine.specs.Run.{runTable, oldestTicket, oldest, boundsFor, lowered, withoutOldest, runOf, runMemory};
+ghost use Rattle.queue.specs.Refusals.{firstRefusal};
+ghost use Rattle.queue.specs.Calls.{setUpResult, openResult, submitResult, submitRing, pendingAnswer};
+ghost use Rattle.engine.specs.Run.{runTable, oldestTicket, oldest, boundsOfClient, pendingLowered, withoutOldest, runResult, runMemory};
 use batch::Verdict;
 use queue::Answer;
 use queue::Reply;
@@ -31,7 +31,7 @@ pub struct Completion {
     pub verdict: Verdict,
 }
 
-// The paper's numbers are those of `numberOf` and `valuesOf` in specs.
+// The paper's numbers are those of `runRefusalOf` and `valuesOf` in specs.
 pub enum Outcome {
     Refused(u32),
     Completed(Completion),
@@ -44,21 +44,21 @@ pub struct Ran {
 
 // Set up with the lengths of ring, memory and common.
 pub fn set_up(ring: usize, memory: usize, common: usize) -> Reply
-    ensures { λ r. ⌜ r ≡ setUp ring memory common ⌝ }
+    ensures { λ r. ⌜ r ≡ setUpResult ring memory common ⌝ }
 {
     queue::set_up(ring, memory, common)
 }
 
 // Opens a client with a window.
 pub fn open(engine: Record, start: u32, length: u32) -> Reply
-    ensures { λ r. ⌜ r ≡ openOf engine (record { start = start; length = length }) ⌝ }
+    ensures { λ r. ⌜ r ≡ openResult engine (record { start = start; length = length }) ⌝ }
 {
     queue::open(engine, start, length)
 }
 
 // Puts a batch into the ring and the queue. What it says is not looked at.
 pub fn submit(engine: Record, ring: &mut [u8], client: u32, batch: &[u8]) -> Reply
-    ensures { λ r. ⌜ (r ≡ submitOf engine (now (ring .entry)) client (now (batch .entry)))
+    ensures { λ r. ⌜ (r ≡ submitResult engine (now (ring .entry)) client (now (batch .entry)))
         × (now (ring .exit) ≡ submitRing engine (now (ring .entry)) client (now (batch .entry))) ⌝ }
 {
     queue::submit(engine, ring, client, batch)
@@ -66,27 +66,27 @@ pub fn submit(engine: Record, ring: &mut [u8], client: u32, batch: &[u8]) -> Rep
 
 // How many batches of a client are ready.
 pub fn pending(engine: Record, client: u32) -> Answer
-    ensures { λ r. ⌜ r ≡ pendingOf engine client ⌝ }
+    ensures { λ r. ⌜ r ≡ pendingAnswer engine client ⌝ }
 {
     queue::pending(engine, client)
 }
 
 // What run is refused with, 0 if it takes a batch; `ring` and `memory` are the lengths of what is lent.
 fn run_refusal(engine: Record, ring: usize, memory: usize) -> u32
-    ensures { λ r. ⌜ r ≡ firstOf (runTable engine ring memory) ⌝ }
+    ensures { λ r. ⌜ r ≡ firstRefusal (runTable engine ring memory) ⌝ }
 {
     let setup = engine.setup;
     let slots = engine.slots;
     let lent = !(ring == setup.ring) | !(memory == setup.memory);
     let none = record::taken_slots(slots) == 0;
-    let no10 = queue::first_of(lent, 10, queue::first_of(none, 9, 0));
-    queue::first_of(!record::is_valid(engine), 11, no10)
+    let no10 = queue::first_refusal(lent, 10, queue::first_refusal(none, 9, 0));
+    queue::first_refusal(!record::is_valid(engine), 11, no10)
 }
 
 // The bytes of a client's window.
 fn window_of(clients: [Client; 4], client: u32) -> Range
     requires { ⌜ client < 4 ⌝ }
-    ensures { λ r. ⌜ (r ≡ bytesOf (getD clients client noClient .window)) × (length clients ≡ 4) ⌝ }
+    ensures { λ r. ⌜ (r ≡ windowRange (getD clients client noClient .window)) × (length clients ≡ 4) ⌝ }
 {
     let own = clients[client as usize];
     let window = own.window;
@@ -96,7 +96,7 @@ fn window_of(clients: [Client; 4], client: u32) -> Range
 // What a client may touch: its window, and common.
 fn bounds_for(engine: Record, client: u32) -> Bounds
     requires { ⌜ client < 4 ⌝ }
-    ensures { λ r. ⌜ (r ≡ boundsFor engine client) × (length (engine .clients) ≡ 4) ⌝ }
+    ensures { λ r. ⌜ (r ≡ boundsOfClient engine client) × (length (engine .clients) ≡ 4) ⌝ }
 {
     let setup = engine.setup;
     let clients = engine.clients;
@@ -109,7 +109,7 @@ fn bounds_for(engine: Record, client: u32) -> Bounds
 // One batch fewer pending for a client.
 fn lower(clients: [Client; 4], client: u32) -> [Client; 4]
     requires { ⌜ (client < 4) × (1 ≤ getD clients client noClient .pending) ⌝ }
-    ensures { λ r. ⌜ r ≡ lowered clients client ⌝ }
+    ensures { λ r. ⌜ r ≡ pendingLowered clients client ⌝ }
 {
     let at = client as usize;
     let old = clients[at];
@@ -123,11 +123,11 @@ fn lower(clients: [Client; 4], client: u32) -> [Client; 4]
 }
 
 // The slot of the oldest batch.
-fn oldest_place(engine: Record) -> usize
-    ensures { λ r. ⌜ (r ≡ place (oldestTicket engine) (engine .slots)) × (length (engine .slots) ≡ 8) ⌝ }
+fn oldest_slot(engine: Record) -> usize
+    ensures { λ r. ⌜ (r ≡ slotOfTicket (oldestTicket engine) (engine .slots)) × (length (engine .slots) ≡ 8) ⌝ }
 {
     let slots = engine.slots;
-    record::place_of(slots, engine.next, record::taken_slots(slots))
+    record::slot_of_age(slots, engine.next, record::taken_slots(slots))
 }
 
 // The slots with one of them free.
@@ -145,7 +145,7 @@ fn freed(slots: [Slot; 8], at: usize) -> [Slot; 8]
 // The record without the oldest batch, which is in the slot `at`: the slot and its ring bytes are free again.
 fn without_oldest(engine: Record, at: usize, batch: Batch) -> Record
     requires { ⌜ (valid engine ≡ true) × (0 < takenSlots engine) × (length (engine .clients) ≡ 4) × (length (engine .slots) ≡ 8)
-        × (at ≡ place (oldestTicket engine) (engine .slots)) × (batch ≡ oldest engine) ⌝ }
+        × (at ≡ slotOfTicket (oldestTicket engine) (engine .slots)) × (batch ≡ oldest engine) ⌝ }
     ensures { λ r. ⌜ r ≡ withoutOldest engine ⌝ }
 {
     let setup = engine.setup;
@@ -163,7 +163,7 @@ fn without_oldest(engine: Record, at: usize, batch: Batch) -> Record
 // Takes the oldest batch: it is judged whole, drawn if it is faultless, and its slot and ring bytes are free again. The slow engine (02, request 13), which
 // is there to check the fast one by, draws each pixel by itself; what it promises is the same.
 pub fn run_by(engine: Record, ring: &[u8], memory: &mut [u8], slow: bool) -> Ran
-    ensures { λ r. ⌜ (r ≡ runOf engine (now (ring .entry)) (now (memory .entry)))
+    ensures { λ r. ⌜ (r ≡ runResult engine (now (ring .entry)) (now (memory .entry)))
         × (now (memory .exit) ≡ runMemory engine (now (ring .entry)) (now (memory .entry))) ⌝ }
 {
     let number = run_refusal(engine, ring.len(), memory.len());
@@ -174,7 +174,7 @@ pub fn run_by(engine: Record, ring: &[u8], memory: &mut [u8], slow: bool) -> Ran
         };
     }
     let slots = engine.slots;
-    let at = oldest_place(engine);
+    let at = oldest_slot(engine);
     let batch = record::batch_of(slots[at]);
     let bounds = bounds_for(engine, batch.client);
     let verdict = walk::run_batch(
@@ -199,7 +199,7 @@ pub fn run_by(engine: Record, ring: &[u8], memory: &mut [u8], slow: bool) -> Ran
 
 // Takes the oldest batch by the fast engine.
 pub fn run(engine: Record, ring: &[u8], memory: &mut [u8]) -> Ran
-    ensures { λ r. ⌜ (r ≡ runOf engine (now (ring .entry)) (now (memory .entry)))
+    ensures { λ r. ⌜ (r ≡ runResult engine (now (ring .entry)) (now (memory .entry)))
         × (now (memory .exit) ≡ runMemory engine (now (ring .entry)) (now (memory .entry))) ⌝ }
 {
     run_by(engine, ring, memory, false)

@@ -7,7 +7,7 @@ use ppm::Number;
 fn asked() -> Number {
     if os::arg_count() != 3 {
         command::complain(b"fault", b" takes two arguments\n");
-        return Number::Wrong;
+        return Number::Invalid;
     }
     command::number_argument(2, b"TICKET")
 }

@@ -12,12 +12,12 @@ use lib.Dec.{eqb, leb, ltb}
 use borrow.Author.Tests.{ltb-true, ltb-false, eqb-false, not-true, lt-ltb, le-ltb, le-leb}
 use Rattle.word.specs.Word.{words}
 use Rattle.word.proofs.Tests.{split, and-true, or-false}
-use Rattle.ring.specs.Segment.{segment, lies, batchWords}
+use Rattle.ring.specs.Segment.{segment, liesInRing, batchWords}
 use Rattle.register.specs.Bank.{resetBank}
 use Rattle.rules.specs.declared.task.Bounds.{Bounds}
-use Rattle.batch.specs.Batch.{readBatch, tasksDrawn}
+use Rattle.batch.specs.Batch.{decodeBatch, tasksDrawn}
 use Rattle.model.specs.Refusals.{badLength}
-use Rattle.claims.specs.Way.{boundsOf}
+use Rattle.claims.specs.BatchSemantics.{boundsOf}
 use Rattle.records.specs.declared.Stage.the-variants.{Version}
 use Rattle.records.specs.declared.Found.{Found}
 use Rattle.records.specs.declared.Found.the-variants.{Nothing, Record, BadVersion, BadRecord}
@@ -26,7 +26,7 @@ use Rattle.records.specs.Records.{Entry, File, records}
 use Rattle.records.specs.Reading.{fileAt, entryIn, onto, Ready, Takes}
 use Rattle.records.proofs.Onward.{ends-here}
 use Rattle.replay.specs.Lines.{setup}
-use Rattle.replay.specs.Answered.{refusal, windowOf, ticketAfter, countAfter}
+use Rattle.replay.specs.Answered.{recordRefusal, replayWindow, ticketOfCount, countAfter}
 use Rattle.provenance.specs.declared.Touched.{Touched}
 use Rattle.provenance.specs.declared.Touched.the-variants.{NotDrawn}
 use Rattle.provenance.specs.declared.Why.{Why}
@@ -51,10 +51,10 @@ refusal-none true bad = refl
 refusal-none false true = refl
 refusal-none false false = refl
 
-pub taken-is : (client : ℕ) (batch : List ℕ) → taken client (length batch) ≡ eqb (refusal (record { client = client; batch = batch })) 0
+pub taken-is : (client : ℕ) (batch : List ℕ) → taken client (length batch) ≡ eqb (recordRefusal (record { client = client; batch = batch })) 0
 taken-is client batch = refusal-none (ltb 3 client) (badLength setup (length batch))
 
-pub taken-facts : (client : ℕ) (batch : List ℕ) → eqb (refusal (record { client = client; batch = batch })) 0 ≡ true → (client ≤ 3) × (0 < length batch)
+pub taken-facts : (client : ℕ) (batch : List ℕ) → eqb (recordRefusal (record { client = client; batch = batch })) 0 ≡ true → (client ≤ 3) × (0 < length batch)
 taken-facts client batch e =
     let size : ℕ = length batch in
     let bad : Bool = eqb size 0 || not (eqb (size % 4) 0) || ltb 32768 size in
@@ -76,16 +76,16 @@ module _ (q : Question) (f : Finding) (entry : Entry) where
   abbrev size : ℕ
   size = length (entry .batch)
 
-  pub after-refused : eqb (refusal entry) 0 ≡ false → record { records = f .records + 1; accepted = f .accepted; touched = f .touched; why = f .why } ≡ findingAfter q f entry
+  pub after-refused : eqb (recordRefusal entry) 0 ≡ false → record { records = f .records + 1; accepted = f .accepted; touched = f .touched; why = f .why } ≡ findingAfter q f entry
   unfolding drawnBy lastFrom
   after-refused none =
       let same : f .accepted + 0 ≡ f .accepted = omega arith in
       rw (none, same)
 
-  pub after-accepted : (bounds : Bounds) (last : Touched) (reason : Why) → eqb (refusal entry) 0 ≡ true → f .accepted ≤ 1024
-      → bounds ≡ boundsOf (windowOf (entry .client)) 16384
-      → last ≡ lastFrom (f .touched) (q .address) (numbered (f .accepted) 0 (tasksDrawn (readBatch bounds resetBank (batchWords (entry .batch) 0 size))))
-      → reason ≡ cond (eqb (f .accepted) (q .ticket)) (explained (batchWords (entry .batch) 0 size) (readBatch bounds resetBank (batchWords (entry .batch) 0 size))) (f .why)
+  pub after-accepted : (bounds : Bounds) (last : Touched) (reason : Why) → eqb (recordRefusal entry) 0 ≡ true → f .accepted ≤ 1024
+      → bounds ≡ boundsOf (replayWindow (entry .client)) 16384
+      → last ≡ lastFrom (f .touched) (q .address) (numbered (f .accepted) 0 (tasksDrawn (decodeBatch bounds resetBank (batchWords (entry .batch) 0 size))))
+      → reason ≡ cond (eqb (f .accepted) (q .ticket)) (explained (batchWords (entry .batch) 0 size) (decodeBatch bounds resetBank (batchWords (entry .batch) 0 size))) (f .why)
       → record { records = f .records + 1; accepted = f .accepted + 1; touched = last; why = reason } ≡ findingAfter q f entry
   unfolding drawnBy
   after-accepted bounds last reason took few bounds-is last-is reason-is =
@@ -150,7 +150,7 @@ module _ (q : Question) where
       where
         go : (b : Bool) → let g : Finding = cond b f (findingAfter q f entry) in g .accepted ≤ g .records
         go true = counts
-        go false = count-most (eqb (refusal entry) 0) (f .accepted) (f .records) counts
+        go false = count-most (eqb (recordRefusal entry) 0) (f .accepted) (f .records) counts
 
     next-answers : (entry : Entry) (entries : List Entry) → answersOf q (findingFrom q f (entry ∷ entries)) ≡ answersOf q (findingFrom q (findingNext q f entry) entries)
     unfolding findingFrom

@@ -11,7 +11,7 @@ use Rattle.records.specs.Records.{Entry, records}
 use Rattle.records.specs.declared.Found.{Found}
 use Rattle.records.specs.declared.Found.the-variants.{Nothing, Record, BadVersion, BadRecord}
 use Rattle.records.specs.Reading.{fileAt, entryIn, Ready}
-use Rattle.replay.specs.Answered.{refusal, ticketAfter, countAfter}
+use Rattle.replay.specs.Answered.{recordRefusal, ticketOfCount, countAfter}
 use Rattle.provenance.specs.declared.Touched.the-variants.{NotDrawn}
 use Rattle.provenance.specs.declared.Why.the-variants.{NoFault}
 use Rattle.provenance.specs.Drawn.{readingOf, drawnBy}
@@ -35,7 +35,7 @@ findingAfter q f entry = record {
   records = f .records + 1;
   accepted = countAfter (f .accepted) entry;
   touched = lastFrom (f .touched) (q .address) (drawnBy (f .accepted) entry);
-  why = cond (eqb (refusal entry) 0 && eqb (ticketAfter (f .accepted)) (q .ticket)) (explained (words (entry .batch)) (readingOf entry)) (f .why);
+  why = cond (eqb (recordRefusal entry) 0 && eqb (ticketOfCount (f .accepted)) (q .ticket)) (explained (words (entry .batch)) (readingOf entry)) (f .why);
 }
 
 unfoldable pub findingFrom : Question → Finding → List Entry → Finding

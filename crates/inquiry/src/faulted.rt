@@ -5,7 +5,7 @@ ghost use Prim.Native.Nat.{_+_, _*_, _≤_};
 ghost use lib.ListN.{getD};
 ghost use Rattle.ring.specs.Segment.{batchWords};
 ghost use Rattle.register.specs.Bank.{resetBank};
-ghost use Rattle.batch.specs.Batch.{readBatch};
+ghost use Rattle.batch.specs.Batch.{decodeBatch};
 ghost use Rattle.provenance.specs.Faulted.{groupAfter, registerAt, heldSurface, heldIn, detailOf, explained};
 use batch::Verdict;
 use batch::judge;
@@ -118,7 +118,7 @@ fn detail_of(fault: Fault, register: u32, bank: Bank) -> Detail
 
 // Why the batch of `size` bytes at an offset of the ring is faulty, if it is.
 pub fn explain(ring: &[u8], offset: usize, size: usize, bounds: Bounds) -> Why
-    ensures { λ r. ⌜ r ≡ explained (batchWords (now (ring .entry)) offset size) (readBatch bounds resetBank (batchWords (now (ring .entry)) offset size)) ⌝ }
+    ensures { λ r. ⌜ r ≡ explained (batchWords (now (ring .entry)) offset size) (decodeBatch bounds resetBank (batchWords (now (ring .entry)) offset size)) ⌝ }
 {
     let judged = judge(ring, offset, size, bounds, Bank::reset());
     let verdict = judged.verdict;

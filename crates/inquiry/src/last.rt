@@ -3,7 +3,7 @@ ghost use mathlib.Core.Path.{_≡_};
 ghost use mathlib.Core.Bool.{cond};
 ghost use Rattle.ring.specs.Segment.{batchWords};
 ghost use Rattle.register.specs.Bank.{resetBank};
-ghost use Rattle.batch.specs.Batch.{readBatch, tasksDrawn};
+ghost use Rattle.batch.specs.Batch.{decodeBatch, tasksDrawn};
 ghost use Rattle.provenance.specs.declared.Touched.the-variants.{By};
 ghost use Rattle.provenance.specs.Drawn.{numbered};
 ghost use Rattle.provenance.specs.Touched.{holds, modeNumber, touchOf, lastFrom};
@@ -66,7 +66,7 @@ pub fn after_batch(
     i: usize,
     found: Touched,
 ) -> Touched
-    ensures { λ r. ⌜ r ≡ lastFrom found i (numbered ticket 0 (tasksDrawn (readBatch bounds resetBank (batchWords (now (ring .entry)) offset size)))) ⌝ }
+    ensures { λ r. ⌜ r ≡ lastFrom found i (numbered ticket 0 (tasksDrawn (decodeBatch bounds resetBank (batchWords (now (ring .entry)) offset size)))) ⌝ }
 {
     let mut current = Bank::reset();
     let mut at = 0;

@@ -8,11 +8,11 @@ ghost use lib.ListN.{length, take};
 ghost use lib.Dec.{eqb, ltb};
 ghost use Rattle.ring.specs.Segment.{batchWords};
 ghost use Rattle.register.specs.Bank.{resetBank};
-ghost use Rattle.batch.specs.Batch.{readBatch};
-ghost use Rattle.claims.specs.Way.{boundsOf};
+ghost use Rattle.batch.specs.Batch.{decodeBatch};
+ghost use Rattle.claims.specs.BatchSemantics.{boundsOf};
 ghost use Rattle.records.specs.Records.{records};
 ghost use Rattle.records.specs.Reading.{Lies};
-ghost use Rattle.replay.specs.Answered.{refusal, windowOf};
+ghost use Rattle.replay.specs.Answered.{recordRefusal, replayWindow};
 ghost use Rattle.provenance.specs.Faulted.{explained};
 ghost use Rattle.inquiry.specs.declared.Question.{Question};
 ghost use Rattle.provenance.specs.Answers.{touchedAnswer, faultAnswer};
@@ -60,7 +60,7 @@ pub struct Fed {
 
 // Whether submit takes a record of this client with this batch.
 fn is_accepted(client: u32, batch: &[u8]) -> bool
-    ensures { λ r. ⌜ r ≡ eqb (refusal (record { client = client; batch = now (batch .entry) })) 0 ⌝ }
+    ensures { λ r. ⌜ r ≡ eqb (recordRefusal (record { client = client; batch = now (batch .entry) })) 0 ⌝ }
 {
     let size = batch.len();
     !(3 < client) & !((size == 0) | !(size % 4 == 0) | (32768 < size))
@@ -69,7 +69,7 @@ fn is_accepted(client: u32, batch: &[u8]) -> bool
 // What a client may touch.
 fn bounds_of(client: u32) -> Bounds
     requires { ⌜ client ≤ 3 ⌝ }
-    ensures { λ r. ⌜ r ≡ boundsOf (windowOf client) 16384 ⌝ }
+    ensures { λ r. ⌜ r ≡ boundsOf (replayWindow client) 16384 ⌝ }
 {
     Bounds {
         window: Range::new(16384 + client * 12288, 12288),
@@ -79,7 +79,7 @@ fn bounds_of(client: u32) -> Bounds
 
 // Why the batch with the asked ticket faulted, if this is it.
 fn after_why(asked: u32, ticket: u32, batch: &[u8], bounds: Bounds, why: Why) -> Why
-    ensures { λ r. ⌜ r ≡ cond (eqb ticket asked) (explained (batchWords (now (batch .entry)) 0 (length (now (batch .entry)))) (readBatch bounds resetBank (batchWords (now (batch .entry)) 0 (length (now (batch .entry)))))) why ⌝ }
+    ensures { λ r. ⌜ r ≡ cond (eqb ticket asked) (explained (batchWords (now (batch .entry)) 0 (length (now (batch .entry)))) (decodeBatch bounds resetBank (batchWords (now (batch .entry)) 0 (length (now (batch .entry)))))) why ⌝ }
 {
     if ticket == asked {
         faulted::explain(batch, 0, batch.len(), bounds)

@@ -10,12 +10,12 @@ use lib.Dec.{eqb}
 use borrow.Author.Tests.{eq-eqb, ne-eqb}
 use Rattle.model.specs.Windows.{Window, In, byte}
 use Rattle.model.specs.Calls.{Setup, Call, opens, submit, run, pending}
-use Rattle.model.specs.Drawing.{Way, Within, Confined}
-use Rattle.model.specs.State.{Batch, Model, fresh, isOpen, windowOf, nextClient, Owns}
+use Rattle.model.specs.BatchSemantics.{BatchSemantics, WindowInMemory, Confined}
+use Rattle.model.specs.State.{Batch, Model, initialModel, isOpen, windowOf, nextClient, Owns}
 use Rattle.model.specs.Refusals.{refusal}
 use Rattle.model.specs.Model.{Step, openStep, runStep, effect, step, after, executed}
-use Rattle.model.specs.Alone.{own, drawAll}
-use Rattle.model.specs.Claims.{Separate}
+use Rattle.model.specs.ReplayedAlone.{batchesOf, drawBatches}
+use Rattle.model.specs.Properties.{Isolation}
 use Rattle.model.proofs.Tests.{by-eq}
 use Rattle.model.proofs.Refusals.{unless-cases, open-allowed, run-allowed}
 use Rattle.model.proofs.Clients.{none-open, next-closed, stays-open, same-window, old-or-new, not-next}
@@ -23,38 +23,38 @@ use Rattle.model.proofs.Sound.{Named, named-more, named-append, Good, g
 
 -- ---- a client's own batches
 
-pub own-none : (p : ℕ → Bool) (k : ℕ) → p k ≡ false → (log : List Batch) → Named p log → own k log ≡ []
-unfolding own
+pub own-none : (p : ℕ → Bool) (k : ℕ) → p k ≡ false → (log : List Batch) → Named p log → batchesOf k log ≡ []
+unfolding batchesOf
 own-none p k e [] r = refl
 own-none p k e (b ∷ bs) r = rw (ne-eqb (b .client) k (λ q. true≢false (sym (r .0) ∙ ap p q ∙ e))) (own-none p k e bs (r .1))
 
-own-more : (k : ℕ) (log : List Batch) (b : Batch) → b .client ≡ k → own k (log ++ (b ∷ [])) ≡ own k log ++ (b .bytes ∷ [])
-unfolding own
+own-more : (k : ℕ) (log : List Batch) (b : Batch) → b .client ≡ k → batchesOf k (log ++ (b ∷ [])) ≡ batchesOf k log ++ (b .bytes ∷ [])
+unfolding batchesOf
 own-more k [] b e = rw (eq-eqb (b .client) k e)
 own-more k (v ∷ log) b e = rw (own-more k log b e) (go (eqb (v .client) k))
   where
-    go : (t : Bool) → cond t (v .bytes ∷ (own k log ++ (b .bytes ∷ []))) (own k log ++ (b .bytes ∷ [])) ≡ cond t (v .bytes ∷ own k log) (own k log) ++ (b .bytes ∷ [])
+    go : (t : Bool) → cond t (v .bytes ∷ (batchesOf k log ++ (b .bytes ∷ []))) (batchesOf k log ++ (b .bytes ∷ [])) ≡ cond t (v .bytes ∷ batchesOf k log) (batchesOf k log) ++ (b .bytes ∷ [])
     go true = refl
     go false = refl
 
-own-less : (k : ℕ) (log : List Batch) (b : Batch) → ¬ (b .client ≡ k) → own k (log ++ (b ∷ [])) ≡ own k log
-unfolding own
+own-less : (k : ℕ) (log : List Batch) (b : Batch) → ¬ (b .client ≡ k) → batchesOf k (log ++ (b ∷ [])) ≡ batchesOf k log
+unfolding batchesOf
 own-less k [] b e = rw (ne-eqb (b .client) k e)
 own-less k (v ∷ log) b e = rw (own-less k log b e)
 
-module _ (way : Way) (L : Confined way) (common : ℕ) (w : Window) where
-  draw-more : (xs : List (List ℕ)) (x : List ℕ) (m : List ℕ) → drawAll way common w (xs ++ (x ∷ [])) m ≡ way .draw w common x (drawAll way common w xs m)
-  unfolding drawAll
+module _ (way : BatchSemantics) (L : Confined way) (common : ℕ) (w : Window) where
+  draw-more : (xs : List (List ℕ)) (x : List ℕ) (m : List ℕ) → drawBatches way common w (xs ++ (x ∷ [])) m ≡ way .draw w common x (drawBatches way common w xs m)
+  unfolding drawBatches
   draw-more [] x m = refl
   draw-more (y ∷ xs) x m = draw-more xs x (way .draw w common y m)
 
-  draw-sized : (xs : List (List ℕ)) (m : List ℕ) → Within w common m → length (drawAll way common w xs m) ≡ length m
-  unfolding drawAll
+  draw-sized : (xs : List (List ℕ)) (m : List ℕ) → WindowInMemory w common m → length (drawBatches way common w xs m) ≡ length m
+  unfolding drawBatches
   draw-sized [] m h = refl
   draw-sized (x ∷ xs) m h = let s = L w common x .sized m h in draw-sized xs (way .draw w common x m) (h .0, rw s (h .1)) ∙ s
 
-  draw-outside : (xs : List (List ℕ)) (m : List ℕ) → Within w common m → (i : ℕ) → ¬ (In w i) → byte (drawAll way common w xs m) i ≡ byte m i
-  unfolding drawAll
+  draw-outside : (xs : List (List ℕ)) (m : List ℕ) → WindowInMemory w common m → (i : ℕ) → ¬ (In w i) → byte (drawBatches way common w xs m) i ≡ byte m i
+  unfolding drawBatches
   draw-outside [] m h i o = refl
   draw-outside (x ∷ xs) m h i o =
       let s = L w common x .sized m h in
@@ -62,16 +62,16 @@ module _ (way : Way) (L : Confined way) (common : ℕ) (w : Window) where
 
 -- ---- along the list: m₀ the starting memory, log what has been executed
 
-module _ (way : Way) (L : Confined way) (setup : Setup) (ring : ℕ) (m₀ : List ℕ) where
+module _ (way : BatchSemantics) (L : Confined way) (setup : Setup) (ring : ℕ) (m₀ : List ℕ) where
   pub record Kept (log : List Batch) (model : Model) : Type 0 where
-    pub owned : (k i : ℕ) → Owns model k i → byte (model .memory) i ≡ byte (drawAll way (setup .common) (windowOf model k) (own k log) m₀) i
+    pub owned : (k i : ℕ) → Owns model k i → byte (model .memory) i ≡ byte (drawBatches way (setup .common) (windowOf model k) (batchesOf k log) m₀) i
     pub rest : (i : ℕ) → ((k : ℕ) → ¬ (Owns model k i)) → byte (model .memory) i ≡ byte m₀ i
     pub size : length (model .memory) ≡ length m₀
     pub logged : Named (isOpen model) log
 
   -- a new window's bytes were in no window
   kept-open : (log : List Batch) (model : Model) (w : Window) → Sound setup model → Kept log model → refusal setup ring model (opens w) ≡ 0 → Kept log (openStep model w .after)
-  unfolding drawAll
+  unfolding drawBatches
   kept-open log model w S K e =
       let n : ℕ = nextClient model in
       let G : Good setup (openStep model w .after) = good-open setup model w (S .good) (open-allowed setup ring model w e) in
@@ -96,19 +96,19 @@ module _ (way : Way) (L : Confined way) (setup : Setup) (ring : ℕ) (m₀ : Lis
   kept-run log model b bs S K h e =
       let c : ℕ = b .client in
       let v : Window = windowOf model c in
-      let fits : Within v (setup .common) (model .memory) = within setup model S e c h in
-      let fits₀ : Within v (setup .common) m₀ = (fits .0, rw (← K .size) (fits .1)) in
-      let m : List ℕ = drawAll way (setup .common) v (own c log) m₀ in
-      let size : length (model .memory) ≡ length m = K .size ∙ sym (draw-sized way L (setup .common) v (own c log) m₀ fits₀) in
+      let fits : WindowInMemory v (setup .common) (model .memory) = within setup model S e c h in
+      let fits₀ : WindowInMemory v (setup .common) m₀ = (fits .0, rw (← K .size) (fits .1)) in
+      let m : List ℕ = drawBatches way (setup .common) v (batchesOf c log) m₀ in
+      let size : length (model .memory) ≡ length m = K .size ∙ sym (draw-sized way L (setup .common) v (batchesOf c log) m₀ fits₀) in
       let common : (i : ℕ) → i < setup .common → byte (model .memory) i ≡ byte m i = λ i l.
       K .rest i (λ k o. let p = S .good .past k (o .0) in omega arith)
-      ∙ sym (draw-outside way L (setup .common) v (own c log) m₀ fits₀ i (λ o. omega arith))
+      ∙ sym (draw-outside way L (setup .common) v (batchesOf c log) m₀ fits₀ i (λ o. omega arith))
       in
       record {
         owned = λ k i o.
             ⊎-elim
             (λ (q : c ≡ k).
-            rw (own-more k log b q, draw-more way L (setup .common) (windowOf model k) (own k log) (b .bytes) m₀, ← q)
+            rw (own-more k log b q, draw-more way L (setup .common) (windowOf model k) (batchesOf k log) (b .bytes) m₀, ← q)
             (L v (setup .common) (b .bytes) .inside (model .memory) m fits (record { size = size; window = λ j p. K .owned c j (h, p); shared = common }) i (rw (← q) at (o .1))))
             (λ (q : ¬ (c ≡ k)).
             rw (own-less k log b q)
@@ -148,13 +148,13 @@ module _ (way : Way) (L : Confined way) (setup : Setup) (ring : ℕ) (m₀ : Lis
       rw (← append-assoc log (s .executed) (executed way setup ring cs (s .after)))
       (all-kept cs (log ++ s .executed) (s .after) (step-sound way setup ring c model S) (step-kept log c model S K))
 
-  fresh-kept : Kept [] (fresh m₀)
+  fresh-kept : Kept [] (initialModel m₀)
   fresh-kept = record { size = refl; logged = tt; owned = λ k i o. absurd (none-open m₀ k (o .0)); rest = λ i f. refl }
 
-  pub separate : (cs : List Call) → Separate way setup ring cs m₀
+  pub separate : (cs : List Call) → Isolation way setup ring cs m₀
   separate cs =
-      let K = all-kept cs [] (fresh m₀) (fresh-sound setup m₀) fresh-kept in
-      let G = after-sound way setup ring cs (fresh m₀) (fresh-sound setup m₀) .good in
+      let K = all-kept cs [] (initialModel m₀) (fresh-sound setup m₀) fresh-kept in
+      let G = after-sound way setup ring cs (initialModel m₀) (fresh-sound setup m₀) .good in
       record {
         window = K .owned;
         no-window = K .rest;

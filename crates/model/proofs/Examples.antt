@@ -10,15 +10,15 @@ use lib.Dec.{ltb}
 use borrow.Author.Tests.{ne-eqb}
 use borrow.Rule.Slice.PartMut.{midOf, putMid}
 use Rattle.model.specs.Windows.{window, byte, overlapAny}
-use Rattle.model.specs.Calls.{Setup, Call, opens, submit, run, pending, Verdict, opened, accepted, completed, ready, refused}
-use Rattle.model.specs.Drawing.{Way, Confined}
-use Rattle.model.specs.State.{Model, fresh, Owns, totalBytes, countOf}
-use Rattle.model.specs.Refusals.{table, firstOf}
-use Rattle.model.specs.Model.{unless, effect, answers, after, executed, end}
-use Rattle.model.specs.Alone.{own, drawAll, replayedAlone}
+use Rattle.model.specs.Calls.{Setup, Call, opens, submit, run, pending, CompletionStatus, opened, accepted, completed, ready, refused}
+use Rattle.model.specs.BatchSemantics.{BatchSemantics, Confined}
+use Rattle.model.specs.State.{Model, initialModel, Owns, totalBytes, countOf}
+use Rattle.model.specs.Refusals.{refusalTable, firstHolding}
+use Rattle.model.specs.Model.{refuseOr, effect, answers, after, executed, modelAfterAll}
+use Rattle.model.specs.ReplayedAlone.{batchesOf, drawBatches, replayedAlone}
 use Rattle.model.specs.Order.{SameSequences, submitted, SameOutcome}
-use Rattle.model.specs.TwoRuns.{none, more, same, rewritten, Twins}
-use Rattle.model.specs.Claims.{Unmoved}
+use Rattle.model.specs.Noninterference.{none, more, same, rewritten, LowEquivalent}
+use Rattle.model.specs.Properties.{Noninterference}
 use Rattle.model.proofs.Locality.{local-if, local-window}
 use Rattle.model.proofs.Theorems.{claims}
 
@@ -27,16 +27,16 @@ use Rattle.model.proofs.Theorems.{claims}
 abbrev faultless : List ℕ → Bool
 faultless bytes = ltb 0 (getD bytes 0 0)
 
-abbrev good : Verdict
+abbrev good : CompletionStatus
 good = record { status = 0x00010001; fault = 0; offset = 0 }
 
-abbrev bad : Verdict
+abbrev bad : CompletionStatus
 bad = record { status = 0x00000002; fault = 23; offset = 4 }
 
 abbrev sum : List ℕ → List ℕ → List ℕ → List ℕ
 sum bytes common window = set window 0 ((getD bytes 0 0 + getD common 0 0 + getD window 0 0) % 256)
 
-abbrev toy : Way
+abbrev toy : BatchSemantics
 toy = record {
   verdict = λ w common bytes. cond (faultless bytes) good bad;
   draw = λ w common bytes m. cond (faultless bytes) (putMid (w .start) (w .length) m (sum bytes (take common m) (midOf (w .start) (w .length) m))) m;
@@ -67,11 +67,11 @@ openings =
     opens (window 16 8) ∷ opens (window 24 8) ∷ opens (window 32 8) ∷ opens (window 8 0) ∷ []
 
 -- 9 nothing ready; 5 before 6; 4 empty, past the end, in common, in a window; the last window ends with memory; 3 before 4
-opened-so : answers toy setup 128 openings (fresh memory) ≡
+opened-so : answers toy setup 128 openings (initialModel memory) ≡
     refused 9 ∷ refused 5 ∷ refused 5 ∷
     refused 4 ∷ refused 4 ∷ refused 4 ∷ opened 0 ∷ refused 4 ∷
     opened 1 ∷ opened 2 ∷ opened 3 ∷ refused 3 ∷ []
-unfolding answers unless effect table firstOf overlapAny totalBytes countOf
+unfolding answers refuseOr effect refusalTable firstHolding overlapAny totalBytes countOf
 opened-so = refl
 
 abbrev batches : List Call
@@ -86,7 +86,7 @@ batches =
 
 -- 5 before 6; 6 for 0, 3 and 132 bytes; one batch fills the ring; 6 before 8; 8; eight wait and fill the ring: 5 before 7, 6 before 7, 7 before 8;
 -- 8 with a slot free, and the same bytes that are left fit; a faulty batch; 9 at the end; 5 for pending
-submitted-so : answers toy setup 128 batches (end toy setup 128 openings memory) ≡
+submitted-so : answers toy setup 128 batches (modelAfterAll toy setup 128 openings memory) ≡
     refused 5 ∷ refused 6 ∷ refused 6 ∷ refused 6 ∷
     accepted 0 ∷ refused 6 ∷ refused 8 ∷ ready 1 ∷ completed 0 0 good ∷ ready 0 ∷
     accepted 1 ∷ accepted 2 ∷ accepted 3 ∷ accepted 4 ∷
@@ -94,16 +94,16 @@ submitted-so : answers toy setup 128 batches (end toy setup 128 openings memory)
     refused 5 ∷ refused 6 ∷ refused 7 ∷ ready 2 ∷
     completed 0 1 good ∷ refused 8 ∷ accepted 9 ∷
     completed 1 2 good ∷ completed 2 3 good ∷ completed 3 4 good ∷ completed 0 5 good ∷ completed 1 6 bad ∷ completed 2 7 good ∷ completed 3 8 good ∷ completed 2 9 good ∷ refused 9 ∷ refused 5 ∷ []
-unfolding answers after unless effect table firstOf overlapAny totalBytes countOf
+unfolding answers after refuseOr effect refusalTable firstHolding overlapAny totalBytes countOf
 submitted-so = refl
 
-drawn-so : end toy setup 128 (openings ++ batches) memory .memory ≡ eight 100 ++ eight 58 ++ eight 104 ++ eight 66 ++ eight 216
-unfolding after unless effect table firstOf overlapAny totalBytes countOf
+drawn-so : modelAfterAll toy setup 128 (openings ++ batches) memory .memory ≡ eight 100 ++ eight 58 ++ eight 104 ++ eight 66 ++ eight 216
+unfolding after refuseOr effect refusalTable firstHolding overlapAny totalBytes countOf
 drawn-so = refl
 
 -- client 1 replayed alone: its window as above, the others' as at the start
 alone-so : replayedAlone toy setup 128 1 (openings ++ batches) memory ≡ eight 100 ++ eight 1 ++ eight 104 ++ eight 3 ++ eight 4
-unfolding after executed unless effect table firstOf overlapAny totalBytes countOf own drawAll
+unfolding after executed refuseOr effect refusalTable firstHolding overlapAny totalBytes countOf batchesOf drawBatches
 alone-so = refl
 
 -- ---- 10: a lent ring or memory of another length, before all else
@@ -111,12 +111,12 @@ alone-so = refl
 abbrev few : List Call
 few = submit 0 (1 ∷ []) ∷ run ∷ opens (window 8 8) ∷ submit 0 (replicate 4 7) ∷ run ∷ pending 0 ∷ pending 1 ∷ []
 
-ring-so : answers toy setup 127 few (fresh memory) ≡ refused 10 ∷ refused 10 ∷ opened 0 ∷ refused 10 ∷ refused 10 ∷ ready 0 ∷ refused 5 ∷ []
-unfolding answers unless effect table firstOf overlapAny totalBytes countOf
+ring-so : answers toy setup 127 few (initialModel memory) ≡ refused 10 ∷ refused 10 ∷ opened 0 ∷ refused 10 ∷ refused 10 ∷ ready 0 ∷ refused 5 ∷ []
+unfolding answers refuseOr effect refusalTable firstHolding overlapAny totalBytes countOf
 ring-so = refl
 
-memory-so : answers toy setup 128 few (fresh (memory ++ (0 ∷ []))) ≡ refused 5 ∷ refused 10 ∷ opened 0 ∷ accepted 0 ∷ refused 10 ∷ ready 1 ∷ refused 5 ∷ []
-unfolding answers unless effect table firstOf overlapAny totalBytes countOf
+memory-so : answers toy setup 128 few (initialModel (memory ++ (0 ∷ []))) ≡ refused 5 ∷ refused 10 ∷ opened 0 ∷ accepted 0 ∷ refused 10 ∷ ready 1 ∷ refused 5 ∷ []
+unfolding answers refuseOr effect refusalTable firstHolding overlapAny totalBytes countOf
 memory-so = refl
 
 -- ---- tickets go on from 4,294,967,295 to 0
@@ -126,7 +126,7 @@ late = record { windows = window 8 8 ∷ []; waiting = []; accepted = 4294967295
 
 wraps-so : answers toy setup 128 (submit 0 (replicate 4 7) ∷ submit 0 (replicate 4 8) ∷ run ∷ run ∷ []) late ≡
     accepted 4294967295 ∷ accepted 0 ∷ completed 0 4294967295 good ∷ completed 0 0 good ∷ []
-unfolding answers unless effect table firstOf overlapAny totalBytes countOf
+unfolding answers refuseOr effect refusalTable firstHolding overlapAny totalBytes countOf
 wraps-so = refl
 
 -- ---- two runs: other batches of client 0's, a refused one too, and another byte in the window that it opens
@@ -137,8 +137,8 @@ few′ = submit 0 (2 ∷ []) ∷ run ∷ opens (window 8 8) ∷ submit 0 (replic
 abbrev memory′ : List ℕ
 memory′ = eight 100 ++ eight 50 ++ eight 2 ++ eight 3 ++ eight 4
 
-other-bytes : (i : ℕ) → ¬ (Owns (end toy setup 128 few memory) 0 i) → byte memory i ≡ byte memory′ i
-unfolding after unless effect table firstOf overlapAny totalBytes countOf
+other-bytes : (i : ℕ) → ¬ (Owns (modelAfterAll toy setup 128 few memory) 0 i) → byte memory i ≡ byte memory′ i
+unfolding after refuseOr effect refusalTable firstHolding overlapAny totalBytes countOf
 other-bytes zero n = refl
 other-bytes (suc zero) n = refl
 other-bytes (suc (suc zero)) n = refl
@@ -150,7 +150,7 @@ other-bytes (suc (suc (suc (suc (suc (suc (suc zero))))))) n = refl
 other-bytes (suc (suc (suc (suc (suc (suc (suc (suc zero)))))))) n = absurd (n (refl, (omega arith, omega arith)))
 other-bytes (suc (suc (suc (suc (suc (suc (suc (suc (suc i))))))))) n = refl
 
-twins : Twins toy setup 128 0 few few′ memory memory′
+twins : LowEquivalent toy setup 128 0 few few′ memory memory′
 twins = record {
   listed =
       more (rewritten (1 ∷ []) (2 ∷ []) refl) (more (same _) (more (same _) (more (rewritten (replicate 4 7) (replicate 4 0) refl) (more (same _) (more (same _) (more (same _) none))))));
@@ -158,7 +158,7 @@ twins = record {
   bytes = other-bytes;
 }
 
-unmoved-so : Unmoved toy setup 128 0 few few′ memory memory′
+unmoved-so : Noninterference toy setup 128 0 few few′ memory memory′
 unmoved-so = claims toy setup 128 .unmoved toy-confined 0 few few′ memory memory′ twins
 
 -- ---- order: two clients' batches in two orders, and past an opening
@@ -170,33 +170,33 @@ abbrev turned : List Call
 turned = opens (window 8 8) ∷ opens (window 16 8) ∷ submit 1 (5 ∷ 6 ∷ 7 ∷ 8 ∷ []) ∷ submit 0 (replicate 4 7) ∷ run ∷ submit 0 (replicate 4 0) ∷ run ∷ run ∷ run ∷ []
 
 -- tickets differ
-early-so : answers toy setup 128 early (fresh memory) ≡
+early-so : answers toy setup 128 early (initialModel memory) ≡
     opened 0 ∷ accepted 0 ∷ completed 0 0 good ∷ opened 1 ∷ accepted 1 ∷ accepted 2 ∷ completed 0 1 bad ∷ ready 0 ∷ completed 1 2 good ∷ []
-unfolding answers unless effect table firstOf overlapAny totalBytes countOf
+unfolding answers refuseOr effect refusalTable firstHolding overlapAny totalBytes countOf
 early-so = refl
 
-turned-so : answers toy setup 128 turned (fresh memory) ≡
+turned-so : answers toy setup 128 turned (initialModel memory) ≡
     opened 0 ∷ opened 1 ∷ accepted 0 ∷ accepted 1 ∷ completed 1 0 good ∷ accepted 2 ∷ completed 0 1 good ∷ completed 0 2 bad ∷ refused 9 ∷ []
-unfolding answers unless effect table firstOf overlapAny totalBytes countOf
+unfolding answers refuseOr effect refusalTable firstHolding overlapAny totalBytes countOf
 turned-so = refl
 
-kept-so : SameSequences (submitted toy setup 128 early (fresh memory)) (submitted toy setup 128 turned (fresh memory))
-unfolding submitted own unless effect table firstOf overlapAny totalBytes countOf
+kept-so : SameSequences (submitted toy setup 128 early (initialModel memory)) (submitted toy setup 128 turned (initialModel memory))
+unfolding submitted batchesOf refuseOr effect refusalTable firstHolding overlapAny totalBytes countOf
 kept-so zero = refl
 kept-so (suc zero) = refl
 kept-so (suc (suc client)) = rw (ne-eqb 0 (suc (suc client)) (λ e. omega arith), ne-eqb 1 (suc (suc client)) (λ e. omega arith))
 
-same-so : SameOutcome toy setup 128 early turned (fresh memory) (fresh memory)
-unfolding after unless effect table firstOf overlapAny totalBytes countOf
+same-so : SameOutcome toy setup 128 early turned (initialModel memory) (initialModel memory)
+unfolding after refuseOr effect refusalTable firstHolding overlapAny totalBytes countOf
 same-so = claims toy setup 128 .any-submissions toy-confined early turned memory refl refl refl kept-so
 
-early-drawn : end toy setup 128 early memory .memory ≡ eight 100 ++ eight 108 ++ eight 107 ++ eight 3 ++ eight 4
-unfolding after unless effect table firstOf overlapAny totalBytes countOf
+early-drawn : modelAfterAll toy setup 128 early memory .memory ≡ eight 100 ++ eight 108 ++ eight 107 ++ eight 3 ++ eight 4
+unfolding after refuseOr effect refusalTable firstHolding overlapAny totalBytes countOf
 early-drawn = refl
 
 -- ---- and each premise is needed. Another way: the window's first byte is the last batch's first
 
-abbrev stamp : Way
+abbrev stamp : BatchSemantics
 stamp = record {
   verdict = λ w common bytes. good;
   draw = λ w common bytes m. putMid (w .start) (w .length) m (set (midOf (w .start) (w .length) m) 0 (getD bytes 0 0));
@@ -213,11 +213,11 @@ abbrev stamped : ℕ → List ℕ
 stamped x = eight 100 ++ eight x ++ eight 2 ++ eight 3 ++ eight 4
 
 -- a client's own batches change places, or are as many and as long but of other bytes: another memory
-own-so : (end stamp setup 128 (twice 7 9 (run ∷ run ∷ [])) memory .memory ≡ stamped 9) × (end stamp setup 128 (twice 9 7 (run ∷ run ∷ [])) memory .memory ≡ stamped 7)
-unfolding after unless effect table firstOf overlapAny totalBytes countOf
+own-so : (modelAfterAll stamp setup 128 (twice 7 9 (run ∷ run ∷ [])) memory .memory ≡ stamped 9) × (modelAfterAll stamp setup 128 (twice 9 7 (run ∷ run ∷ [])) memory .memory ≡ stamped 7)
+unfolding after refuseOr effect refusalTable firstHolding overlapAny totalBytes countOf
 own-so = (refl, refl)
 
 -- the same batches, but one is left waiting: another memory
-left-so : end stamp setup 128 (twice 7 9 (run ∷ [])) memory .memory ≡ stamped 7
-unfolding after unless effect table firstOf overlapAny totalBytes countOf
+left-so : modelAfterAll stamp setup 128 (twice 7 9 (run ∷ [])) memory .memory ≡ stamped 7
+unfolding after refuseOr effect refusalTable firstHolding overlapAny totalBytes countOf
 left-so = refl

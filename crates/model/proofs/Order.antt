@@ -11,13 +11,13 @@ use lib.ListN.{length, drop, getD}
 use lib.Seq.{ext-getD, drop-length, drop-append-seam}
 use borrow.Author.Tests.{eq-eqb, ne-eqb, ltb-true, lt-ltb}
 use Rattle.model.specs.Windows.{Window, window, In, byte}
-use Rattle.model.specs.Calls.{Setup, Call, opens, submit, run, pending, Verdict, Answer, opened, accepted, completed, ready, refused}
-use Rattle.model.specs.Drawing.{Way, Confined}
-use Rattle.model.specs.State.{Batch, batch, Model, fresh, isOpen, windowOf, Owns}
-use Rattle.model.specs.Refusals.{refusal, table, firstOf}
-use Rattle.model.specs.Model.{Step, refuse, unless, openStep, submitStep, runStep, effect, step, answers, after, executed, end}
-use Rattle.model.specs.Claims.{Exchange, AnyOrder, AnySubmissions, ReorderedByHand}
-use Rattle.model.specs.Alone.{own, drawAll}
+use Rattle.model.specs.Calls.{Setup, Call, opens, submit, run, pending, CompletionStatus, Answer, opened, accepted, completed, ready, refused}
+use Rattle.model.specs.BatchSemantics.{BatchSemantics, Confined}
+use Rattle.model.specs.State.{Batch, batch, Model, initialModel, isOpen, windowOf, Owns}
+use Rattle.model.specs.Refusals.{refusal, refusalTable, firstHolding}
+use Rattle.model.specs.Model.{Step, refuse, refuseOr, openStep, submitStep, runStep, effect, step, answers, after, executed, modelAfterAll}
+use Rattle.model.specs.Properties.{Exchange, AnyOrder, AnySubmissions, ReorderedByHand}
+use Rattle.model.specs.ReplayedAlone.{batchesOf, drawBatches}
 use Rattle.model.specs.Order.{SameSequences, verdictsOf, submitted, SameOutcome, Exchanged, ByHand, Lent, runEach, withWaiting}
 use Rattle.model.proofs.Tests.{by-eq, by-in}
 use Rattle.model.proofs.Refusals.{unless-cases}
@@ -50,13 +50,13 @@ Plain (completed k t v) = ⊥
 Plain (ready n) = Unit {0}
 Plain (refused n) = Unit {0}
 
-record Cases (way : Way) (setup : Setup) (model : Model) (P : Step → Type 0) : Type 0 where
+record Cases (way : BatchSemantics) (setup : Setup) (model : Model) (P : Step → Type 0) : Type 0 where
   still : (a : Answer) → Plain a → P (record { answer = a; after = model; executed = [] })
   entering : (k : ℕ) (x : List ℕ) → P (submitStep model k x)
   opening : (w : Window) → P (openStep model w)
   running : (b : Batch) (rest : List Batch) → model .waiting ≡ b ∷ rest → P (runStep way (setup .common) model (b ∷ rest))
 
-step-cases : (way : Way) (setup : Setup) (ring : ℕ) (model : Model) (P : Step → Type 0) (c : Call) → Cases way setup model P → P (step way setup ring c model)
+step-cases : (way : BatchSemantics) (setup : Setup) (ring : ℕ) (model : Model) (P : Step → Type 0) (c : Call) → Cases way setup model P → P (step way setup ring c model)
 unfolding effect
 step-cases way setup ring model P (opens w) C = unless-cases P (refusal setup ring model (opens w)) model _ (λ e. C .opening w) (λ k. C .still (refused k) tt)
 step-cases way setup ring model P (submit k x) C = unless-cases P (refusal setup ring model (submit k x)) model _ (λ e. C .entering k x) (λ k. C .still (refused k) tt)
@@ -77,16 +77,16 @@ plain-told k (refused n) rest p = refl
 
 -- ---- a client's verdicts, by its window and its own batches
 
-module _ (way : Way) (setup : Setup) (ring : ℕ) where
-  abbrev judged : Window → List (List ℕ) → List Verdict
+module _ (way : BatchSemantics) (setup : Setup) (ring : ℕ) where
+  abbrev judged : Window → List (List ℕ) → List CompletionStatus
   judged v xs = map (way .verdict v (setup .common)) xs
 
   abbrev Tells : ℕ → Window → Model → Step → Type 0
-  Tells k v model s = (rest : List Answer) (log : List Batch) → (isOpen model k ≡ true → v ≡ windowOf model k) → Named (isOpen model) (model .waiting) → verdictsOf k rest ≡ judged v (own k log) →
-      verdictsOf k (s .answer ∷ rest) ≡ judged v (own k (s .executed ++ log))
+  Tells k v model s = (rest : List Answer) (log : List Batch) → (isOpen model k ≡ true → v ≡ windowOf model k) → Named (isOpen model) (model .waiting) → verdictsOf k rest ≡ judged v (batchesOf k log) →
+      verdictsOf k (s .answer ∷ rest) ≡ judged v (batchesOf k (s .executed ++ log))
 
   tells : (k : ℕ) (v : Window) (c : Call) (model : Model) → Tells k v model (step way setup ring c model)
-  unfolding verdictsOf own
+  unfolding verdictsOf batchesOf
   tells k v c model = step-cases way setup ring model (Tells k v model) c (record {
     still = λ a p rest log _ _ e. plain-told k a rest p ∙ e;
     entering = λ d x rest log _ _ e. e;
@@ -99,8 +99,8 @@ module _ (way : Way) (setup : Setup) (ring : ℕ) where
         (by-eq (b .client) k);
   })
 
-  told : (k : ℕ) (cs : List Call) (model : Model) → Sound setup model → verdictsOf k (answers way setup ring cs model) ≡ judged (windowOf (after way setup ring cs model) k) (own k (executed way setup ring cs model))
-  unfolding answers after executed verdictsOf own
+  told : (k : ℕ) (cs : List Call) (model : Model) → Sound setup model → verdictsOf k (answers way setup ring cs model) ≡ judged (windowOf (after way setup ring cs model) k) (batchesOf k (executed way setup ring cs model))
+  unfolding answers after executed verdictsOf batchesOf
   told k [] model S = refl
   told k (c ∷ cs) model S =
       let s : Step = step way setup ring c model in
@@ -108,11 +108,11 @@ module _ (way : Way) (setup : Setup) (ring : ℕ) where
 
 -- ---- two orders
 
-module _ (way : Way) (L : Confined way) (setup : Setup) (ring : ℕ) where
+module _ (way : BatchSemantics) (L : Confined way) (setup : Setup) (ring : ℕ) where
   same-outcome : (cs cs′ : List Call) (model model′ : Model) → Sound setup model → Sound setup model′ → model .memory ≡ model′ .memory →
       after way setup ring cs model .windows ≡ after way setup ring cs′ model′ .windows → SameSequences (executed way setup ring cs model) (executed way setup ring cs′ model′) →
       SameOutcome way setup ring cs cs′ model model′
-  unfolding own drawAll
+  unfolding batchesOf drawBatches
   same-outcome cs cs′ model model′ S S′ m w q =
       let A : Model = after way setup ring cs model in
       let A′ : Model = after way setup ring cs′ model′ in
@@ -125,7 +125,7 @@ module _ (way : Way) (L : Confined way) (setup : Setup) (ring : ℕ) where
             let k : ℕ = h .0 in
             let o : Owns A k i = (lt-ltb _ _ (h .1 .0), h .1 .1) in
             K .owned k i o
-            ∙ ap₂ (λ (v : Window) (xs : List (List ℕ)). byte (drawAll way (setup .common) v xs (model .memory)) i) (ap (λ (ws : List Window). getD ws k (window 0 0)) w) (q k)
+            ∙ ap₂ (λ (v : Window) (xs : List (List ℕ)). byte (drawBatches way (setup .common) v xs (model .memory)) i) (ap (λ (ws : List Window). getD ws k (window 0 0)) w) (q k)
             ∙ sym (K′ .owned k i (rw (← w) o)))
             (λ (n : (k : ℕ) → ¬ (Holds (A .windows) k i)).
             let f : (k : ℕ) → ¬ (Owns A k i) = λ k o. n k (ltb-true _ _ (o .0), o .1) in
@@ -138,7 +138,7 @@ module _ (way : Way) (L : Confined way) (setup : Setup) (ring : ℕ) where
       }
 
   pub any-order : (cs cs′ : List Call) (memory : List ℕ) → AnyOrder way setup ring cs cs′ memory
-  any-order cs cs′ memory = same-outcome cs cs′ (fresh memory) (fresh memory) (fresh-sound setup memory) (fresh-sound setup memory) refl
+  any-order cs cs′ memory = same-outcome cs cs′ (initialModel memory) (initialModel memory) (fresh-sound setup memory) (fresh-sound setup memory) refl
 
 -- ---- what waits and then what is accepted is what is executed and then what waits
 
@@ -146,7 +146,7 @@ drop-more : (bs : List Batch) → drop (suc (length bs)) bs ≡ []
 drop-more [] = refl
 drop-more (b ∷ bs) = drop-more bs
 
-module _ (way : Way) (setup : Setup) (ring : ℕ) where
+module _ (way : BatchSemantics) (setup : Setup) (ring : ℕ) where
   abbrev Passes : Model → Step → Type 0
   Passes model s = (es fs : List Batch) → s .after .waiting ++ es ≡ fs → model .waiting ++ (drop (length (model .waiting)) (s .after .waiting) ++ es) ≡ s .executed ++ fs
 
@@ -165,20 +165,20 @@ module _ (way : Way) (setup : Setup) (ring : ℕ) where
       let s : Step = step way setup ring c model in
       passes c model _ _ (in-turn cs (s .after)) ∙ sym (append-assoc (s .executed) (executed way setup ring cs (s .after)) _)
 
-  all-run : (cs : List Call) (memory : List ℕ) → end way setup ring cs memory .waiting ≡ [] → executed way setup ring cs (fresh memory) ≡ submitted way setup ring cs (fresh memory)
-  all-run cs memory e = sym (append-nil _) ∙ ap (λ l. executed way setup ring cs (fresh memory) ++ l) (sym e) ∙ sym (in-turn cs (fresh memory))
+  all-run : (cs : List Call) (memory : List ℕ) → modelAfterAll way setup ring cs memory .waiting ≡ [] → executed way setup ring cs (initialModel memory) ≡ submitted way setup ring cs (initialModel memory)
+  all-run cs memory e = sym (append-nil _) ∙ ap (λ l. executed way setup ring cs (initialModel memory) ++ l) (sym e) ∙ sym (in-turn cs (initialModel memory))
 
-pub any-submissions : (way : Way) (L : Confined way) (setup : Setup) (ring : ℕ) (cs cs′ : List Call) (memory : List ℕ) → AnySubmissions way setup ring cs cs′ memory
+pub any-submissions : (way : BatchSemantics) (L : Confined way) (setup : Setup) (ring : ℕ) (cs cs′ : List Call) (memory : List ℕ) → AnySubmissions way setup ring cs cs′ memory
 any-submissions way L setup ring cs cs′ memory w e e′ q =
-    any-order way L setup ring cs cs′ memory w (λ k. ap (own k) (all-run way setup ring cs memory e) ∙ q k ∙ ap (own k) (sym (all-run way setup ring cs′ memory e′)))
+    any-order way L setup ring cs cs′ memory w (λ k. ap (batchesOf k) (all-run way setup ring cs memory e) ∙ q k ∙ ap (batchesOf k) (sym (all-run way setup ring cs′ memory e′)))
 
 -- ---- the queue, changed by hand
 
 never : {A : Type 0} (x : A) {xs : List A} → x ∷ xs ≡ [] → ⊥
 never x e = let z : _≡_ {A = ℕ} 0 1 = cc in absurd (omega arith)
 
-named-own : (p : ℕ → Bool) (bs : List Batch) → ((k : ℕ) → p k ≡ false → own k bs ≡ []) → Named p bs
-unfolding own
+named-own : (p : ℕ → Bool) (bs : List Batch) → ((k : ℕ) → p k ≡ false → batchesOf k bs ≡ []) → Named p bs
+unfolding batchesOf
 named-own p [] f = tt
 named-own p (b ∷ bs) f = (head (p (b .client)) refl, named-own p bs (λ k e. tail k e))
   where
@@ -186,14 +186,14 @@ named-own p (b ∷ bs) f = (head (p (b .client)) refl, named-own p bs (λ k e. t
     head true e = e
     head false e = absurd (never (b .bytes) (rw (eq-eqb (b .client) (b .client) refl) at (f (b .client) e)))
 
-    tail : (k : ℕ) → p k ≡ false → own k bs ≡ []
+    tail : (k : ℕ) → p k ≡ false → batchesOf k bs ≡ []
     tail k e =
         ⊎-elim
         (λ (z : b .client ≡ k). absurd (never (b .bytes) (rw (eq-eqb (b .client) k z) at (f k e))))
         (λ (n : ¬ (b .client ≡ k)). rw (ne-eqb (b .client) k n) at (f k e))
         (by-eq (b .client) k)
 
-module _ (way : Way) (L : Confined way) (setup : Setup) (ring : ℕ) where
+module _ (way : BatchSemantics) (L : Confined way) (setup : Setup) (ring : ℕ) where
   -- ---- runs, lent as set up: as many batches are taken
 
   abbrev completion : Model → Batch → Answer
@@ -208,7 +208,7 @@ module _ (way : Way) (L : Confined way) (setup : Setup) (ring : ℕ) where
     left : after way setup ring (runEach bs) model ≡ settled model rest (after way setup ring (runEach bs) model .memory)
 
   taken-run : (model : Model) (b : Batch) (bs : List Batch) → Lent setup ring model → model .waiting ≡ b ∷ bs → step way setup ring run model ≡ runStep way (setup .common) model (b ∷ bs)
-  unfolding effect table firstOf unless
+  unfolding effect refusalTable firstHolding refuseOr
   taken-run model b bs l e = (rw (eq-eqb ring (setup .ring) (l .0), eq-eqb (length (model .memory)) (setup .memory) (l .1), e, ne-eqb (length (b ∷ bs)) 0 (λ z. omega arith))) ∙ ap (runStep way (setup .common) model) e
 
   ran : (bs rest : List Batch) (model : Model) → Sound setup model → Lent setup ring model → model .waiting ≡ bs ++ rest → Ran bs rest model
@@ -238,7 +238,7 @@ module _ (way : Way) (L : Confined way) (setup : Setup) (ring : ℕ) where
       (by-eq ring (setup .ring))
 
   refused-run : (model : Model) → ¬ (Lent setup ring model) → step way setup ring run model ≡ refuse 10 model
-  unfolding effect table firstOf unless
+  unfolding effect refusalTable firstHolding refuseOr
   refused-run model n =
       ⊎-elim
       (λ (e : ring ≡ setup .ring). rw (eq-eqb ring (setup .ring) e, ne-eqb (length (model .memory)) (setup .memory) (λ z. n (e, z))))
@@ -248,7 +248,7 @@ module _ (way : Way) (L : Confined way) (setup : Setup) (ring : ℕ) where
   -- ---- the claims
 
   exchanged-own : (a b : Batch) → ¬ (a .client ≡ b .client) → SameSequences (a ∷ b ∷ []) (b ∷ a ∷ [])
-  unfolding own
+  unfolding batchesOf
   exchanged-own a b n k =
       ⊎-elim
       (λ (e : a .client ≡ k). rw (eq-eqb (a .client) k e, ne-eqb (b .client) k (λ z. n (e ∙ sym z))))
@@ -258,7 +258,7 @@ module _ (way : Way) (L : Confined way) (setup : Setup) (ring : ℕ) where
   other-sound : (model : Model) (bs : List Batch) → Sound setup model → SameSequences bs (model .waiting) → Sound setup (withWaiting model bs)
   other-sound model bs S q = record { good = record { past = S .good .past; fits = S .good .fits; apart = S .good .apart }; named = named-own (isOpen model) bs (λ k e. q k ∙ own-none (isOpen model) k e (model .waiting) (S .named)) }
 
-  lent-run : (model : Model) (k t : ℕ) (v : Verdict) (rest : List Answer) → answers way setup ring (run ∷ run ∷ []) model ≡ completed k t v ∷ rest → Lent setup ring model
+  lent-run : (model : Model) (k t : ℕ) (v : CompletionStatus) (rest : List Answer) → answers way setup ring (run ∷ run ∷ []) model ≡ completed k t v ∷ rest → Lent setup ring model
   unfolding answers
   lent-run model k t v rest e =
       ⊎-elim
@@ -266,7 +266,7 @@ module _ (way : Way) (L : Confined way) (setup : Setup) (ring : ℕ) where
       (λ (n : ¬ (Lent setup ring model)). let f = ap (λ (s : Step). s .answer) (refused-run model n) in let z : _≡_ {A = ℕ} 0 1 = cc in absurd (omega arith))
       (by-lent model)
 
-  exchanged : (model : Model) (a b : Batch) (first second : Verdict) (rest : List Batch) → Sound setup model → model .waiting ≡ a ∷ b ∷ rest → ¬ (a .client ≡ b .client) →
+  exchanged : (model : Model) (a b : Batch) (first second : CompletionStatus) (rest : List Batch) → Sound setup model → model .waiting ≡ a ∷ b ∷ rest → ¬ (a .client ≡ b .client) →
       answers way setup ring (run ∷ run ∷ []) model ≡ completed (a .client) (a .ticket) first ∷ completed (b .client) (b .ticket) second ∷ [] → Exchanged way setup ring a b first second rest model
   exchanged model a b first second rest S e n t =
       let l : Lent setup ring model = lent-run model _ _ _ _ t in
@@ -276,7 +276,7 @@ module _ (way : Way) (L : Confined way) (setup : Setup) (ring : ℕ) where
       let r′ = ran (b ∷ a ∷ []) rest other S′ l refl in
       let same = same-outcome way L setup ring (run ∷ run ∷ []) (run ∷ run ∷ []) model other S S′ refl
       (ap (λ (z : Model). z .windows) (r .left) ∙ ap (λ (z : Model). z .windows) (sym (r′ .left)))
-      (λ k. ap (own k) (r .log) ∙ exchanged-own a b n k ∙ ap (own k) (sym (r′ .log))) .memory in
+      (λ k. ap (batchesOf k) (r .log) ∙ exchanged-own a b n k ∙ ap (batchesOf k) (sym (r′ .log))) .memory in
       let v : completion model a ∷ completion model b ∷ [] ≡ completed (a .client) (a .ticket) first ∷ completed (b .client) (b .ticket) second ∷ [] = sym (r .told) ∙ t in
       record { told = r′ .told ∙ cc; left = r′ .left ∙ ap (settled model rest) (sym same) ∙ sym (r .left) }
 
@@ -298,16 +298,16 @@ module _ (way : Way) (L : Confined way) (setup : Setup) (ring : ℕ) where
         outcome = ⊎-elim
             (λ (l : Lent setup ring model). same-outcome way L setup ring (runEach (model .waiting)) (runEach other) model model′ S S′ refl
             (ap (λ (z : Model). z .windows) (r l .left) ∙ ap (λ (z : Model). z .windows) (sym (r′ l .left)))
-            (λ k. ap (own k) (r l .log) ∙ sym (q k) ∙ ap (own k) (sym (r′ l .log))))
+            (λ k. ap (batchesOf k) (r l .log) ∙ sym (q k) ∙ ap (batchesOf k) (sym (r′ l .log))))
             (λ (n : ¬ (Lent setup ring model)). same-outcome way L setup ring (runEach (model .waiting)) (runEach other) model model′ S S′ refl
             (ap (λ (z : Model). z .windows) (none-run (model .waiting) model n .1) ∙ ap (λ (z : Model). z .windows) (sym (none-run other model′ n .1)))
-            (λ k. ap (own k) (none-run (model .waiting) model n .0 ∙ sym (none-run other model′ n .0))))
+            (λ k. ap (batchesOf k) (none-run (model .waiting) model n .0 ∙ sym (none-run other model′ n .0))))
             (by-lent model);
         finished = λ l. (ap (λ (z : Model). z .waiting) (r l .left), ap (λ (z : Model). z .waiting) (r′ l .left));
       }
 
   pub by-hand : (calls : List Call) (memory : List ℕ) → ReorderedByHand way setup ring calls memory
-  by-hand calls memory other = reordered-queue (end way setup ring calls memory) other (after-sound way setup ring calls (fresh memory) (fresh-sound setup memory))
+  by-hand calls memory other = reordered-queue (modelAfterAll way setup ring calls memory) other (after-sound way setup ring calls (initialModel memory) (fresh-sound setup memory))
 
   pub exchange : (calls : List Call) (memory : List ℕ) → Exchange way setup ring calls memory
-  exchange calls memory a b first second rest = exchanged (end way setup ring calls memory) a b first second rest (after-sound way setup ring calls (fresh memory) (fresh-sound setup memory))
+  exchange calls memory a b first second rest = exchanged (modelAfterAll way setup ring calls memory) a b first second rest (after-sound way setup ring calls (initialModel memory) (fresh-sound setup memory))

@@ -7,11 +7,11 @@ use native.Mathlib.Nat.{not-suc-le-zero, le-of-suc-le-suc}
 use lib.ListN.{length, take, length-append}
 use lib.Seq.{take-append-le}
 use Rattle.model.specs.Calls.{Setup, Call, opens, submit, run, pending, Answer, accepted, completions}
-use Rattle.model.specs.Drawing.{Way}
-use Rattle.model.specs.State.{Batch, batch, Model, fresh, totalBytes, takenSlots, takenBytes}
+use Rattle.model.specs.BatchSemantics.{BatchSemantics}
+use Rattle.model.specs.State.{Batch, batch, Model, initialModel, totalBytes, takenSlots, takenBytes}
 use Rattle.model.specs.Refusals.{refusal}
-use Rattle.model.specs.Model.{Step, runStep, effect, step, answers, after, executed, end}
-use Rattle.model.specs.Claims.{Numbered, InOrder, InTime}
+use Rattle.model.specs.Model.{Step, runStep, effect, step, answers, after, executed, modelAfterAll}
+use Rattle.model.specs.Properties.{ConsecutiveTickets, FifoOrder, BoundedWaiting}
 use Rattle.model.proofs.Refusals.{unless-cases, submit-allowed}
 
 -- ---- lists of batches
@@ -21,7 +21,7 @@ unfolding totalBytes
 total-snoc [] b = omega arith
 total-snoc (v ∷ bs) b = rw (total-snoc bs b) (omega arith)
 
-numbered-snoc : (n : ℕ) (bs : List Batch) (b : Batch) → Numbered n bs → b .ticket ≡ (n + length bs) % 4294967296 → Numbered n (bs ++ (b ∷ []))
+numbered-snoc : (n : ℕ) (bs : List Batch) (b : Batch) → ConsecutiveTickets n bs → b .ticket ≡ (n + length bs) % 4294967296 → ConsecutiveTickets n (bs ++ (b ∷ []))
 numbered-snoc n [] b r e = (e ∙ ap (λ (k : ℕ). k % 4294967296) (let z : n + 0 ≡ n = omega arith in z), tt)
 numbered-snoc n (v ∷ bs) b r e =
     (r .0, numbered-snoc (suc n) bs b (r .1) (e ∙ ap (λ (k : ℕ). k % 4294967296) (let z : n + suc (length bs) ≡ suc n + length bs = omega arith in z)))
@@ -31,12 +31,12 @@ mem-take zero bs b rest h = absurd (not-suc-le-zero h)
 mem-take (suc n) [] b rest h = List·Memᴰ·head refl
 mem-take (suc n) (v ∷ bs) b rest h = List·Memᴰ·tail (mem-take n bs b rest (le-of-suc-le-suc h))
 
-module _ (way : Way) (setup : Setup) (ring : ℕ) where
+module _ (way : BatchSemantics) (setup : Setup) (ring : ℕ) where
   -- ---- tickets, slots and room: log is what has been executed
 
   record Kept (log : List Batch) (model : Model) : Type 0 where
     all : length (log ++ model .waiting) ≡ model .accepted
-    tickets : Numbered 0 (log ++ model .waiting)
+    tickets : ConsecutiveTickets 0 (log ++ model .waiting)
     slots : takenSlots model ≤ 8
     room : takenBytes model ≤ setup .ring
 
@@ -70,7 +70,7 @@ module _ (way : Way) (setup : Setup) (ring : ℕ) where
       (λ e. go (model .waiting) (K .all) (K .tickets) (K .slots) (K .room))
       (λ k. unchanged log model K)
     where
-      go : (bs : List Batch) → length (log ++ bs) ≡ model .accepted → Numbered 0 (log ++ bs) → length bs ≤ 8 → totalBytes bs ≤ setup .ring → Goes log (runStep way (setup .common) model bs)
+      go : (bs : List Batch) → length (log ++ bs) ≡ model .accepted → ConsecutiveTickets 0 (log ++ bs) → length bs ≤ 8 → totalBytes bs ≤ setup .ring → Goes log (runStep way (setup .common) model bs)
       go [] all tickets slots room = unchanged log model K
       go (b ∷ bs) all tickets slots room = record {
         all = rw (append-assoc log (b ∷ []) bs) all;
@@ -87,10 +87,10 @@ module _ (way : Way) (setup : Setup) (ring : ℕ) where
       let s : Step = step way setup ring c model in
       rw (← append-assoc log (s .executed) (executed way setup ring cs (s .after))) (all-kept cs (log ++ s .executed) (s .after) (step-kept log c model K))
 
-  pub in-order : (cs : List Call) (memory : List ℕ) → InOrder way setup ring cs memory
+  pub in-order : (cs : List Call) (memory : List ℕ) → FifoOrder way setup ring cs memory
   unfolding totalBytes
   in-order cs memory =
-      let K = all-kept cs [] (fresh memory) (record { all = refl; tickets = tt; slots = omega arith; room = omega arith }) in
+      let K = all-kept cs [] (initialModel memory) (record { all = refl; tickets = tt; slots = omega arith; room = omega arith }) in
       record { all = K .all; tickets = K .tickets; slots = K .slots; room = K .room }
 
   -- ---- what waits is executed first, in order
@@ -163,9 +163,9 @@ module _ (way : Way) (setup : Setup) (ring : ℕ) where
       (λ e a. let q : model .accepted % 4294967296 ≡ t = cc in (rw q, submit-allowed setup ring model k x e .slot))
       (λ n a. let z : _≡_ {A = ℕ} 0 1 = cc in absurd (omega arith))
 
-  pub in-time : (before later : List Call) (memory : List ℕ) → InTime way setup ring before memory later
+  pub in-time : (before later : List Call) (memory : List ℕ) → BoundedWaiting way setup ring before memory later
   in-time before later memory k t x a h =
-      let model : Model = end way setup ring before memory in
+      let model : Model = modelAfterAll way setup ring before memory in
       let s : Step = step way setup ring (submit k x) model in
       let n = entered model k t x a in
       let done : List Batch = executed way setup ring later (s .after) in

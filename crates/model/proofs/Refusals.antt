@@ -11,37 +11,37 @@ use borrow.Author.Tests.{ltb-false, leb-false, eqb-true, eqb-false, not-false}
 use Rattle.model.specs.Windows.{Window, window, overlap, overlapAny}
 use Rattle.model.specs.Calls.{Setup, opens, submit, run, Call, pending, refused}
 use Rattle.model.specs.State.{Model, isOpen, openWindows, takenSlots, takenBytes, Batch}
-use Rattle.model.specs.Refusals.{Row, _when_, table, firstOf, refusal}
-use Rattle.model.specs.Model.{Step, refuse, unless, runStep, effect}
-use Rattle.model.specs.Drawing.{Way}
-use Rattle.model.specs.Claims.{Harmless}
+use Rattle.model.specs.Refusals.{RefusalRow, _when_, refusalTable, firstHolding, refusal}
+use Rattle.model.specs.Model.{Step, refuse, refuseOr, runStep, effect}
+use Rattle.model.specs.BatchSemantics.{BatchSemantics}
+use Rattle.model.specs.Properties.{RefusalNoOp}
 use Rattle.model.proofs.Tests.{by-lt, neither, apart-of}
 
 -- ---- a step that may be refused
 
-pub unless-cases : (P : Step → Type 0) (n : ℕ) (model : Model) (s : Step) → (n ≡ 0 → P s) → ((k : ℕ) → P (refuse k model)) → P (unless n model s)
-unfolding unless
+pub unless-cases : (P : Step → Type 0) (n : ℕ) (model : Model) (s : Step) → (n ≡ 0 → P s) → ((k : ℕ) → P (refuse k model)) → P (refuseOr n model s)
+unfolding refuseOr
 unless-cases P zero model s f g = f refl
 unless-cases P (suc n) model s f g = g (suc n)
 
 -- the same of two steps that are refused alike
 pub unless-both : (Q : Step → Step → Type 0) (n n′ : ℕ) (model model′ : Model) (s s′ : Step) → n ≡ n′ →
-    (n ≡ 0 → Q s s′) → ((k : ℕ) → Q (refuse k model) (refuse k model′)) → Q (unless n model s) (unless n′ model′ s′)
-unfolding unless
+    (n ≡ 0 → Q s s′) → ((k : ℕ) → Q (refuse k model) (refuse k model′)) → Q (refuseOr n model s) (refuseOr n′ model′ s′)
+unfolding refuseOr
 unless-both Q n n′ model model′ s s′ e f g = rw (← e) (go n f)
   where
-    go : (n : ℕ) → (n ≡ 0 → Q s s′) → Q (unless n model s) (unless n model′ s′)
+    go : (n : ℕ) → (n ≡ 0 → Q s s′) → Q (refuseOr n model s) (refuseOr n model′ s′)
     go zero f = f refl
     go (suc n) f = g (suc n)
 
 -- ---- no row applies
 
-abbrev pub Clear : List Row → Type 0
+abbrev pub Clear : List RefusalRow → Type 0
 Clear [] = Unit {0}
 Clear ((n when t) ∷ rows) = 0 < n → (t ≡ false) × Clear rows
 
-pub clear : (rows : List Row) → firstOf rows ≡ 0 → Clear rows
-unfolding firstOf
+pub clear : (rows : List RefusalRow) → firstHolding rows ≡ 0 → Clear rows
+unfolding firstHolding
 clear [] e = tt
 clear ((n when true) ∷ rows) e = λ p. absurd (omega arith)
 clear ((n when false) ∷ rows) e = λ p. (refl, clear rows e)
@@ -53,12 +53,12 @@ pub record OpenAllowed (setup : Setup) (model : Model) (w : Window) : Type 0 whe
   pub apart : overlapAny w (openWindows model) ≡ false
 
 pub open-allowed : (setup : Setup) (ring : ℕ) (model : Model) (w : Window) → refusal setup ring model (opens w) ≡ 0 → OpenAllowed setup model w
-unfolding table
+unfolding refusalTable
 open-allowed setup ring model w e =
     let empty : Bool = eqb (w .length) 0 in
     let ends : Bool = ltb (setup .memory) (w .start + w .length) in
     let common : Bool = overlap w (window 0 (setup .common)) in
-    let x = neither (empty || ends || common) (overlapAny w (openWindows model)) (clear (table setup ring model (opens w)) e (omega arith) .1 (omega arith) .0) in
+    let x = neither (empty || ends || common) (overlapAny w (openWindows model)) (clear (refusalTable setup ring model (opens w)) e (omega arith) .1 (omega arith) .0) in
     let y = neither (empty || ends) common (x .0) in
     let z = neither empty ends (y .0) in
     let n : ¬ (w .length ≡ 0) = eqb-false _ _ (z .0) in
@@ -76,9 +76,9 @@ pub record SubmitAllowed (setup : Setup) (model : Model) (client size : ℕ) : T
   pub room : size ≤ setup .ring - takenBytes model
 
 pub submit-allowed : (setup : Setup) (ring : ℕ) (model : Model) (client : ℕ) (bytes : List ℕ) → refusal setup ring model (submit client bytes) ≡ 0 → SubmitAllowed setup model client (length bytes)
-unfolding table
+unfolding refusalTable
 submit-allowed setup ring model client bytes e =
-    let five = clear (table setup ring model (submit client bytes)) e (omega arith) .1 (omega arith) in
+    let five = clear (refusalTable setup ring model (submit client bytes)) e (omega arith) .1 (omega arith) in
     let seven = five .1 (omega arith) .1 (omega arith) in
     record {
       client-open = not-false _ (five .0);
@@ -87,26 +87,26 @@ submit-allowed setup ring model client bytes e =
     }
 
 pub run-allowed : (setup : Setup) (ring : ℕ) (model : Model) → refusal setup ring model run ≡ 0 → length (model .memory) ≡ setup .memory
-unfolding table
+unfolding refusalTable
 run-allowed setup ring model e =
     let size : Bool = eqb (length (model .memory)) (setup .memory) in
-    eqb-true _ _ (not-false size (neither (not (eqb ring (setup .ring))) (not size) (clear (table setup ring model run) e (omega arith) .0) .1))
+    eqb-true _ _ (not-false size (neither (not (eqb ring (setup .ring))) (not size) (clear (refusalTable setup ring model run) e (omega arith) .0) .1))
 
 -- ---- a refused call
 
-module _ (way : Way) (setup : Setup) (ring : ℕ) where
-  abbrev Numbers : List Row → Type 0
+module _ (way : BatchSemantics) (setup : Setup) (ring : ℕ) where
+  abbrev Numbers : List RefusalRow → Type 0
   Numbers [] = Unit {0}
   Numbers ((n when t) ∷ rows) = (3 ≤ n) × (n ≤ 10) × Numbers rows
 
-  number : (rows : List Row) (n : ℕ) → Numbers rows → firstOf rows ≡ suc n → (3 ≤ suc n) × (suc n ≤ 10)
-  unfolding firstOf
+  number : (rows : List RefusalRow) (n : ℕ) → Numbers rows → firstHolding rows ≡ suc n → (3 ≤ suc n) × (suc n ≤ 10)
+  unfolding firstHolding
   number [] n r e = absurd (omega arith)
   number ((k when true) ∷ rows) n r e = (omega arith, omega arith)
   number ((k when false) ∷ rows) n r e = number rows n (r .2) e
 
-  numbers : (c : Call) (model : Model) → Numbers (table setup ring model c)
-  unfolding table
+  numbers : (c : Call) (model : Model) → Numbers (refusalTable setup ring model c)
+  unfolding refusalTable
   numbers (opens w) model = omega arith
   numbers (submit k x) model = omega arith
   numbers run model = omega arith
@@ -126,10 +126,10 @@ module _ (way : Way) (setup : Setup) (ring : ℕ) where
       go (b ∷ bs) n e = let z : _≡_ {A = ℕ} 0 1 = cc in absurd (omega arith)
   quiet-effect (pending k) model n e = let z : _≡_ {A = ℕ} 0 1 = cc in absurd (omega arith)
 
-  quiet : (n : ℕ) (model : Model) (s : Step) → ((k : ℕ) → n ≡ suc k → (3 ≤ suc k) × (suc k ≤ 10)) → Quiet model s → Quiet model (unless n model s)
-  unfolding unless
+  quiet : (n : ℕ) (model : Model) (s : Step) → ((k : ℕ) → n ≡ suc k → (3 ≤ suc k) × (suc k ≤ 10)) → Quiet model s → Quiet model (refuseOr n model s)
+  unfolding refuseOr
   quiet zero model s r q = q
   quiet (suc k) model s r q = λ n e. let b = r k refl in let f : suc k ≡ n = cc in (refl, refl, omega arith, omega arith)
 
-  pub harmless : (c : Call) (model : Model) → Harmless way setup ring c model
-  harmless c model = quiet (refusal setup ring model c) model (effect way setup ring c model) (λ k e. number (table setup ring model c) k (numbers c model) e) (quiet-effect c model)
+  pub harmless : (c : Call) (model : Model) → RefusalNoOp way setup ring c model
+  harmless c model = quiet (refusal setup ring model c) model (effect way setup ring c model) (λ k e. number (refusalTable setup ring model c) k (numbers c model) e) (quiet-effect c model)

@@ -9,11 +9,11 @@ use native.Mathlib.Omega.{arith}
 use lib.ListN.{length}
 use Rattle.model.specs.Windows.{Window, In}
 use Rattle.model.specs.Calls.{Setup, Call, opens, submit, run, pending, opened}
-use Rattle.model.specs.Drawing.{Way, Within}
-use Rattle.model.specs.State.{Batch, Model, fresh, isOpen, windowOf, nextClient}
+use Rattle.model.specs.BatchSemantics.{BatchSemantics, WindowInMemory}
+use Rattle.model.specs.State.{Batch, Model, initialModel, isOpen, windowOf, nextClient}
 use Rattle.model.specs.Refusals.{refusal}
-use Rattle.model.specs.Model.{Step, end, openStep, runStep, effect, step, after}
-use Rattle.model.specs.Claims.{Holds}
+use Rattle.model.specs.Model.{Step, modelAfterAll, openStep, runStep, effect, step, after}
+use Rattle.model.specs.Properties.{WindowStable}
 use Rattle.model.proofs.Tests.{apart-of}
 use Rattle.model.proofs.Refusals.{unless-cases, OpenAllowed, open-allowed, submit-allowed}
 use Rattle.model.proofs.Clients.{none-open, open-apart, stays-open, same-window, new-open, new-window, old-or-new}
@@ -70,7 +70,7 @@ pub record Sound (setup : Setup) (model : Model) : Type 0 where
   pub good : Good setup model
   pub named : Named (isOpen model) (model .waiting)
 
-pub fresh-sound : (setup : Setup) (memory : List ℕ) → Sound setup (fresh memory)
+pub fresh-sound : (setup : Setup) (memory : List ℕ) → Sound setup (initialModel memory)
 fresh-sound setup memory = record {
   good = record {
     past = λ k h. absurd (none-open memory k h);
@@ -81,14 +81,14 @@ fresh-sound setup memory = record {
 }
 
 -- an open client's window, in a memory of the set-up length
-pub within : (setup : Setup) (model : Model) → Sound setup model → length (model .memory) ≡ setup .memory → (k : ℕ) → isOpen model k ≡ true → Within (windowOf model k) (setup .common) (model .memory)
+pub within : (setup : Setup) (model : Model) → Sound setup model → length (model .memory) ≡ setup .memory → (k : ℕ) → isOpen model k ≡ true → WindowInMemory (windowOf model k) (setup .common) (model .memory)
 within setup model S e k h = (S .good .past k h, rw e (S .good .fits k h))
 
 -- an open client stays open, with the same window
 abbrev pub Stays : Model → Model → Type 0
 Stays model model′ = (k : ℕ) → isOpen model k ≡ true → (isOpen model′ k ≡ true) × (windowOf model′ k ≡ windowOf model k)
 
-module _ (way : Way) (setup : Setup) (ring : ℕ) where
+module _ (way : BatchSemantics) (setup : Setup) (ring : ℕ) where
   pub step-sound : (c : Call) (model : Model) → Sound setup model → Sound setup (step way setup ring c model .after)
   unfolding effect
   step-sound (opens w) model S = unless-cases (λ s. Sound setup (s .after)) (refusal setup ring model (opens w)) model _
@@ -145,9 +145,9 @@ module _ (way : Way) (setup : Setup) (ring : ℕ) where
       (λ e client a. let q : nextClient model ≡ client = cc in (rw (← q) (new-open model w), rw (← q) (new-window model w)))
       (λ n client a. let z : _≡_ {A = ℕ} 0 1 = cc in absurd (omega arith))
 
-  pub holds : (calls later : List Call) (memory : List ℕ) → Holds way setup ring calls memory later
+  pub holds : (calls later : List Call) (memory : List ℕ) → WindowStable way setup ring calls memory later
   holds calls later memory client w a =
-      let model : Model = end way setup ring calls memory in
+      let model : Model = modelAfterAll way setup ring calls memory in
       let o = opening model w client a in
       let s = after-stays later (step way setup ring (opens w) model .after) client (o .0) in
       (s .0, s .1 ∙ o .1)

@@ -7,18 +7,18 @@ use Prim.Native.Nat.{ℕ, suc, _%_, _<_}
 use native.Mathlib.Omega.{arith}
 use lib.ListN.{length}
 use Rattle.model.specs.Windows.{Window, In, byte}
-use Rattle.model.specs.Calls.{Setup, Call, opens, submit, run, pending, Verdict, completed}
-use Rattle.model.specs.Drawing.{Way, Within, Confined}
-use Rattle.model.specs.State.{Batch, Model, fresh, isOpen, windowOf, Owns, totalBytes, countOf}
-use Rattle.model.specs.Refusals.{table, refusal}
+use Rattle.model.specs.Calls.{Setup, Call, opens, submit, run, pending, CompletionStatus, completed}
+use Rattle.model.specs.BatchSemantics.{BatchSemantics, WindowInMemory, Confined}
+use Rattle.model.specs.State.{Batch, Model, initialModel, isOpen, windowOf, Owns, totalBytes, countOf}
+use Rattle.model.specs.Refusals.{refusalTable, refusal}
 use Rattle.model.specs.Model.{Step, refuse, runStep, effect, step, answers, after}
-use Rattle.model.specs.TwoRuns.{Each, none, more, SameCall, same, rewritten, SameAnswer, equal, verdicts, Twins}
-use Rattle.model.specs.Claims.{Unmoved}
+use Rattle.model.specs.Noninterference.{Pointwise, none, more, LowEqualCall, same, rewritten, LowEqualAnswer, equal, verdicts, LowEquivalent}
+use Rattle.model.specs.Properties.{Noninterference}
 use Rattle.model.proofs.Tests.{by-eq, by-in}
 use Rattle.model.proofs.Refusals.{unless-both, run-allowed}
 use Rattle.model.proofs.Sound.{Named, Sound, fresh-sound, within, step-sound, after-sound, after-stays}
 
-each-snoc : {A : Type 0} (R : A → A → Type 0) (xs ys : List A) (x y : A) → Each R xs ys → R x y → Each R (xs ++ (x ∷ [])) (ys ++ (y ∷ []))
+each-snoc : {A : Type 0} (R : A → A → Type 0) (xs ys : List A) (x y : A) → Pointwise R xs ys → R x y → Pointwise R (xs ++ (x ∷ [])) (ys ++ (y ∷ []))
 each-snoc R _ _ x y none r = more r none
 each-snoc R _ _ x y (more {xs = xs} {ys = ys} q qs) r = more q (each-snoc R xs ys x y qs r)
 
@@ -31,31 +31,31 @@ module _ (d : ℕ) where
     size : length (v .bytes) ≡ length (w .bytes)
     bytes : ¬ (v .client ≡ d) → v .bytes ≡ w .bytes
 
-  same-length : {vs ws : List Batch} → Each SameBatch vs ws → length vs ≡ length ws
+  same-length : {vs ws : List Batch} → Pointwise SameBatch vs ws → length vs ≡ length ws
   same-length none = refl
   same-length (more q qs) = ap suc (same-length qs)
 
-  same-total : {vs ws : List Batch} → Each SameBatch vs ws → totalBytes vs ≡ totalBytes ws
+  same-total : {vs ws : List Batch} → Pointwise SameBatch vs ws → totalBytes vs ≡ totalBytes ws
   unfolding totalBytes
   same-total none = refl
   same-total (more q qs) = rw (q .size, same-total qs)
 
-  same-count : (k : ℕ) {vs ws : List Batch} → Each SameBatch vs ws → countOf k vs ≡ countOf k ws
+  same-count : (k : ℕ) {vs ws : List Batch} → Pointwise SameBatch vs ws → countOf k vs ≡ countOf k ws
   unfolding countOf
   same-count k none = refl
   same-count k (more q qs) = rw (q .client, same-count k qs)
 
-  same-completed : (k k′ t t′ : ℕ) (v v′ : Verdict) → k ≡ k′ → t ≡ t′ → v ≡ v′ → SameAnswer d (completed k t v) (completed k′ t′ v′)
+  same-completed : (k k′ t t′ : ℕ) (v v′ : CompletionStatus) → k ≡ k′ → t ≡ t′ → v ≡ v′ → LowEqualAnswer d (completed k t v) (completed k′ t′ v′)
   same-completed k k′ t t′ v v′ e f g = rw (e, f, g) (equal _)
 
-  own-completed : (k k′ t t′ : ℕ) (v v′ : Verdict) → k ≡ k′ → t ≡ t′ → k ≡ d → SameAnswer d (completed k t v) (completed k′ t′ v′)
+  own-completed : (k k′ t t′ : ℕ) (v v′ : CompletionStatus) → k ≡ k′ → t ≡ t′ → k ≡ d → LowEqualAnswer d (completed k t v) (completed k′ t′ v′)
   own-completed k k′ t t′ v v′ e f g = rw (← e, f, g) (verdicts t′ v v′)
 
 -- Hid: the bytes that the claim does not speak of
-module _ (way : Way) (L : Confined way) (setup : Setup) (ring : ℕ) (d : ℕ) (Hid : ℕ → Type 0) where
+module _ (way : BatchSemantics) (L : Confined way) (setup : Setup) (ring : ℕ) (d : ℕ) (Hid : ℕ → Type 0) where
   record Rel (model model′ : Model) : Type 0 where
     windows : model .windows ≡ model′ .windows
-    waiting : Each (SameBatch d) (model .waiting) (model′ .waiting)
+    waiting : Pointwise (SameBatch d) (model .waiting) (model′ .waiting)
     accepted : model .accepted ≡ model′ .accepted
     size : length (model .memory) ≡ length (model′ .memory)
     bytes : (i : ℕ) → ¬ (Hid i) → byte (model .memory) i ≡ byte (model′ .memory) i
@@ -66,8 +66,8 @@ module _ (way : Way) (L : Confined way) (setup : Setup) (ring : ℕ) (d : ℕ) (
     others : (k i : ℕ) → ¬ (k ≡ d) → Owns model k i → ¬ (Hid i)
     common : (i : ℕ) → i < setup .common → ¬ (Hid i)
 
-  module _ (v : Window) (m m′ : List ℕ) (h : Within v (setup .common) m) (size : length m ≡ length m′) (agree : (i : ℕ) → ¬ (Hid i) → byte m i ≡ byte m′ i) where
-    h′ : Within v (setup .common) m′
+  module _ (v : Window) (m m′ : List ℕ) (h : WindowInMemory v (setup .common) m) (size : length m ≡ length m′) (agree : (i : ℕ) → ¬ (Hid i) → byte m i ≡ byte m′ i) where
+    h′ : WindowInMemory v (setup .common) m′
     h′ = (h .0, rw (← size) (h .1))
 
     own-drawn : (x x′ : List ℕ) → ((i : ℕ) → In v i → Hid i) → (i : ℕ) → ¬ (Hid i) → byte (way .draw v (setup .common) x m) i ≡ byte (way .draw v (setup .common) x′ m′) i
@@ -84,14 +84,14 @@ module _ (way : Way) (L : Confined way) (setup : Setup) (ring : ℕ) (d : ℕ) (
         (by-in v i)
 
   abbrev Both : Step → Step → Type 0
-  Both s s′ = SameAnswer d (s .answer) (s′ .answer) × Rel (s .after) (s′ .after)
+  Both s s′ = LowEqualAnswer d (s .answer) (s′ .answer) × Rel (s .after) (s′ .after)
 
   module _ (model model′ : Model) (S : Sound setup model) (H : Hidden model) (R : Rel model model′) where
     refused-both : (k : ℕ) → Both (refuse k model) (refuse k model′)
     refused-both k = (equal _, R)
 
     open-both : (w : Window) → Both (step way setup ring (opens w) model) (step way setup ring (opens w) model′)
-    unfolding effect table
+    unfolding effect refusalTable
     open-both w = unless-both Both (refusal setup ring model (opens w)) (refusal setup ring model′ (opens w)) model model′ _ _
         (rw (R .windows))
         (λ e. (
@@ -102,7 +102,7 @@ module _ (way : Way) (L : Confined way) (setup : Setup) (ring : ℕ) (d : ℕ) (
         refused-both
 
     submit-both : (k : ℕ) (x y : List ℕ) → length x ≡ length y → (¬ (k ≡ d) → x ≡ y) → Both (step way setup ring (submit k x) model) (step way setup ring (submit k y) model′)
-    unfolding effect table
+    unfolding effect refusalTable
     submit-both k x y e f = unless-both Both (refusal setup ring model (submit k x)) (refusal setup ring model′ (submit k y)) model model′ _ _
         (rw (R .windows, same-length d (R .waiting), same-total d (R .waiting), e))
         (λ z. (
@@ -118,18 +118,18 @@ module _ (way : Way) (L : Confined way) (setup : Setup) (ring : ℕ) (d : ℕ) (
         refused-both
 
     pending-both : (k : ℕ) → Both (step way setup ring (pending k) model) (step way setup ring (pending k) model′)
-    unfolding effect table
+    unfolding effect refusalTable
     pending-both k = unless-both Both (refusal setup ring model (pending k)) (refusal setup ring model′ (pending k)) model model′ _ _
         (rw (R .windows))
         (λ e. (rw (same-count d k (R .waiting)) (equal _), R))
         refused-both
 
-    taken-both : length (model .memory) ≡ setup .memory → (b b′ : Batch) (bs bs′ : List Batch) → isOpen model (b .client) ≡ true → SameBatch d b b′ → Each (SameBatch d) bs bs′ →
+    taken-both : length (model .memory) ≡ setup .memory → (b b′ : Batch) (bs bs′ : List Batch) → isOpen model (b .client) ≡ true → SameBatch d b b′ → Pointwise (SameBatch d) bs bs′ →
         Both (runStep way (setup .common) model (b ∷ bs)) (runStep way (setup .common) model′ (b′ ∷ bs′))
     taken-both e b b′ bs bs′ h q qs =
         let v : Window = windowOf model (b .client) in
-        let fits : Within v (setup .common) (model .memory) = within setup model S e (b .client) h in
-        let fits′ : Within v (setup .common) (model′ .memory) = (fits .0, rw (← R .size) (fits .1)) in
+        let fits : WindowInMemory v (setup .common) (model .memory) = within setup model S e (b .client) h in
+        let fits′ : WindowInMemory v (setup .common) (model′ .memory) = (fits .0, rw (← R .size) (fits .1)) in
         let ev : v ≡ windowOf model′ (b′ .client) = rw (R .windows, q .client) in
         let size : length (way .draw v (setup .common) (b .bytes) (model .memory)) ≡ length (way .draw (windowOf model′ (b′ .client)) (setup .common) (b′ .bytes) (model′ .memory)) =
         rw (← ev) (L v (setup .common) (b .bytes) .sized (model .memory) fits ∙ R .size ∙ sym (L v (setup .common) (b′ .bytes) .sized (model′ .memory) fits′))
@@ -158,17 +158,17 @@ module _ (way : Way) (L : Confined way) (setup : Setup) (ring : ℕ) (d : ℕ) (
         (by-eq (b .client) d)
 
     run-both : Both (step way setup ring run model) (step way setup ring run model′)
-    unfolding effect table
+    unfolding effect refusalTable
     run-both = unless-both Both (refusal setup ring model run) (refusal setup ring model′ run) model model′ _ _
         (rw (R .size, same-length d (R .waiting)))
         (λ e. go (run-allowed setup ring model e) (S .named) (R .waiting))
         refused-both
       where
-        go : length (model .memory) ≡ setup .memory → {bs bs′ : List Batch} → Named (isOpen model) bs → Each (SameBatch d) bs bs′ → Both (runStep way (setup .common) model bs) (runStep way (setup .common) model′ bs′)
+        go : length (model .memory) ≡ setup .memory → {bs bs′ : List Batch} → Named (isOpen model) bs → Pointwise (SameBatch d) bs bs′ → Both (runStep way (setup .common) model bs) (runStep way (setup .common) model′ bs′)
         go e n none = refused-both 9
         go e n (more {x = b} {y = b′} {xs = bs} {ys = bs′} q qs) = taken-both e b b′ bs bs′ (n .0) q qs
 
-    step-both : (c c′ : Call) → SameCall d c c′ → Both (step way setup ring c model) (step way setup ring c′ model′)
+    step-both : (c c′ : Call) → LowEqualCall d c c′ → Both (step way setup ring c model) (step way setup ring c′ model′)
     step-both _ _ (same (opens w)) = open-both w
     step-both _ _ (same (submit k x)) = submit-both k x x refl (λ n. refl)
     step-both _ _ (same run) = run-both
@@ -176,7 +176,7 @@ module _ (way : Way) (L : Confined way) (setup : Setup) (ring : ℕ) (d : ℕ) (
     step-both _ _ (rewritten x y e) = submit-both d x y e (λ n. absurd (n refl))
 
 -- What is hidden is d's window at the end, from the first call on: before d opens it, nobody reads or writes it.
-module _ (way : Way) (L : Confined way) (setup : Setup) (ring : ℕ) (d : ℕ) where
+module _ (way : BatchSemantics) (L : Confined way) (setup : Setup) (ring : ℕ) (d : ℕ) where
   hidden : (cs : List Call) (model : Model) → Sound setup model → Hidden way L setup ring d (Owns (after way setup ring cs model) d) model
   hidden cs model S =
       let G = after-sound way setup ring cs model S .good in
@@ -186,8 +186,8 @@ module _ (way : Way) (L : Confined way) (setup : Setup) (ring : ℕ) (d : ℕ) w
         common = λ i l p. let z = G .past d (p .0) in omega arith;
       }
 
-  both : (cs cs′ : List Call) → Each (SameCall d) cs cs′ → (model model′ : Model) → Sound setup model → Rel way L setup ring d (Owns (after way setup ring cs model) d) model model′ →
-      Each (SameAnswer d) (answers way setup ring cs model) (answers way setup ring cs′ model′)
+  both : (cs cs′ : List Call) → Pointwise (LowEqualCall d) cs cs′ → (model model′ : Model) → Sound setup model → Rel way L setup ring d (Owns (after way setup ring cs model) d) model model′ →
+      Pointwise (LowEqualAnswer d) (answers way setup ring cs model) (answers way setup ring cs′ model′)
       × Rel way L setup ring d (Owns (after way setup ring cs model) d) (after way setup ring cs model) (after way setup ring cs′ model′)
   unfolding answers after
   both _ _ none model model′ S R = (none, R)
@@ -196,7 +196,7 @@ module _ (way : Way) (L : Confined way) (setup : Setup) (ring : ℕ) (d : ℕ) w
       let t = both cs cs′ qs (step way setup ring c model .after) (step way setup ring c′ model′ .after) (step-sound way setup ring c model S) (s .1) in
       (more (s .0) (t .0), t .1)
 
-  pub unmoved : (cs cs′ : List Call) (m m′ : List ℕ) → Twins way setup ring d cs cs′ m m′ → Unmoved way setup ring d cs cs′ m m′
+  pub unmoved : (cs cs′ : List Call) (m m′ : List ℕ) → LowEquivalent way setup ring d cs cs′ m m′ → Noninterference way setup ring d cs cs′ m m′
   unmoved cs cs′ m m′ t =
-      let q = both cs cs′ (t .listed) (fresh m) (fresh m′) (fresh-sound setup m) (record { windows = refl; waiting = none; accepted = refl; size = t .size; bytes = t .bytes }) in
+      let q = both cs cs′ (t .listed) (initialModel m) (initialModel m′) (fresh-sound setup m) (record { windows = refl; waiting = none; accepted = refl; size = t .size; bytes = t .bytes }) in
       record { told = q .0; windows = q .1 .windows; size = q .1 .size; bytes = q .1 .bytes }

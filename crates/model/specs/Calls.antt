@@ -19,7 +19,7 @@ pub data Call : Type 0 where
 
 -- What validating a batch gives (01, "Faults of a taken batch"): the status word, the fault's number and its offset in the batch
 -- (01: place), the last two 0 without a fault.
-pub record Verdict : Type 0 where
+pub record CompletionStatus : Type 0 where
   pub status : ℕ
   pub fault : ℕ
   pub offset : ℕ
@@ -29,7 +29,7 @@ pub record Verdict : Type 0 where
 pub data Answer : Type 0 where
   opened : (client : ℕ) → Answer
   accepted : (ticket : ℕ) → Answer
-  completed : (client ticket : ℕ) → Verdict → Answer
+  completed : (client ticket : ℕ) → CompletionStatus → Answer
   ready : (count : ℕ) → Answer
   refused : (number : ℕ) → Answer
 

@@ -3,8 +3,8 @@ use mathlib.Core.List.{List, [], _∷_, _++_}
 use Prim.Native.Nat.{ℕ, zero, suc, _%_}
 use Rattle.model.specs.Windows.{Window}
 use Rattle.model.specs.Calls.{Setup, Call, opens, submit, run, pending, Answer, opened, accepted, completed, ready, refused}
-use Rattle.model.specs.Drawing.{Way}
-use Rattle.model.specs.State.{Batch, batch, Model, fresh, windowOf, nextClient, countOf}
+use Rattle.model.specs.BatchSemantics.{BatchSemantics}
+use Rattle.model.specs.State.{Batch, batch, Model, initialModel, windowOf, nextClient, countOf}
 use Rattle.model.specs.Refusals.{refusal}
 
 -- What one call answers, the model after it, and the batch that it executed, if any (01, the book: "that batch is executed").
@@ -42,7 +42,7 @@ submitStep model client bytes =
 
 -- 01, the book: "Run takes the first waiting batch, judges and draws it in memory with its desk's window". Its answer is that of
 -- 01, "Engine, desks, queue": client, ticket, status, fault and offset. With no batch the table has refused it already.
-abbrev pub runStep : Way → ℕ → Model → List Batch → Step
+abbrev pub runStep : BatchSemantics → ℕ → Model → List Batch → Step
 runStep way common model [] = refuse 9 model
 runStep way common model (b ∷ rest) = record {
   answer = completed (b .client) (b .ticket) (way .verdict (windowOf model (b .client)) common (b .bytes));
@@ -60,12 +60,12 @@ abbrev pub pendingStep : Model → ℕ → Step
 pendingStep model client = record { answer = ready (countOf client (model .waiting)); after = model; executed = [] }
 
 -- A refusal number, 0 for none: the refusal, or else the step.
-unfoldable pub unless : ℕ → Model → Step → Step
-unless zero model otherwise = otherwise
-unless (suc n) model otherwise = refuse (suc n) model
+unfoldable pub refuseOr : ℕ → Model → Step → Step
+refuseOr zero model otherwise = otherwise
+refuseOr (suc n) model otherwise = refuse (suc n) model
 
 -- ring: the length of the lent ring. The lent memory is the model's; its length may differ from the set-up number.
-module _ (way : Way) (setup : Setup) (ring : ℕ) where
+module _ (way : BatchSemantics) (setup : Setup) (ring : ℕ) where
   -- A call that is not refused.
   unfoldable pub effect : Call → Model → Step
   effect (opens w) model = openStep model w
@@ -75,7 +75,7 @@ module _ (way : Way) (setup : Setup) (ring : ℕ) where
 
   -- One call: by the table, or else its effect.
   abbrev pub step : Call → Model → Step
-  step call model = unless (refusal setup ring model call) model (effect call model)
+  step call model = refuseOr (refusal setup ring model call) model (effect call model)
 
   -- ---- a list of calls: each finds the model as the last one left it (01, the book: the claim is "of the list as a whole")
 
@@ -95,5 +95,5 @@ module _ (way : Way) (setup : Setup) (ring : ℕ) where
   executed (c ∷ cs) model = step c model .executed ++ executed cs (step c model .after)
 
   -- The model at the end of a list of calls on the lent memory.
-  abbrev pub end : List Call → List ℕ → Model
-  end calls memory = after calls (fresh memory)
+  abbrev pub modelAfterAll : List Call → List ℕ → Model
+  modelAfterAll calls memory = after calls (initialModel memory)

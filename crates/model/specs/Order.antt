@@ -5,19 +5,19 @@ use mathlib.Core.Bool.{cond}
 use Prim.Native.Nat.{ℕ}
 use lib.ListN.{length, drop}
 use lib.Dec.{eqb}
-use Rattle.model.specs.Calls.{Setup, Call, run, Verdict, Answer, opened, accepted, completed, ready, refused}
-use Rattle.model.specs.Drawing.{Way}
+use Rattle.model.specs.Calls.{Setup, Call, run, CompletionStatus, Answer, opened, accepted, completed, ready, refused}
+use Rattle.model.specs.BatchSemantics.{BatchSemantics}
 use Rattle.model.specs.State.{Batch, Model}
 use Rattle.model.specs.Model.{step, answers, after}
-use Rattle.model.specs.Alone.{own}
+use Rattle.model.specs.ReplayedAlone.{batchesOf}
 
 -- An "order that keeps each desk's own sequence": of each client the same batches in the same order, but for their tickets (02, 9: "Tickets follow
 -- the order of submission and are excepted").
 abbrev pub SameSequences : List Batch → List Batch → Type 0
-SameSequences bs bs′ = (client : ℕ) → own client bs ≡ own client bs′
+SameSequences bs bs′ = (client : ℕ) → batchesOf client bs ≡ batchesOf client bs′
 
 -- 02, 9: "the same status, fault and place": the verdicts of a client's completions, in order.
-unfoldable pub verdictsOf : ℕ → List Answer → List Verdict
+unfoldable pub verdictsOf : ℕ → List Answer → List CompletionStatus
 verdictsOf client [] = []
 verdictsOf client (completed k t v ∷ rest) = cond (eqb k client) (v ∷ verdictsOf client rest) (verdictsOf client rest)
 verdictsOf client (opened k ∷ rest) = verdictsOf client rest
@@ -38,7 +38,7 @@ runEach batches = map (λ b. run) batches
 abbrev pub Lent : Setup → (ring : ℕ) → Model → Type 0
 Lent setup ring model = (ring ≡ setup .ring) × (length (model .memory) ≡ setup .memory)
 
-module _ (way : Way) (setup : Setup) (ring : ℕ) where
+module _ (way : BatchSemantics) (setup : Setup) (ring : ℕ) where
   -- The accepted batches, in order: a submit that is not refused puts its batch behind those that wait.
   unfoldable pub submitted : List Call → Model → List Batch
   submitted [] model = []
@@ -53,7 +53,7 @@ module _ (way : Way) (setup : Setup) (ring : ℕ) where
     pub verdicts : (client : ℕ) → verdictsOf client (answers way setup ring calls model) ≡ verdictsOf client (answers way setup ring calls′ model′)
 
   -- The other order of the first two that wait: the same status, fault and offset for each, and the same model after both, memory too.
-  pub record Exchanged (a b : Batch) (first second : Verdict) (rest : List Batch) (model : Model) : Type 0 where
+  pub record Exchanged (a b : Batch) (first second : CompletionStatus) (rest : List Batch) (model : Model) : Type 0 where
     pub told : answers way setup ring (run ∷ run ∷ []) (withWaiting model (b ∷ a ∷ rest)) ≡
         completed (b .client) (b .ticket) second ∷ completed (a .client) (a .ticket) first ∷ []
     pub left : after way setup ring (run ∷ run ∷ []) (withWaiting model (b ∷ a ∷ rest)) ≡ after way setup ring (run ∷ run ∷ []) model

@@ -11,8 +11,8 @@ use Rattle.model.specs.State.{Model, isOpen, openWindows, takenSlots, ta
 
 infix 70 _when_
 -- A row of the table: its number, and whether its condition holds.
-pub data Row : Type 0 where
-  _when_ : ℕ → Bool → Row
+pub data RefusalRow : Type 0 where
+  _when_ : ℕ → Bool → RefusalRow
 
 -- 4: "window empty, past memory's end, or sharing a byte with common or another window".
 abbrev pub badWindow : Setup → Model → Window → Bool
@@ -29,30 +29,30 @@ freeBytes setup model = setup .ring - takenBytes model
 
 -- Each call's rows, in the order below the table: "11 first, then 10, then as listed downward". 11 never comes: there is no record that
 -- could break a rule. ring: the length of the lent ring; the lent memory is the model's.
-unfoldable pub table : Setup → (ring : ℕ) → Model → Call → List Row
-table setup ring model (opens w) =
+unfoldable pub refusalTable : Setup → (ring : ℕ) → Model → Call → List RefusalRow
+refusalTable setup ring model (opens w) =
     3 when leb 4 (length (openWindows model))
     ∷ 4 when badWindow setup model w
     ∷ []
-table setup ring model (submit client bytes) =
+refusalTable setup ring model (submit client bytes) =
     10 when not (eqb ring (setup .ring))
     ∷ 5 when not (isOpen model client)
     ∷ 6 when badLength setup (length bytes)
     ∷ 7 when leb 8 (takenSlots model)
     ∷ 8 when ltb (freeBytes setup model) (length bytes)
     ∷ []
-table setup ring model run =
+refusalTable setup ring model run =
     10 when (not (eqb ring (setup .ring)) || not (eqb (length (model .memory)) (setup .memory)))
     ∷ 9 when eqb (length (model .waiting)) 0
     ∷ []
-table setup ring model (pending client) =
+refusalTable setup ring model (pending client) =
     5 when not (isOpen model client)
     ∷ []
 
 -- The first row whose condition holds; 0 if there is none: the call is not refused.
-unfoldable pub firstOf : List Row → ℕ
-firstOf [] = 0
-firstOf ((number when holds) ∷ rows) = cond holds number (firstOf rows)
+unfoldable pub firstHolding : List RefusalRow → ℕ
+firstHolding [] = 0
+firstHolding ((number when holds) ∷ rows) = cond holds number (firstHolding rows)
 
 abbrev pub refusal : Setup → (ring : ℕ) → Model → Call → ℕ
-refusal setup ring model call = firstOf (table setup ring model call)
+refusal setup ring model call = firstHolding (refusalTable setup ring model call)

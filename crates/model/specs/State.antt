@@ -25,8 +25,8 @@ pub record Model : Type 0 where
   pub memory : List ℕ
 
 -- 01, "The book of demand 3": "at first no window, nothing waiting, 0", and the memory that is lent.
-abbrev pub fresh : List ℕ → Model
-fresh memory = record { windows = []; waiting = []; accepted = 0; memory = memory }
+abbrev pub initialModel : List ℕ → Model
+initialModel memory = record { windows = []; waiting = []; accepted = 0; memory = memory }
 
 -- ---- clients: nothing but these looks one up, so that another way to keep them changes these alone
 

@@ -4,7 +4,7 @@ use ppm::Number;
 use ppm::Rectangle;
 use surface::Surface;
 
-// The rectangle that the arguments name. What is wrong with them is told.
+// The rectangle that the arguments name. What is wrong with them is reported.
 fn asked() -> Rectangle {
     let Number::Value(address) = command::number_argument(2, b"ADDRESS") else {
         return Rectangle::Outside;

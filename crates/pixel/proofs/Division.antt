@@ -1,11 +1,11 @@
 -- Nearest division by 255 by shifts and adds: where the trick is exact, and why holding makes the rest right.
 use mathlib.Core.Path.{refl}
 use native.Mathlib.Omega.{arith}
-use Rattle.pixel.specs.Alpha.{near}
+use Rattle.pixel.specs.Alpha.{div255}
 use Rattle.pixel.specs.Division.{Division}
 
 pub division : Division
-unfolding near
+unfolding div255
 division = record {
   exact = λ n l. omega arith;
   one-short = refl;

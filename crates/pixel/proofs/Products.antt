@@ -2,15 +2,15 @@
 use Prim.Native.Nat.{ℕ, _*_, _≤_}
 use native.Mathlib.Nat.{mul-le-mul}
 use native.Mathlib.Omega.{arith}
-use Rattle.pixel.specs.Alpha.{near}
+use Rattle.pixel.specs.Alpha.{div255}
 
 pub product-small : (x f : ℕ) → x ≤ 255 → f ≤ 255 → x * f ≤ 65025
 product-small x f a b = mul-le-mul a b
 
-near-small : (p : ℕ) → p ≤ 65025 → near p ≤ 255
-unfolding near
+near-small : (p : ℕ) → p ≤ 65025 → div255 p ≤ 255
+unfolding div255
 near-small p h = omega arith
 
 -- a byte scaled by a byte is a byte
-pub scaled-byte : (x f : ℕ) → x ≤ 255 → f ≤ 255 → near (x * f) ≤ 255
+pub scaled-byte : (x f : ℕ) → x ≤ 255 → f ≤ 255 → div255 (x * f) ≤ 255
 scaled-byte x f a b = near-small (x * f) (product-small x f a b)

@@ -13,7 +13,7 @@ use Rattle.pixel.specs.declared.colour.Colour.{Colour}
 use Rattle.pixel.specs.declared.format.Layout.{Layout}
 use Rattle.pixel.specs.declared.format.Format.{Format}
 use Rattle.pixel.specs.declared.format.Format.the-variants.{Argb8888, Rgb888, Rgb565}
-use Rattle.pixel.specs.Formats.{layoutOf, bytesOf}
+use Rattle.pixel.specs.Formats.{layoutOf, bytesPerPixel}
 use Rattle.pixel.specs.Colours.{widened, narrowed, unpacked, packed}
 use Rattle.pixel.proofs.Channels.{narrowed-widened, narrowed-none, narrowed-small}
 
@@ -176,10 +176,10 @@ narrow Rgb888 = record { alpha = lit≤ tt; red = lit≤ tt; green = lit≤ tt; 
 narrow Rgb565 = record { alpha = lit≤ tt; red = lit≤ tt; green = lit≤ tt; blue = lit≤ tt }
 
 -- a pixel made a colour and stored again in its format has the same bytes
-pub packed-again : (f : Format) (pixel : ℕ) → packed (layoutOf f) (unpacked (layoutOf f) pixel) ≡ pixel % 256 ^ bytesOf f
+pub packed-again : (f : Format) (pixel : ℕ) → packed (layoutOf f) (unpacked (layoutOf f) pixel) ≡ pixel % 256 ^ bytesPerPixel f
 packed-again Argb8888 pixel = packed-unpacked (layoutOf Argb8888) (sound Argb8888) pixel
 packed-again Rgb888 pixel = packed-unpacked (layoutOf Rgb888) (sound Rgb888) pixel
 packed-again Rgb565 pixel = packed-unpacked (layoutOf Rgb565) (sound Rgb565) pixel
 
-pub stored-same : (f : Format) (pixel : ℕ) → pixel < 256 ^ bytesOf f → packed (layoutOf f) (unpacked (layoutOf f) pixel) ≡ pixel
+pub stored-same : (f : Format) (pixel : ℕ) → pixel < 256 ^ bytesPerPixel f → packed (layoutOf f) (unpacked (layoutOf f) pixel) ≡ pixel
 stored-same f pixel small = packed-again f pixel ∙ mod-eq-of-lt small

@@ -7,8 +7,8 @@ use Rattle.pixel.specs.declared.blend.AlphaMode.{AlphaMode}
 use Rattle.pixel.specs.declared.blend.AlphaMode.the-variants.{Pixel, Global, Mixed}
 
 -- the whole part of (n + 127) / 255
-unfoldable pub near : ℕ → ℕ
-near n = (n + 127) / 255
+unfoldable pub div255 : ℕ → ℕ
+div255 n = (n + 127) / 255
 
 -- a number is the code of an alpha mode
 abbrev pub isAlphaMode : ℕ → Bool
@@ -19,11 +19,11 @@ abbrev pub alphaModeOf : ℕ → AlphaMode
 alphaModeOf code = cond (eqb code 0) Pixel (cond (eqb code 1) Global Mixed)
 
 -- the alpha of a pixel under a mode, with the surface's global alpha
-abbrev pub alphaBy : AlphaMode → ℕ → ℕ → ℕ
-alphaBy Pixel global pixel = pixel
-alphaBy Global global pixel = global
-alphaBy Mixed global pixel = near (pixel * global)
+abbrev pub effectiveAlpha : AlphaMode → ℕ → ℕ → ℕ
+effectiveAlpha Pixel global pixel = pixel
+effectiveAlpha Global global pixel = global
+effectiveAlpha Mixed global pixel = div255 (pixel * global)
 
 -- a colour with its alpha under a mode
 abbrev pub withAlpha : AlphaMode → ℕ → Colour → Colour
-withAlpha mode global c = record { alpha = alphaBy mode global (c .alpha); red = c .red; green = c .green; blue = c .blue }
+withAlpha mode global c = record { alpha = effectiveAlpha mode global (c .alpha); red = c .red; green = c .green; blue = c .blue }

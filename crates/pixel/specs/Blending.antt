@@ -6,7 +6,7 @@ use Rattle.pixel.specs.declared.colour.Colour.{Colour}
 use Rattle.pixel.specs.declared.blend.Factor.{Factor}
 use Rattle.pixel.specs.declared.blend.Factor.the-variants.{Zero, One, SourceAlpha, InverseSourceAlpha, DestinationAlpha, InverseDestinationAlpha}
 use Rattle.pixel.specs.declared.blend.Rule.{Rule}
-use Rattle.pixel.specs.Alpha.{near}
+use Rattle.pixel.specs.Alpha.{div255}
 
 -- a number is the code of a factor
 abbrev pub isFactor : ℕ → Bool
@@ -33,7 +33,7 @@ factorValue InverseDestinationAlpha sa da = 255 - da
 
 -- one channel: the sum is held at 255 only after it was divided
 unfoldable pub blendedChannel : ℕ → ℕ → ℕ → ℕ → ℕ
-blendedChannel s fs d fd = min 255 (near (s * fs + d * fd))
+blendedChannel s fs d fd = min 255 (div255 (s * fs + d * fd))
 
 -- all four channels, alpha among them, by the same two factors; both colours have their alphas after the alpha modes
 unfoldable pub blended : Rule → Colour → Colour → Colour

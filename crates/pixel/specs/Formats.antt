@@ -13,8 +13,8 @@ layoutOf Rgb888 = record { code = 0x08; bytes = 3; alpha = 0; red = 8; green = 8
 layoutOf Rgb565 = record { code = 0x0E; bytes = 2; alpha = 0; red = 5; green = 6; blue = 5 }
 
 -- bytes a pixel
-abbrev pub bytesOf : Format → ℕ
-bytesOf f = layoutOf f .bytes
+abbrev pub bytesPerPixel : Format → ℕ
+bytesPerPixel f = layoutOf f .bytes
 
 -- a number is the code of a format
 abbrev pub isFormat : ℕ → Bool

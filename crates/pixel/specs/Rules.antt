@@ -6,21 +6,21 @@ use Rattle.pixel.specs.Blending.{factorOf}
 use Prim.Native.Nat.{ℕ}
 
 -- the rule of a source factor and a destination factor, by their codes
-abbrev pub factors : ℕ → ℕ → Rule
-factors s d = record { source = factorOf s; destination = factorOf d }
+abbrev pub factorPair : ℕ → ℕ → Rule
+factorPair s d = record { source = factorOf s; destination = factorOf d }
 
-abbrev pub ruleOf : RuleName → Rule
-ruleOf None = factors 2 3
-ruleOf Clear = factors 0 0
-ruleOf Src = factors 1 0
-ruleOf Dst = factors 0 1
-ruleOf SrcOver = factors 1 3
-ruleOf DstOver = factors 5 1
-ruleOf SrcIn = factors 4 0
-ruleOf DstIn = factors 0 2
-ruleOf SrcOut = factors 5 0
-ruleOf DstOut = factors 0 3
-ruleOf SrcAtop = factors 4 3
-ruleOf DstAtop = factors 5 2
-ruleOf Xor = factors 5 3
-ruleOf Add = factors 1 1
+abbrev pub blendModeFactors : RuleName → Rule
+blendModeFactors None = factorPair 2 3
+blendModeFactors Clear = factorPair 0 0
+blendModeFactors Src = factorPair 1 0
+blendModeFactors Dst = factorPair 0 1
+blendModeFactors SrcOver = factorPair 1 3
+blendModeFactors DstOver = factorPair 5 1
+blendModeFactors SrcIn = factorPair 4 0
+blendModeFactors DstIn = factorPair 0 2
+blendModeFactors SrcOut = factorPair 5 0
+blendModeFactors DstOut = factorPair 0 3
+blendModeFactors SrcAtop = factorPair 4 3
+blendModeFactors DstAtop = factorPair 5 2
+blendModeFactors Xor = factorPair 5 3
+blendModeFactors Add = factorPair 1 1

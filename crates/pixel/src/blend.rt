@@ -1,10 +1,10 @@
 // Blending of two colours: alpha modes, factors, rules.
 ghost use mathlib.Core.Path.{_≡_};
 ghost use Prim.Native.Nat.{_*_, _≤_};
-ghost use Rattle.pixel.specs.Alpha.{isAlphaMode, alphaModeOf, alphaBy, withAlpha};
+ghost use Rattle.pixel.specs.Alpha.{isAlphaMode, alphaModeOf, effectiveAlpha, withAlpha};
 ghost use Rattle.pixel.specs.Division.{shifted};
 ghost use Rattle.pixel.specs.Blending.{isFactor, factorOf, factorValue, blendedChannel, blended};
-ghost use Rattle.pixel.specs.Rules.{ruleOf};
+ghost use Rattle.pixel.specs.Rules.{blendModeFactors};
 use crate::colour::Colour;
 
 // Which alpha a pixel has: its own, its surface's global one, or the product of the two.
@@ -84,7 +84,7 @@ impl AlphaMode {
 
     // The alpha of a pixel under this mode.
     fn alpha(self, global: u8, pixel: u8) -> u8
-        ensures { λ r. ⌜ r ≡ alphaBy self global pixel ⌝ }
+        ensures { λ r. ⌜ r ≡ effectiveAlpha self global pixel ⌝ }
     {
         match self {
             AlphaMode::Pixel => pixel,
@@ -215,7 +215,7 @@ impl Rule {
     };
 
     pub fn named(name: RuleName) -> Rule
-        ensures { λ r. ⌜ r ≡ ruleOf name ⌝ }
+        ensures { λ r. ⌜ r ≡ blendModeFactors name ⌝ }
     {
         match name {
             RuleName::None => Rule::NONE,

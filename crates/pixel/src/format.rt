@@ -1,7 +1,7 @@
 // The pixel formats: each carries its own constants, and makes its pixels out of colours.
 ghost use mathlib.Core.Path.{_≡_};
 ghost use Prim.Native.Nat.{_<_};
-ghost use Rattle.pixel.specs.Formats.{layoutOf, bytesOf, formatOf, isFormat};
+ghost use Rattle.pixel.specs.Formats.{layoutOf, bytesPerPixel, formatOf, isFormat};
 ghost use Rattle.pixel.specs.Colours.{widened, packed, unpacked};
 use crate::colour::Colour;
 
@@ -216,7 +216,7 @@ impl Format {
     }
 
     pub fn bytes(self) -> usize
-        ensures { λ r. ⌜ r ≡ bytesOf self ⌝ }
+        ensures { λ r. ⌜ r ≡ bytesPerPixel self ⌝ }
     {
         match self {
             Format::Argb8888 => Argb8888::BYTES,

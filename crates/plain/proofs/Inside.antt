@@ -5,7 +5,7 @@ use mathlib.Core.List.{List}
 use Prim.Native.Nat.{ℕ, _+_, _≤_}
 use native.Mathlib.Omega.{arith}
 use lib.ListN.{length}
-use Rattle.pixel.specs.Formats.{bytesOf}
+use Rattle.pixel.specs.Formats.{bytesPerPixel}
 use Rattle.transform.proofs.Inside.{source-within}
 use Rattle.surface.specs.Surface.{pixelStart}
 use Rattle.surface.proofs.Outside.{pixel-in-span}
@@ -14,19 +14,19 @@ use Rattle.register.specs.Size.{sizeOf}
 use Rattle.register.specs.declared.task.Source.{Source}
 use Rattle.register.specs.declared.task.Destination.{Destination}
 use Rattle.register.specs.declared.task.Task.{Task}
-use Rattle.rows.specs.Row.{originOf}
+use Rattle.rows.specs.Row.{sourcePixelOf}
 use Rattle.raster.proofs.Pixel.{output-within, destination-within}
 use Rattle.plain.specs.Pixel.{SourcePixel, DestinationPixel, Pixel}
 
 pub source-read : (memory : List ℕ) (s : Source) (x y : ℕ) → SourcePixel memory s x y → isBuffer (s .mode) ≡ true →
-    pixelStart (s .surface) (originOf (s .surface) (s .transform) x y .x) (originOf (s .surface) (s .transform) x y .y) + bytesOf (s .surface .format) ≤ length memory
-unfolding originOf
+    pixelStart (s .surface) (sourcePixelOf (s .surface) (s .transform) x y .x) (sourcePixelOf (s .surface) (s .transform) x y .y) + bytesPerPixel (s .surface .format) ≤ length memory
+unfolding sourcePixelOf
 source-read memory s x y p e =
     let w = source-within (s .transform) (sizeOf (s .surface)) (record { x = x; y = y }) (p .within) in
     omega (arith, pixel-in-span (s .surface) _ _ (w .across) (w .down) .1, p .inside e)
 
 pub destination-read : (memory : List ℕ) (d : Destination) (x y : ℕ) → DestinationPixel memory d x y →
-    pixelStart (d .surface) x y + bytesOf (d .surface .format) ≤ length memory
+    pixelStart (d .surface) x y + bytesPerPixel (d .surface .format) ≤ length memory
 destination-read memory d x y p = omega (arith, pixel-in-span (d .surface) x y (p .within .across) (p .within .down) .1, p .inside)
 
 module _ (memory : List ℕ) (t : Task) (x y : ℕ) (p : Pixel memory t x y) where
@@ -45,5 +45,5 @@ module _ (memory : List ℕ) (t : Task) (x y : ℕ) (p : Pixel memory t x y) whe
   }
 
   -- and it lies in memory
-  pub output-inside : pixelStart (t .output) x y + bytesOf (t .output .format) ≤ length memory
+  pub output-inside : pixelStart (t .output) x y + bytesPerPixel (t .output .format) ≤ length memory
   output-inside = omega (arith, pixel-in-span (t .output) x y (p .column) (p .row) .1, p .whole .clear .ends)

@@ -10,14 +10,14 @@ use native.Mathlib.Nat.{le-refl}
 use lib.ListN.{length, getD}
 use Rattle.word.specs.Word.{byteOf}
 use Rattle.range.specs.declared.Range.{Range}
-use Rattle.pixel.specs.Formats.{bytesOf, layoutOf}
+use Rattle.pixel.specs.Formats.{bytesPerPixel, layoutOf}
 use Rattle.pixel.specs.Colours.{packed}
-use Rattle.transform.specs.Transform.{Within}
+use Rattle.transform.specs.Transform.{InPicture}
 use Rattle.transform.specs.declared.Point.{Point}
-use Rattle.surface.specs.Surface.{rowLength, rowStart, pixelStart, Separate}
+use Rattle.surface.specs.Surface.{rowLength, rowStart, pixelStart, DisjointRows}
 use Rattle.surface.specs.Memory.{mapi}
-use Rattle.surface.specs.Rows.{rows, rowByte}
-use Rattle.surface.specs.Drawn.{stored}
+use Rattle.surface.specs.Rows.{overwriteRows, rowByte}
+use Rattle.surface.specs.Drawn.{storePixel}
 use Rattle.surface.specs.declared.Surface.{Surface}
 use Rattle.surface.proofs.Sizes.{bytes-some}
 use Rattle.surface.proofs.Mapi.{length-mapi, mapi-stays}
@@ -29,7 +29,7 @@ use Rattle.register.specs.declared.task.Task.{Task}
 use Rattle.register.specs.Size.{sizeOf}
 use Rattle.rows.specs.Row.{colourAt}
 use Rattle.raster.specs.Task.{pixelColour}
-use Rattle.raster.specs.Clear.{Clear, Drawable}
+use Rattle.raster.specs.Preconditions.{TaskInBounds, Drawable}
 use Rattle.raster.specs.Row.{rowDrawn, drawRow}
 use Rattle.raster.proofs.Pixel.{pixel-same, origin-within, destination-within}
 
@@ -53,7 +53,7 @@ in-all window n t d =
 unfoldable pub begun : Task → (y n : ℕ) → List ℕ → List ℕ
 begun t y n memory =
     mapi
-    (rows (rowStart (t .output) y) (bytesOf (t .output .format)) (bytesOf (t .output .format)) n
+    (overwriteRows (rowStart (t .output) y) (bytesPerPixel (t .output .format)) (bytesPerPixel (t .output .format)) n
     (λ x k. byteOf (packed (layoutOf (t .output .format)) (pixelColour t memory x y)) k))
     memory
 
@@ -64,7 +64,7 @@ none-begun t y memory = none-rows _ _ _ _ memory
 -- all pixels
 pub all-begun : (t : Task) (y : ℕ) (memory : List ℕ) → begun t y (t .output .width) memory ≡ drawRow t y memory
 unfolding begun drawRow rowDrawn
-all-begun t y memory = row-pixels (rowStart (t .output) y) (bytesOf (t .output .format)) (t .output .width) _ memory (bytes-some (t .output .format))
+all-begun t y memory = row-pixels (rowStart (t .output) y) (bytesPerPixel (t .output .format)) (t .output .width) _ memory (bytes-some (t .output .format))
 
 module _ (t : Task) (y n : ℕ) (memory : List ℕ) where
   pub length-begun : length (begun t y n memory) ≡ length memory
@@ -73,21 +73,21 @@ module _ (t : Task) (y n : ℕ) (memory : List ℕ) where
 
   -- a byte in none of the first pixels is as it was
   begun-else : (i : ℕ) →
-      ((x k : ℕ) → x < n → k < bytesOf (t .output .format) → i ≡ rowStart (t .output) y + (x * bytesOf (t .output .format) + k) → ⊥) →
+      ((x k : ℕ) → x < n → k < bytesPerPixel (t .output .format) → i ≡ rowStart (t .output) y + (x * bytesPerPixel (t .output .format) + k) → ⊥) →
       getD (begun t y n memory) i 0 ≡ getD memory i 0
   unfolding begun
   begun-else i out =
       mapi-stays _ memory i
-      (λ old. rows-else (rowStart (t .output) y) (bytesOf (t .output .format)) (bytesOf (t .output .format)) n _ i old (bytes-some (t .output .format)) (λ x k u v l e. out x k u v e))
+      (λ old. rows-else (rowStart (t .output) y) (bytesPerPixel (t .output .format)) (bytesPerPixel (t .output .format)) n _ i old (bytes-some (t .output .format)) (λ x k u v l e. out x k u v e))
 
   -- a pixel of a surface that is apart from the output
-  apart-kept : (s : Surface) (p : Point) → n ≤ t .output .width → y < t .output .height → Separate s (t .output) → Within (sizeOf s) p →
+  apart-kept : (s : Surface) (p : Point) → n ≤ t .output .width → y < t .output .height → DisjointRows s (t .output) → InPicture (sizeOf s) p →
       colourAt s (begun t y n memory) p ≡ colourAt s memory p
   unfolding colourAt
   apart-kept s p l h apart w =
       loaded-same (s .format) (pixelStart s (p .x) (p .y)) (begun t y n memory) memory length-begun
       (λ b u. begun-else (pixelStart s (p .x) (p .y) + b)
-      (λ x k a c e. apart (pixelStart s (p .x) (p .y) + b) (p .y) (p .x * bytesOf (s .format) + b) y (x * bytesOf (t .output .format) + k)
+      (λ x k a c e. apart (pixelStart s (p .x) (p .y) + b) (p .y) (p .x * bytesPerPixel (s .format) + b) y (x * bytesPerPixel (t .output .format) + k)
       (record { row = w .down; column = omega (arith, pixel-in-row s (p .x) (w .across)); is = omega arith })
       (record { row = h; column = omega (arith, pixel-in-row (t .output) x (omega arith)); is = omega arith })))
 
@@ -97,16 +97,16 @@ module _ (t : Task) (y n : ℕ) (memory : List ℕ) where
   next-kept =
       loaded-same (t .output .format) (pixelStart (t .output) n y) (begun t y n memory) memory length-begun
       (λ b u. begun-else (pixelStart (t .output) n y + b)
-      (λ x k a c e. omega (arith, next x n (bytesOf (t .output .format)) a)))
+      (λ x k a c e. omega (arith, next x n (bytesPerPixel (t .output .format)) a)))
 
 -- what pixel x of the row reads is as it was before the row
-pub pixel-kept : (window : Range) (Reach : Surface → Type 0) (t : Task) → Clear window Reach t → (memory : List ℕ) (x y : ℕ) →
+pub pixel-kept : (window : Range) (Reach : Surface → Type 0) (t : Task) → TaskInBounds window Reach t → (memory : List ℕ) (x y : ℕ) →
     x < t .output .width → y < t .output .height → pixelColour t (begun t y x memory) x y ≡ pixelColour t memory x y
 pixel-kept window Reach t s memory x y u v =
     pixel-same t (begun t y x memory) memory x y
     (λ reads. apart-kept t y x memory (t .source .surface) _ (omega arith) v (s .source reads .separate) (origin-within s x y u v))
     (λ on. ⊎-elim
-    (λ (a : Separate (t .destination .surface) (t .output)). apart-kept t y x memory (t .destination .surface) _ (omega arith) v a (destination-within s x y u v on))
+    (λ (a : DisjointRows (t .destination .surface) (t .output)). apart-kept t y x memory (t .destination .surface) _ (omega arith) v a (destination-within s x y u v on))
     (λ (e : t .destination .surface ≡ t .output).
     ap (λ (d : Surface). colourAt d (begun t y x memory) (record { x = x; y = y })) e
     ∙ next-kept t y x memory
@@ -114,9 +114,9 @@ pixel-kept window Reach t s memory x y u v =
     (s .destination on .separate))
 
 -- one pixel more
-pub more-begun : (window : Range) (Reach : Surface → Type 0) (t : Task) → Clear window Reach t → (memory₀ memory memory′ : List ℕ) (x y : ℕ) →
+pub more-begun : (window : Range) (Reach : Surface → Type 0) (t : Task) → TaskInBounds window Reach t → (memory₀ memory memory′ : List ℕ) (x y : ℕ) →
     x < t .output .width → y < t .output .height → memory ≡ begun t y x memory₀ →
-    memory′ ≡ stored (t .output .format) memory (pixelStart (t .output) x y) (pixelColour t memory x y) → memory′ ≡ begun t y (x + 1) memory₀
+    memory′ ≡ storePixel (t .output .format) memory (pixelStart (t .output) x y) (pixelColour t memory x y) → memory′ ≡ begun t y (x + 1) memory₀
 unfolding begun
 more-begun window Reach t s memory₀ memory memory′ x y u v h m =
     more-stored (t .output .format) (λ x. pixelColour t memory₀ x y) (rowStart (t .output) y) memory₀ memory memory′ x (pixelStart (t .output) x y) (pixelColour t memory x y)

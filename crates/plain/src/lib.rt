@@ -3,7 +3,7 @@
 ghost use mathlib.Core.Path.{_≡_};
 ghost use lib.ListN.{length};
 ghost use Rattle.surface.specs.Surface.{pixelStart};
-ghost use Rattle.surface.specs.Drawn.{stored};
+ghost use Rattle.surface.specs.Drawn.{storePixel};
 ghost use Rattle.raster.specs.Task.{sourceColour, destinationColour, pixelColour, drawTask};
 ghost use Rattle.raster.specs.Row.{drawRow};
 ghost use Rattle.plain.specs.Pixel.{SourcePixel, DestinationPixel, Pixel, Row, Whole};
@@ -61,7 +61,7 @@ fn pixel_colour(memory: &[u8], task: Task, x: u16, y: u16) -> Colour
 // Draws output pixel (x, y).
 fn draw_pixel(memory: &mut [u8], task: Task, x: u16, y: u16)
     requires { ⌜ Pixel (now memory) task x y ⌝ }
-    ensures { λ _. ⌜ now (memory .exit) ≡ stored (task .output .format) (now (memory .entry)) (pixelStart (task .output) x y) (pixelColour task (now (memory .entry)) x y) ⌝ }
+    ensures { λ _. ⌜ now (memory .exit) ≡ storePixel (task .output .format) (now (memory .entry)) (pixelStart (task .output) x y) (pixelColour task (now (memory .entry)) x y) ⌝ }
 {
     let output = task.output;
     let format = output.format;

@@ -8,36 +8,36 @@ use lib.ListN.{length, set}
 use lib.Dec.{leb}
 use borrow.Author.Tests.{leb-true}
 use Rattle.word.proofs.Tests.{and-true}
-use Rattle.text.specs.Line.{Line, pushed, typed}
+use Rattle.text.specs.Line.{Line, pushed, appended}
 use Rattle.text.specs.Decimal.{decimal}
 use Rattle.text.proofs.Typing.{typed-append}
 use Rattle.pixel.specs.declared.colour.Colour.{Colour}
 use Rattle.surface.specs.declared.Surface.{Surface}
 use Rattle.surface.specs.Surface.{rowStart, rowLength}
 use Rattle.surface.proofs.Parts.{none-within, set-within}
-use Rattle.ppm.specs.Picture.{headerOf, shownLength, channelOf, shownByte, hasRoom, shown}
+use Rattle.ppm.specs.Picture.{headerOf, shownLength, channelOf, shownByte, hasRoom, rowShown}
 
 -- one character, and the text after it
-typed-one : (l : Line) (byte : ℕ) (text : List ℕ) → typed l (byte ∷ text) ≡ typed (pushed l byte) text
-unfolding typed
+typed-one : (l : Line) (byte : ℕ) (text : List ℕ) → appended l (byte ∷ text) ≡ appended (pushed l byte) text
+unfolding appended
 typed-one l byte text = refl
 
 pub typed-header : (l : Line) (width height : ℕ) →
-    typed l (headerOf width height)
-    ≡ typed (typed (pushed (typed (typed l (80 ∷ 54 ∷ 10 ∷ [])) (decimal width)) 32) (decimal height)) (10 ∷ 50 ∷ 53 ∷ 53 ∷ 10 ∷ [])
+    appended l (headerOf width height)
+    ≡ appended (appended (pushed (appended (appended l (80 ∷ 54 ∷ 10 ∷ [])) (decimal width)) 32) (decimal height)) (10 ∷ 50 ∷ 53 ∷ 53 ∷ 10 ∷ [])
 unfolding headerOf
 typed-header l width height =
     let end : List ℕ = 10 ∷ 50 ∷ 53 ∷ 53 ∷ 10 ∷ [] in
-    let a : Line = typed l (80 ∷ 54 ∷ 10 ∷ []) in
-    let b : Line = typed a (decimal width) in
+    let a : Line = appended l (80 ∷ 54 ∷ 10 ∷ []) in
+    let b : Line = appended a (decimal width) in
     typed-append l (80 ∷ 54 ∷ 10 ∷ []) (decimal width ++ (32 ∷ (decimal height ++ end)))
     ∙ typed-append a (decimal width) (32 ∷ (decimal height ++ end))
     ∙ typed-one b 32 (decimal height ++ end)
     ∙ typed-append (pushed b 32) (decimal height) end
 
 -- nothing is shown yet
-pub shown-none : (colour : ℕ → Colour) (out : List ℕ) → out ≡ shown colour 0 out
-unfolding shown
+pub shown-none : (colour : ℕ → Colour) (out : List ℕ) → out ≡ rowShown colour 0 out
+unfolding rowShown
 shown-none colour out = none-within 0 _ out
 
 -- byte k of pixel x
@@ -49,9 +49,9 @@ byte-of colour x k j l e =
     rw (q, r)
 
 -- one pixel more
-pub shown-more : (colour : ℕ → Colour) (out₀ out : List ℕ) (x at : ℕ) (c : Colour) → out ≡ shown colour at out₀ → at ≡ 3 * x → c ≡ colour x →
-    set (set (set out at (c .red)) (at + 1) (c .green)) (at + 2) (c .blue) ≡ shown colour (at + 3) out₀
-unfolding shown channelOf
+pub shown-more : (colour : ℕ → Colour) (out₀ out : List ℕ) (x at : ℕ) (c : Colour) → out ≡ rowShown colour at out₀ → at ≡ 3 * x → c ≡ colour x →
+    set (set (set out at (c .red)) (at + 1) (c .green)) (at + 2) (c .blue) ≡ rowShown colour (at + 3) out₀
+unfolding rowShown channelOf
 shown-more colour out₀ out x at c so is e =
     let two : at + 1 + 1 ≡ at + 2 = omega arith in
     let three : at + 2 + 1 ≡ at + 3 = omega arith in

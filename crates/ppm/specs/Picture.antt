@@ -8,8 +8,8 @@ use Rattle.text.specs.Decimal.{decimal}
 use Rattle.pixel.specs.declared.colour.Colour.{Colour}
 use Rattle.surface.specs.declared.Surface.{Surface}
 use Rattle.surface.specs.Surface.{rowStart, rowLength, pixelStart}
-use Rattle.surface.specs.Memory.{mapi, within}
-use Rattle.surface.specs.Drawn.{loaded}
+use Rattle.surface.specs.Memory.{mapi, overwriteRange}
+use Rattle.surface.specs.Drawn.{loadPixel}
 
 -- `P6`, width and height, and the greatest value of a channel, each ended by a line feed
 unfoldable pub headerOf : (width height : ℕ) → List ℕ
@@ -29,7 +29,7 @@ shownByte colour j = channelOf (colour (j / 3)) (j % 3)
 
 -- the colours of row y of a surface in memory
 abbrev pub rowColour : Surface → (memory : List ℕ) → ℕ → ℕ → Colour
-rowColour s memory y x = loaded (s .format) memory (pixelStart s x y)
+rowColour s memory y x = loadPixel (s .format) memory (pixelStart s x y)
 
 -- the row lies in memory, and its picture has room in a buffer
 abbrev pub hasRoom : Surface → (memory : List ℕ) → ℕ → (out : List ℕ) → Bool
@@ -40,5 +40,5 @@ abbrev pub shownSize : Surface → (memory : List ℕ) → ℕ → (out : List �
 shownSize s memory y out = cond (hasRoom s memory y out) (shownLength s) 0
 
 -- a buffer after the first n bytes of a row of pixels in these colours were put at its start; other bytes are as they were
-unfoldable pub shown : (ℕ → Colour) → ℕ → List ℕ → List ℕ
-shown colour n out = mapi (within 0 n (λ (j old : ℕ). shownByte colour j)) out
+unfoldable pub rowShown : (ℕ → Colour) → ℕ → List ℕ → List ℕ
+rowShown colour n out = mapi (overwriteRange 0 n (λ (j old : ℕ). shownByte colour j)) out

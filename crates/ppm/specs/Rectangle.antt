@@ -3,7 +3,7 @@
 use Prim.Native.Nat.{ℕ}
 use mathlib.Core.Bool.{Bool, cond, _&&_}
 use lib.Dec.{leb, ltb}
-use Rattle.range.specs.Range.{runOf, inside}
+use Rattle.range.specs.Range.{rangeOf, containedIn}
 use Rattle.pixel.specs.declared.format.Format.{Format}
 use Rattle.surface.specs.declared.Surface.{Surface}
 use Rattle.surface.specs.Surface.{span, pixelStart}
@@ -20,7 +20,7 @@ abbrev pub surfaceOf : (address stride width height : ℕ) → Format → Surfac
 surfaceOf address stride width height format = record { address = address; stride = stride; width = width; height = height; format = format }
 
 abbrev pub isShown : Surface → Bool
-isShown s = isSide (s .width) && isSide (s .height) && ltb (s .stride) 65536 && inside (span s) (runOf 0 65536)
+isShown s = isSide (s .width) && isSide (s .height) && ltb (s .stride) 65536 && containedIn (span s) (rangeOf 0 65536)
 
 unfoldable pub rectangleOf : (address stride width height : ℕ) → Format → Rectangle
 rectangleOf address stride width height format =

@@ -7,7 +7,7 @@ use lib.Dec.{eqb, leb, ltb}
 use Rattle.pixel.specs.declared.format.Format.{Format}
 use Rattle.pixel.specs.declared.format.Format.the-variants.{Argb8888, Rgb888, Rgb565}
 use Rattle.ppm.specs.declared.words.Number.{Number}
-use Rattle.ppm.specs.declared.words.Number.the-variants.{Value, Wrong}
+use Rattle.ppm.specs.declared.words.Number.the-variants.{Value, Invalid}
 use Rattle.ppm.specs.declared.words.Named.{Named}
 use Rattle.ppm.specs.declared.words.Named.the-variants.{Known, Unknown}
 
@@ -22,26 +22,26 @@ allDigits [] = true
 allDigits (byte ∷ bytes) = isDigit byte && allDigits bytes
 
 -- the number that digits spell, the highest first, after digits that spell `high`
-unfoldable pub spelled : (high : ℕ) → List ℕ → ℕ
-spelled high [] = high
-spelled high (byte ∷ bytes) = spelled (high * 10 + (byte - 48)) bytes
+unfoldable pub decimalValue : (high : ℕ) → List ℕ → ℕ
+decimalValue high [] = high
+decimalValue high (byte ∷ bytes) = decimalValue (high * 10 + (byte - 48)) bytes
 
 -- one digit at least, nothing but digits, and a number of 32 bits
-unfoldable pub numberOf : List ℕ → Number
-numberOf text = cond (ltb 0 (length text) && allDigits text && ltb (spelled 0 text) 4294967296) (Value (spelled 0 text)) Wrong
+unfoldable pub parseNumber : List ℕ → Number
+parseNumber text = cond (ltb 0 (length text) && allDigits text && ltb (decimalValue 0 text) 4294967296) (Value (decimalValue 0 text)) Invalid
 
 -- ---- formats
 
 -- a capital letter as the small one; any other character as it is
-abbrev pub small : ℕ → ℕ
-small byte = cond (leb 65 byte && leb byte 90) (byte + 32) byte
+abbrev pub toLower : ℕ → ℕ
+toLower byte = cond (leb 65 byte && leb byte 90) (byte + 32) byte
 
--- a text is this word of small letters, itself in letters of either kind
-unfoldable pub isWord : (text word : List ℕ) → Bool
-isWord [] [] = true
-isWord [] (w ∷ word) = false
-isWord (t ∷ text) [] = false
-isWord (t ∷ text) (w ∷ word) = eqb (small t) w && isWord text word
+-- equal to this lower-case word, ignoring case
+unfoldable pub equalsIgnoringCase : (text word : List ℕ) → Bool
+equalsIgnoringCase [] [] = true
+equalsIgnoringCase [] (w ∷ word) = false
+equalsIgnoringCase (t ∷ text) [] = false
+equalsIgnoringCase (t ∷ text) (w ∷ word) = eqb (toLower t) w && equalsIgnoringCase text word
 
 -- argb8888, rgb888, rgb565
 abbrev pub nameOf : Format → List ℕ
@@ -51,7 +51,7 @@ nameOf Rgb565 = 114 ∷ 103 ∷ 98 ∷ 53 ∷ 54 ∷ 53 ∷ []
 
 unfoldable pub formatNamed : List ℕ → Named
 formatNamed text =
-    cond (isWord text (nameOf Argb8888)) (Known Argb8888)
-    (cond (isWord text (nameOf Rgb888)) (Known Rgb888)
-    (cond (isWord text (nameOf Rgb565)) (Known Rgb565)
+    cond (equalsIgnoringCase text (nameOf Argb8888)) (Known Argb8888)
+    (cond (equalsIgnoringCase text (nameOf Rgb888)) (Known Rgb888)
+    (cond (equalsIgnoringCase text (nameOf Rgb565)) (Known Rgb565)
     Unknown))

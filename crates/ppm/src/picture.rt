@@ -2,10 +2,10 @@
 ghost use mathlib.Core.Path.{_≡_};
 ghost use Prim.Native.Nat.{ℕ, _+_, _*_, _≤_};
 ghost use lib.ListN.{length, set};
-ghost use Rattle.text.specs.Line.{lineOf, typed};
-ghost use Rattle.pixel.specs.Formats.{bytesOf};
-ghost use Rattle.surface.specs.Drawn.{loaded};
-ghost use Rattle.ppm.specs.Picture.{headerOf, rowColour, shownSize, shown};
+ghost use Rattle.text.specs.Line.{lineOf, appended};
+ghost use Rattle.pixel.specs.Formats.{bytesPerPixel};
+ghost use Rattle.surface.specs.Drawn.{loadPixel};
+ghost use Rattle.ppm.specs.Picture.{headerOf, rowColour, shownSize, rowShown};
 use pixel::Colour;
 use pixel::Format;
 use surface::Surface;
@@ -13,7 +13,7 @@ use text::line;
 
 // Writes the header at the start of a line, and answers its length. What does not fit is dropped: 64 bytes are enough.
 pub fn header(line: &mut [u8], width: u32, height: u32) -> usize
-    ensures { λ r. ⌜ lineOf (now (line .exit)) r ≡ typed (lineOf (now (line .entry)) 0) (headerOf width height) ⌝ }
+    ensures { λ r. ⌜ lineOf (now (line .exit)) r ≡ appended (lineOf (now (line .entry)) 0) (headerOf width height) ⌝ }
 {
     let a = line::copy(line, b"P6\n");
     let b = line::decimal(line, a, width as u64);
@@ -34,8 +34,8 @@ fn put(out: &mut [u8], at: usize, c: Colour)
 
 // Puts the colours of pixels that lie side by side, the first of them at an address, at the start of a buffer.
 fn put_row(memory: &[u8], start: usize, format: Format, width: usize, out: &mut [u8])
-    requires { ⌜ (start + width * bytesOf format ≤ length (now memory)) × (3 * width ≤ length (now out)) ⌝ }
-    ensures { λ _. ⌜ now (out .exit) ≡ shown (λ (x : ℕ). loaded format (now (memory .entry)) (start + x * bytesOf format)) (3 * width) (now (out .entry)) ⌝ }
+    requires { ⌜ (start + width * bytesPerPixel format ≤ length (now memory)) × (3 * width ≤ length (now out)) ⌝ }
+    ensures { λ _. ⌜ now (out .exit) ≡ rowShown (λ (x : ℕ). loadPixel format (now (memory .entry)) (start + x * bytesPerPixel format)) (3 * width) (now (out .entry)) ⌝ }
 {
     let bytes = format.bytes();
     let mut x = 0;
@@ -54,7 +54,7 @@ fn put_row(memory: &[u8], start: usize, format: Format, width: usize, out: &mut 
 // has no room.
 pub fn row(memory: &[u8], s: Surface, y: u16, out: &mut [u8]) -> usize
     ensures { λ r. ⌜ (r ≡ shownSize s (now (memory .entry)) y (now (out .entry)))
-        × (now (out .exit) ≡ shown (rowColour s (now (memory .entry)) y) r (now (out .entry))) ⌝ }
+        × (now (out .exit) ≡ rowShown (rowColour s (now (memory .entry)) y) r (now (out .entry))) ⌝ }
 {
     let width = s.width as usize;
     let format = s.format;

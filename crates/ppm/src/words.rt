@@ -1,12 +1,12 @@
 // What words of a command line mean: numbers, and names of formats.
 ghost use mathlib.Core.Path.{_≡_};
 ghost use Prim.Native.Nat.{_-_};
-ghost use Rattle.ppm.specs.Words.{isDigit, numberOf, small as smallOf, isWord, formatNamed};
+ghost use Rattle.ppm.specs.Words.{isDigit, parseNumber, toLower as smallOf, equalsIgnoringCase, formatNamed};
 use pixel::Format;
 
 pub enum Number {
     Value(u32),
-    Wrong,
+    Invalid,
 }
 
 pub enum Named {
@@ -30,10 +30,10 @@ fn digit_value(byte: u8) -> u64
 // A number in decimal digits. It stops at the first character that is no digit, or as soon as the number is too large, so
 // that no sum wraps, however long the text is.
 pub fn number_of(text: &[u8]) -> Number
-    ensures { λ r. ⌜ r ≡ numberOf (now (text .entry)) ⌝ }
+    ensures { λ r. ⌜ r ≡ parseNumber (now (text .entry)) ⌝ }
 {
     if text.len() == 0 {
-        return Number::Wrong;
+        return Number::Invalid;
     }
     let mut value: u64 = 0;
     let mut i = 0;
@@ -42,7 +42,7 @@ pub fn number_of(text: &[u8]) -> Number
         let next = value * 10 + digit_value(byte);
         let good = is_digit(byte) & (next < 4294967296);
         if !good {
-            return Number::Wrong;
+            return Number::Invalid;
         }
         value = next;
         i += 1;
@@ -61,8 +61,8 @@ fn small(byte: u8) -> u8
 }
 
 // Whether a text is a word of small letters, itself in letters of either kind.
-fn is_word(text: &[u8], word: &[u8]) -> bool
-    ensures { λ r. ⌜ r ≡ isWord (now (text .entry)) (now (word .entry)) ⌝ }
+fn equals_ignoring_case(text: &[u8], word: &[u8]) -> bool
+    ensures { λ r. ⌜ r ≡ equalsIgnoringCase (now (text .entry)) (now (word .entry)) ⌝ }
 {
     if text.len() != word.len() {
         return false;
@@ -80,13 +80,13 @@ fn is_word(text: &[u8], word: &[u8]) -> bool
 pub fn format_named(text: &[u8]) -> Named
     ensures { λ r. ⌜ r ≡ formatNamed (now (text .entry)) ⌝ }
 {
-    if is_word(text, b"argb8888") {
+    if equals_ignoring_case(text, b"argb8888") {
         return Named::Known(Format::Argb8888);
     }
-    if is_word(text, b"rgb888") {
+    if equals_ignoring_case(text, b"rgb888") {
         return Named::Known(Format::Rgb888);
     }
-    if is_word(text, b"rgb565") {
+    if equals_ignoring_case(text, b"rgb565") {
         return Named::Known(Format::Rgb565);
     }
     Named::Unknown

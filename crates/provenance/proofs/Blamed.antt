@@ -10,18 +10,18 @@ use lib.Dec.{eqb}
 use borrow.Author.Tests.{eqb-true}
 use Rattle.word.specs.Word.{words}
 use Rattle.word.proofs.Tests.{and-true}
-use Rattle.register.specs.Bank.{written, resetBank}
+use Rattle.register.specs.Bank.{writeRegister, resetBank}
 use Rattle.register.specs.declared.bank.Bank.{Bank}
 use Rattle.register.specs.declared.bank.Write.the-variants.{Refused}
 use Rattle.register.specs.declared.bank.WriteFault.the-variants.{Forbidden as NotTaken}
 use Rattle.rules.specs.declared.fault.Fault.{Fault}
 use Rattle.rules.specs.declared.fault.Fault.the-variants.{ReservedBits, GroupLength, OpenTask, NotWritable, Forbidden, BadSurface, SizeMismatch, OutOfBounds, Overlap}
 use Rattle.rules.specs.Faults.{faultNumber}
-use Rattle.batch.specs.Batch.{Reading, Ending, finished, faulty, verdictOf, statusOf}
-use Rattle.claims.specs.Way.{boundsOf, numbersOf}
-use Rattle.model.specs.Calls.{Verdict, completed}
+use Rattle.batch.specs.Batch.{DecodedBatch, BatchEnd, finished, faulty, verdictOf, statusWordOf}
+use Rattle.claims.specs.BatchSemantics.{boundsOf, completionStatusOf}
+use Rattle.model.specs.Calls.{CompletionStatus, completed}
 use Rattle.records.specs.Records.{Entry}
-use Rattle.replay.specs.Answered.{refusal, windowOf, verdict, ticketAfter, countAfter}
+use Rattle.replay.specs.Answered.{recordRefusal, replayWindow, verdict, ticketOfCount, countAfter}
 use Rattle.provenance.specs.declared.Detail.{Detail}
 use Rattle.provenance.specs.declared.Detail.the-variants.{Nothing, Register}
 use Rattle.provenance.specs.declared.Explanation.{Explanation}
@@ -48,13 +48,13 @@ module _ (count ticket : ℕ) (entry : Entry) (entries : List Entry) (answer : W
   further : Named (countAfter count entry) ticket entries answer → Named count ticket (entry ∷ entries) answer
   further n = record { entry = n .entry; accepted = accepted-further count ticket entry entries (n .entry) (n .accepted); is = n .is }
 
-  hit : eqb (refusal entry) 0 && eqb (ticketAfter count) ticket ≡ true → (found : Why)
+  hit : eqb (recordRefusal entry) 0 && eqb (ticketOfCount count) ticket ≡ true → (found : Why)
       → Found (explained (words (entry .batch)) (readingOf entry)) (countAfter count entry) ticket entries answer → Found found count ticket (entry ∷ entries) answer
   hit e found (inl same) =
-      let both = and-true (eqb (refusal entry) 0) (eqb (ticketAfter count) ticket) e in
+      let both = and-true (eqb (recordRefusal entry) 0) (eqb (ticketOfCount count) ticket) e in
       inr (record {
         entry = entry;
-        accepted = accepted-here count ticket entry entries (eqb-true (refusal entry) 0 (both .0)) (eqb-true (ticketAfter count) ticket (both .1));
+        accepted = accepted-here count ticket entry entries (eqb-true (recordRefusal entry) 0 (both .0)) (eqb-true (ticketOfCount count) ticket (both .1));
         is = same;
       })
   hit e found (inr n) = inr (further n)
@@ -70,11 +70,11 @@ named : (found : Why) (count ticket : ℕ) (entries : List Entry) → Found foun
 unfolding whyFrom
 named found count ticket [] = inl refl
 named found count ticket (entry ∷ entries) =
-    go (eqb (refusal entry) 0 && eqb (ticketAfter count) ticket) refl
+    go (eqb (recordRefusal entry) 0 && eqb (ticketOfCount count) ticket) refl
     (named (explained (words (entry .batch)) (readingOf entry)) (countAfter count entry) ticket entries)
     (named found (countAfter count entry) ticket entries)
   where
-    go : (b : Bool) → eqb (refusal entry) 0 && eqb (ticketAfter count) ticket ≡ b
+    go : (b : Bool) → eqb (recordRefusal entry) 0 && eqb (ticketOfCount count) ticket ≡ b
         → Found (thisWhy entry) (countAfter count entry) ticket entries (whyFrom (thisWhy entry) (countAfter count entry) ticket entries)
         → Found found (countAfter count entry) ticket entries (whyFrom found (countAfter count entry) ticket entries)
         → Found found count ticket (entry ∷ entries) (whyFrom (cond b (thisWhy entry) found) (countAfter count entry) ticket entries)
@@ -83,18 +83,18 @@ named found count ticket (entry ∷ entries) =
 
 -- ---- what is said of its fault
 
-record Says (ws : List ℕ) (r : Reading) (answer : Explanation) : Type 0 where
+record Says (ws : List ℕ) (r : DecodedBatch) (answer : Explanation) : Type 0 where
   fault : Fault
   ends : r .ending ≡ faulty fault (answer .place)
   number : answer .fault ≡ faultNumber fault
   word : answer .word ≡ getD ws (answer .place / 4) 0
   detail : answer .detail ≡ detailOf fault (registerAt ws (answer .place / 4)) (r .bank)
 
-says : (ws : List ℕ) (r : Reading) (answer : Explanation) → Faulted answer ≡ explained ws r → Says ws r answer
+says : (ws : List ℕ) (r : DecodedBatch) (answer : Explanation) → Faulted answer ≡ explained ws r → Says ws r answer
 unfolding explained
 says ws r answer e = go (r .ending) refl
   where
-    go : (ending : Ending) → r .ending ≡ ending → Says ws r answer
+    go : (ending : BatchEnd) → r .ending ≡ ending → Says ws r answer
     go finished same =
         let wrong : Faulted answer ≡ NoFault = e ∙ ap (explainedBy ws (r .bank)) same in
         absurd (let z : _≡_ {A = ℕ} 0 1 = cc in omega arith)
@@ -117,8 +117,8 @@ register-named Overlap at bank register held e = absurd (let z : _≡_ {A = ℕ}
 
 -- ---- from the start
 
-verdict-says : (r : Reading) (f : Fault) (place number : ℕ) → r .ending ≡ faulty f place → number ≡ faultNumber f
-    → numbersOf (verdictOf r) ≡ record { status = statusOf (verdictOf r); fault = number; offset = place }
+verdict-says : (r : DecodedBatch) (f : Fault) (place number : ℕ) → r .ending ≡ faulty f place → number ≡ faultNumber f
+    → completionStatusOf (verdictOf r) ≡ record { status = statusWordOf (verdictOf r); fault = number; offset = place }
 verdict-says r f place number e n = rw (e, n)
 
 pub blames : (entries : List Entry) (ticket : ℕ) (answer : Explanation) → faultedBy entries ticket ≡ Faulted answer → Blamed entries ticket answer
@@ -130,14 +130,14 @@ blames entries ticket answer e = go (named NoFault 0 ticket entries)
     go (inr n) =
         let a = n .accepted in
         let ws : List ℕ = words (n .entry .batch) in
-        let r : Reading = readingOf (n .entry) in
+        let r : DecodedBatch = readingOf (n .entry) in
         let s = says ws r answer (sym e ∙ n .is) in
         record {
           before = a .before;
           entry = n .entry;
           after = a .after;
           among = a .among;
-          status = statusOf (verdictOf r);
+          status = statusWordOf (verdictOf r);
           completes = completes (a .before) (n .entry) (a .taken)
               ∙ ap (λ (t : ℕ). completed (n .entry .client) t (verdict (n .entry))) (a .with)
               ∙ ap (completed (n .entry .client) ticket) (verdict-says r (s .fault) (answer .place) (answer .fault) (s .ends) (s .number));
@@ -146,6 +146,6 @@ blames entries ticket answer e = go (named NoFault 0 ticket entries)
               let three = register-named (s .fault) (registerAt ws (answer .place / 4)) (r .bank) register held (sym (s .detail) ∙ d) in (
                 three .1,
                 three .2 ∙ ap (heldIn (r .bank)) (sym (three .1)),
-                rw (three .1, s .word) (forbids (boundsOf (windowOf (n .entry .client)) 16384) resetBank ws (answer .place) (s .ends ∙ ap (λ (f : Fault). faulty f (answer .place)) (three .0))),
+                rw (three .1, s .word) (forbids (boundsOf (replayWindow (n .entry .client)) 16384) resetBank ws (answer .place) (s .ends ∙ ap (λ (f : Fault). faulty f (answer .place)) (three .0))),
               );
         }

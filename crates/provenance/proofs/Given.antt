@@ -9,11 +9,11 @@ use lib.Dec.{eqb}
 use borrow.Author.Tests.{eqb-true}
 use Rattle.register.specs.declared.task.Task.{Task}
 use Rattle.batch.specs.Batch.{tasksDrawn}
-use Rattle.claims.specs.Engine.{told}
+use Rattle.claims.specs.Engine.{answerOrRefusal}
 use Rattle.model.specs.Calls.{completed}
 use Rattle.records.specs.Records.{Entry}
-use Rattle.replay.specs.Lines.{starting, served}
-use Rattle.replay.specs.Answered.{refusal, verdict, ticketAfter, countAfter, acceptedFrom, servedAll}
+use Rattle.replay.specs.Lines.{replayStart, submitAndRun}
+use Rattle.replay.specs.Answered.{recordRefusal, verdict, ticketOfCount, countAfter, acceptedFrom, submitAndRunAll}
 use Rattle.replay.proofs.Answered.{promise as answered}
 use Rattle.provenance.specs.Drawn.{Drawn, numbered, readingOf, drawnBy, drawnFrom}
 use Rattle.provenance.specs.Reason.{Given}
@@ -24,11 +24,11 @@ pub record Accepted (count ticket : ℕ) (entries : List Entry) (entry : Entry) 
   pub before : List Entry
   pub after : List Entry
   pub among : entries ≡ before ++ entry ∷ after
-  pub taken : refusal entry ≡ 0
-  pub with : ticketAfter (acceptedFrom count before) ≡ ticket
+  pub taken : recordRefusal entry ≡ 0
+  pub with : ticketOfCount (acceptedFrom count before) ≡ ticket
 
 module _ (count ticket : ℕ) (entry : Entry) (entries : List Entry) where
-  pub accepted-here : refusal entry ≡ 0 → ticketAfter count ≡ ticket → Accepted count ticket (entry ∷ entries) entry
+  pub accepted-here : recordRefusal entry ≡ 0 → ticketOfCount count ≡ ticket → Accepted count ticket (entry ∷ entries) entry
   unfolding acceptedFrom
   accepted-here taken with = record { before = []; after = entries; among = refl; taken = taken; with = with }
 
@@ -44,9 +44,9 @@ module _ (count ticket : ℕ) (entry : Entry) (entries : List Entry) where
   }
 
 -- what the engine answers of a record after others
-pub completes : (before : List Entry) (entry : Entry) → refusal entry ≡ 0
-    → served entry (servedAll before starting) .answer ≡ completed (entry .client) (ticketAfter (acceptedFrom 0 before)) (verdict entry)
-unfolding starting told
+pub completes : (before : List Entry) (entry : Entry) → recordRefusal entry ≡ 0
+    → submitAndRun entry (submitAndRunAll before replayStart) .answer ≡ completed (entry .client) (ticketOfCount (acceptedFrom 0 before)) (verdict entry)
+unfolding replayStart answerOrRefusal
 completes before entry taken =
     answered .each (replicate 32768 0) (replicate 65536 0) (length-replicate {A = ℕ} 32768 0) (length-replicate {A = ℕ} 65536 0) before entry .answers ∙ rw taken
 
@@ -96,7 +96,7 @@ record From (count : ℕ) (entries : List Entry) (d : Drawn) : Type 0 where
   numbers : Numbered (d .ticket) (tasksDrawn (readingOf entry)) d
 
 module _ (count : ℕ) (entry : Entry) (entries : List Entry) where
-  here : refusal entry ≡ 0 → (d : Drawn) → Numbered (ticketAfter count) (tasksDrawn (readingOf entry)) d → From count (entry ∷ entries) d
+  here : recordRefusal entry ≡ 0 → (d : Drawn) → Numbered (ticketOfCount count) (tasksDrawn (readingOf entry)) d → From count (entry ∷ entries) d
   here taken d n = record {
     entry = entry;
     accepted = accepted-here count (d .ticket) entry entries taken (n .ticket-is);
@@ -108,12 +108,12 @@ module _ (count : ℕ) (entry : Entry) (entries : List Entry) where
 
   record-all : All (From count (entry ∷ entries)) (drawnBy count entry)
   unfolding drawnBy
-  record-all = go (eqb (refusal entry) 0) refl
+  record-all = go (eqb (recordRefusal entry) 0) refl
     where
-      go : (b : Bool) → eqb (refusal entry) 0 ≡ b → All (From count (entry ∷ entries)) (cond b (numbered (ticketAfter count) 0 (tasksDrawn (readingOf entry))) [])
+      go : (b : Bool) → eqb (recordRefusal entry) 0 ≡ b → All (From count (entry ∷ entries)) (cond b (numbered (ticketOfCount count) 0 (tasksDrawn (readingOf entry))) [])
       go true e =
-          all-map (Numbered (ticketAfter count) (tasksDrawn (readingOf entry))) (From count (entry ∷ entries)) (here (eqb-true (refusal entry) 0 e))
-          (numbered (ticketAfter count) 0 (tasksDrawn (readingOf entry))) (numbered-all (ticketAfter count) [] (tasksDrawn (readingOf entry)))
+          all-map (Numbered (ticketOfCount count) (tasksDrawn (readingOf entry))) (From count (entry ∷ entries)) (here (eqb-true (recordRefusal entry) 0 e))
+          (numbered (ticketOfCount count) 0 (tasksDrawn (readingOf entry))) (numbered-all (ticketOfCount count) [] (tasksDrawn (readingOf entry)))
       go false e = tt
 
 drawn-all : (count : ℕ) (entries : List Entry) → All (From count entries) (drawnFrom count entries)

@@ -16,11 +16,11 @@ use Rattle.batch.specs.Batch.{tasksDrawn}
 use Rattle.batch.proofs.Tasks.{drawn-sound}
 use Rattle.raster.specs.Task.{drawTasks}
 use Rattle.raster.specs.Batch.{drawBatch}
-use Rattle.claims.specs.Way.{boundsOf}
+use Rattle.claims.specs.BatchSemantics.{boundsOf}
 use Rattle.claims.specs.Engine.{State}
 use Rattle.records.specs.Records.{Entry}
-use Rattle.replay.specs.Lines.{started, starting, served}
-use Rattle.replay.specs.Answered.{refusal, windowOf, ticketAfter, countAfter, drawnAfter, acceptedFrom, servedAll}
+use Rattle.replay.specs.Lines.{engineOpened, replayStart, submitAndRun}
+use Rattle.replay.specs.Answered.{recordRefusal, replayWindow, ticketOfCount, countAfter, drawnAfter, acceptedFrom, submitAndRunAll}
 use Rattle.replay.proofs.Answered.{promise as answered}
 use Rattle.replay.proofs.Serving.{starting-state}
 use Rattle.provenance.specs.declared.Touched.{Touched}
@@ -40,21 +40,21 @@ sound-rows bounds (t ∷ ts) h = (h .0 .rows, sound-rows bounds ts (h .1))
 
 record-rows : (count : ℕ) (entry : Entry) → AllRows (tasksOf (drawnBy count entry))
 unfolding drawnBy tasksOf
-record-rows count entry = go (eqb (refusal entry) 0)
+record-rows count entry = go (eqb (recordRefusal entry) 0)
   where
-    go : (b : Bool) → AllRows (tasksOf (cond b (numbered (ticketAfter count) 0 (tasksDrawn (readingOf entry))) []))
+    go : (b : Bool) → AllRows (tasksOf (cond b (numbered (ticketOfCount count) 0 (tasksDrawn (readingOf entry))) []))
     go true =
-        let bounds = boundsOf (windowOf (entry .client)) 16384 in
+        let bounds = boundsOf (replayWindow (entry .client)) 16384 in
         rw tasks-numbered (sound-rows bounds (tasksDrawn (readingOf entry)) (drawn-sound bounds resetBank (words (entry .batch))))
     go false = tt
 
 -- memory after it
 record-draws : (count : ℕ) (entry : Entry) (memory : List ℕ) → drawnAfter entry memory ≡ drawTasks (tasksOf (drawnBy count entry)) memory
 unfolding drawnBy tasksOf drawBatch drawTasks
-record-draws count entry memory = go (eqb (refusal entry) 0)
+record-draws count entry memory = go (eqb (recordRefusal entry) 0)
   where
-    go : (b : Bool) → cond b (drawBatch (boundsOf (windowOf (entry .client)) 16384) resetBank (words (entry .batch)) memory) memory
-        ≡ drawTasks (tasksOf (cond b (numbered (ticketAfter count) 0 (tasksDrawn (readingOf entry))) [])) memory
+    go : (b : Bool) → cond b (drawBatch (boundsOf (replayWindow (entry .client)) 16384) resetBank (words (entry .batch)) memory) memory
+        ≡ drawTasks (tasksOf (cond b (numbered (ticketOfCount count) 0 (tasksDrawn (readingOf entry))) [])) memory
     go true = rw tasks-numbered
     go false = refl
 
@@ -67,10 +67,10 @@ drawn-rows count (entry ∷ entries) =
     rw tasks-append (rows-append (tasksOf (drawnBy count entry)) (tasksOf (drawnFrom (countAfter count entry) entries)) (record-rows count entry) (drawn-rows (countAfter count entry) entries))
 
 -- one record more
-served-more : (before : List Entry) (entry : Entry) (s : State) → servedAll (before ++ entry ∷ []) s ≡ served entry (servedAll before s) .after
-unfolding servedAll
+served-more : (before : List Entry) (entry : Entry) (s : State) → submitAndRunAll (before ++ entry ∷ []) s ≡ submitAndRun entry (submitAndRunAll before s) .after
+unfolding submitAndRunAll
 served-more [] entry s = refl
-served-more (b ∷ bs) entry s = served-more bs entry (served b s .after)
+served-more (b ∷ bs) entry s = served-more bs entry (submitAndRun b s .after)
 
 accepted-more : (before : List Entry) (entry : Entry) (count : ℕ) → acceptedFrom count (before ++ entry ∷ []) ≡ countAfter (acceptedFrom count before) entry
 unfolding acceptedFrom
@@ -79,19 +79,19 @@ accepted-more (b ∷ bs) entry count = accepted-more bs entry (countAfter count 
 
 module _ (ring memory : List ℕ) (long : length ring ≡ 32768) (size : length memory ≡ 65536) where
   abbrev reached : List Entry → State
-  reached before = servedAll before (started ring memory)
+  reached before = submitAndRunAll before (engineOpened ring memory)
 
-  memory-from : (entries before : List Entry) → servedAll entries (reached before) .memory ≡ drawTasks (tasksOf (drawnFrom (acceptedFrom 0 before) entries)) (reached before .memory)
-  unfolding servedAll drawnFrom tasksOf drawTasks
+  memory-from : (entries before : List Entry) → submitAndRunAll entries (reached before) .memory ≡ drawTasks (tasksOf (drawnFrom (acceptedFrom 0 before) entries)) (reached before .memory)
+  unfolding submitAndRunAll drawnFrom tasksOf drawTasks
   memory-from [] before = refl
   memory-from (entry ∷ entries) before =
       let count : ℕ = acceptedFrom 0 before in
       let now : List Task = tasksOf (drawnBy count entry) in
       let then : List Task = tasksOf (drawnFrom (countAfter count entry) entries) in
-      let next : State = served entry (reached before) .after in
+      let next : State = submitAndRun entry (reached before) .after in
       let one : next .memory ≡ drawTasks now (reached before .memory) = answered .each ring memory long size before entry .draws ∙ record-draws count entry (reached before .memory) in
-      let on : servedAll entries next .memory ≡ drawTasks then (next .memory) =
-      rw (served-more before entry (started ring memory), accepted-more before entry 0) at (memory-from entries (before ++ entry ∷ [])) in
+      let on : submitAndRunAll entries next .memory ≡ drawTasks then (next .memory) =
+      rw (served-more before entry (engineOpened ring memory), accepted-more before entry 0) at (memory-from entries (before ++ entry ∷ [])) in
       on
       ∙ ap (drawTasks then) one
       ∙ sym (draw-append now then (reached before .memory))
@@ -99,8 +99,8 @@ module _ (ring memory : List ℕ) (long : length ring ≡ 32768) (size : length 
 
 -- ---- from the start
 
-engine : (entries : List Entry) → servedAll entries starting .memory ≡ memoryAfter (drawnFrom 0 entries)
-unfolding starting zeros servedAll acceptedFrom
+engine : (entries : List Entry) → submitAndRunAll entries replayStart .memory ≡ memoryAfter (drawnFrom 0 entries)
+unfolding replayStart zeros submitAndRunAll acceptedFrom
 engine entries =
     let zero-ring = length-replicate {A = ℕ} 32768 0 in
     let zero-memory = length-replicate {A = ℕ} 65536 0 in

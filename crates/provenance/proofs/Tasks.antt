@@ -10,7 +10,7 @@ use Rattle.surface.specs.Surface.{InRow}
 use Rattle.register.specs.declared.task.Task.{Task}
 use Rattle.rules.proofs.Sound.{Rows}
 use Rattle.raster.specs.Task.{drawTask, drawTasks}
-use Rattle.raster.specs.Written.{Outside, OutsideAll, outputByte}
+use Rattle.raster.specs.WriteFrame.{OutsideRows, OutsideAllRows, outputByte}
 use Rattle.raster.proofs.Judged.{rectangle}
 use Rattle.raster.proofs.Outside.{length-tasks, outside-task, inside-task}
 use Rattle.provenance.specs.declared.Touched.{Touched}
@@ -49,7 +49,7 @@ rows-split : (xs ys : List Task) → AllRows (xs ++ ys) → AllRows ys
 rows-split [] ys h = h
 rows-split (x ∷ xs) ys h = rows-split xs ys (h .1)
 
-stays-outside : (ts : List Task) → AllRows ts → (memory : List ℕ) (i : ℕ) → OutsideAll ts i → getD (drawTasks ts memory) i 0 ≡ getD memory i 0
+stays-outside : (ts : List Task) → AllRows ts → (memory : List ℕ) (i : ℕ) → OutsideAllRows ts i → getD (drawTasks ts memory) i 0 ≡ getD memory i 0
 unfolding drawTasks
 stays-outside [] h memory i out = refl
 stays-outside (t ∷ ts) h memory i out =
@@ -66,11 +66,11 @@ pub record LastOf (i : ℕ) (ds : List Drawn) (answer : Touched) : Type 0 where
   pub row : ℕ
   pub place : ℕ
   pub held : InRow (drawn .task .output) i row place
-  pub later : OutsideAll (tasksOf after) i
+  pub later : OutsideAllRows (tasksOf after) i
 
 -- none of them, and the answer is the one before; or the last
 abbrev pub Last : (found : Touched) (i : ℕ) → List Drawn → (answer : Touched) → Type 0
-Last found i ds answer = ((answer ≡ found) × OutsideAll (tasksOf ds) i) ⊎ LastOf i ds answer
+Last found i ds answer = ((answer ≡ found) × OutsideAllRows (tasksOf ds) i) ⊎ LastOf i ds answer
 
 -- one more in front
 module _ (i : ℕ) (d : Drawn) (ds : List Drawn) (answer : Touched) where
@@ -101,7 +101,7 @@ module _ (i : ℕ) (d : Drawn) (ds : List Drawn) (answer : Touched) where
   })
   hit e found (inr l) = inr (further l)
 
-  miss : Outside (d .task) i → (found : Touched) → Last found i ds answer → Last found i (d ∷ ds) answer
+  miss : OutsideRows (d .task) i → (found : Touched) → Last found i ds answer → Last found i (d ∷ ds) answer
   unfolding tasksOf
   miss out found (inl none) = inl (none .0, (out, none .1))
   miss out found (inr l) = inr (further l)
@@ -131,7 +131,7 @@ module _ (before after : List Drawn) (d : Drawn) (h : AllRows (tasksOf (before +
   writes i y j l r = inside-task (d .task) found (rectangle (d .task .output) (rows-from .0)) i y j (rw (length-tasks (tasksOf before) memory) l) r
 
   -- and no later one writes this byte
-  pub keeps : (i y j : ℕ) → i < length memory → InRow (d .task .output) i y j → OutsideAll (tasksOf after) i
+  pub keeps : (i y j : ℕ) → i < length memory → InRow (d .task .output) i y j → OutsideAllRows (tasksOf after) i
       → getD (drawTasks (tasksOf (before ++ d ∷ after)) memory) i 0 ≡ outputByte (d .task) found y j
   unfolding drawTasks tasksOf
   keeps i y j l r out =
@@ -140,5 +140,5 @@ module _ (before after : List Drawn) (d : Drawn) (h : AllRows (tasksOf (before +
       ∙ stays-outside (tasksOf after) (rows-from .1) (drawTask (d .task) found) i out
       ∙ writes i y j l r
 
-pub untouched : (ds : List Drawn) → AllRows (tasksOf ds) → (memory : List ℕ) (i : ℕ) → OutsideAll (tasksOf ds) i → getD (drawTasks (tasksOf ds) memory) i 0 ≡ getD memory i 0
+pub untouched : (ds : List Drawn) → AllRows (tasksOf ds) → (memory : List ℕ) (i : ℕ) → OutsideAllRows (tasksOf ds) i → getD (drawTasks (tasksOf ds) memory) i 0 ≡ getD memory i 0
 untouched ds h memory i out = stays-outside (tasksOf ds) h memory i out

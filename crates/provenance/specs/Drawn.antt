@@ -7,10 +7,10 @@ use lib.Dec.{eqb}
 use Rattle.word.specs.Word.{words}
 use Rattle.register.specs.Bank.{resetBank}
 use Rattle.register.specs.declared.task.Task.{Task}
-use Rattle.batch.specs.Batch.{Reading, readBatch, tasksDrawn}
-use Rattle.claims.specs.Way.{boundsOf}
+use Rattle.batch.specs.Batch.{DecodedBatch, decodeBatch, tasksDrawn}
+use Rattle.claims.specs.BatchSemantics.{boundsOf}
 use Rattle.records.specs.Records.{Entry}
-use Rattle.replay.specs.Answered.{refusal, windowOf, ticketAfter, countAfter}
+use Rattle.replay.specs.Answered.{recordRefusal, replayWindow, ticketOfCount, countAfter}
 
 -- a task, with the ticket of its batch and its number there
 pub record Drawn : Type 0 where
@@ -24,12 +24,12 @@ numbered ticket number [] = []
 numbered ticket number (t ∷ ts) = record { ticket = ticket; number = number; task = t } ∷ numbered ticket (number + 1) ts
 
 -- what a record's batch says in its own client's window
-abbrev pub readingOf : Entry → Reading
-readingOf entry = readBatch (boundsOf (windowOf (entry .client)) 16384) resetBank (words (entry .batch))
+abbrev pub readingOf : Entry → DecodedBatch
+readingOf entry = decodeBatch (boundsOf (replayWindow (entry .client)) 16384) resetBank (words (entry .batch))
 
 -- the tasks that a record draws, so many records having been accepted before it; a refused one draws nothing
 unfoldable pub drawnBy : (count : ℕ) → Entry → List Drawn
-drawnBy count entry = cond (eqb (refusal entry) 0) (numbered (ticketAfter count) 0 (tasksDrawn (readingOf entry))) []
+drawnBy count entry = cond (eqb (recordRefusal entry) 0) (numbered (ticketOfCount count) 0 (tasksDrawn (readingOf entry))) []
 
 unfoldable pub drawnFrom : (count : ℕ) → List Entry → List Drawn
 drawnFrom count [] = []

@@ -12,9 +12,9 @@ use Rattle.register.specs.declared.bank.Bank.{Bank}
 use Rattle.rules.specs.declared.fault.Fault.{Fault}
 use Rattle.rules.specs.declared.fault.Fault.the-variants.{ReservedBits, GroupLength, OpenTask, NotWritable, Forbidden, BadSurface, SizeMismatch, OutOfBounds, Overlap}
 use Rattle.rules.specs.Faults.{faultNumber}
-use Rattle.batch.specs.Batch.{Reading, Ending, finished, faulty}
+use Rattle.batch.specs.Batch.{DecodedBatch, BatchEnd, finished, faulty}
 use Rattle.records.specs.Records.{Entry}
-use Rattle.replay.specs.Answered.{refusal, ticketAfter, countAfter}
+use Rattle.replay.specs.Answered.{recordRefusal, ticketOfCount, countAfter}
 use Rattle.provenance.specs.declared.Group.{Group}
 use Rattle.provenance.specs.declared.Detail.{Detail}
 use Rattle.provenance.specs.declared.Detail.the-variants.{Nothing, Register}
@@ -70,7 +70,7 @@ detailOf OutOfBounds register bank = Nothing
 detailOf Overlap register bank = Nothing
 
 -- a batch of these words that ended so, with this bank
-abbrev pub explainedBy : List ℕ → Bank → Ending → Why
+abbrev pub explainedBy : List ℕ → Bank → BatchEnd → Why
 explainedBy ws bank finished = NoFault
 explainedBy ws bank (faulty fault place) = Faulted (record {
   fault = faultNumber fault;
@@ -79,7 +79,7 @@ explainedBy ws bank (faulty fault place) = Faulted (record {
   detail = detailOf fault (registerAt ws (place / 4)) bank;
 })
 
-unfoldable pub explained : List ℕ → Reading → Why
+unfoldable pub explained : List ℕ → DecodedBatch → Why
 explained ws reading = explainedBy ws (reading .bank) (reading .ending)
 
 -- of the record that was accepted with this ticket
@@ -87,7 +87,7 @@ unfoldable pub whyFrom : Why → (count ticket : ℕ) → List Entry → Why
 whyFrom found count ticket [] = found
 whyFrom found count ticket (entry ∷ entries) =
     whyFrom
-    (cond (eqb (refusal entry) 0 && eqb (ticketAfter count) ticket) (explained (words (entry .batch)) (readingOf entry)) found)
+    (cond (eqb (recordRefusal entry) 0 && eqb (ticketOfCount count) ticket) (explained (words (entry .batch)) (readingOf entry)) found)
     (countAfter count entry)
     ticket
     entries

@@ -6,17 +6,17 @@ use Prim.Native.Nat.{ℕ, _<_, _/_}
 use lib.ListN.{length, getD, replicate}
 use Rattle.word.specs.Word.{words}
 use Rattle.surface.specs.Surface.{InRow}
-use Rattle.register.specs.Bank.{written}
+use Rattle.register.specs.Bank.{writeRegister}
 use Rattle.register.specs.declared.bank.Write.the-variants.{Refused}
 use Rattle.register.specs.declared.bank.WriteFault.the-variants.{Forbidden as NotTaken}
 use Rattle.register.specs.declared.task.Task.{Task}
 use Rattle.batch.specs.Batch.{tasksDrawn}
 use Rattle.raster.specs.Task.{drawTask, drawTasks}
-use Rattle.raster.specs.Written.{OutsideAll, outputByte}
+use Rattle.raster.specs.WriteFrame.{OutsideAllRows, outputByte}
 use Rattle.records.specs.Records.{Entry}
 use Rattle.model.specs.Calls.{completed}
-use Rattle.replay.specs.Lines.{starting, served}
-use Rattle.replay.specs.Answered.{verdict, servedAll}
+use Rattle.replay.specs.Lines.{replayStart, submitAndRun}
+use Rattle.replay.specs.Answered.{verdict, submitAndRunAll}
 use Rattle.provenance.specs.declared.Detail.the-variants.{Register}
 use Rattle.provenance.specs.declared.Explanation.{Explanation}
 use Rattle.provenance.specs.declared.Why.the-variants.{Faulted}
@@ -37,7 +37,7 @@ memoryAfter ds = drawTasks (tasksOf ds) zeros
 
 -- byte i of memory after the engine submitted and ran these records
 abbrev pub byteAfter : List Entry → ℕ → ℕ
-byteAfter entries i = getD (servedAll entries starting .memory) i 0
+byteAfter entries i = getD (submitAndRunAll entries replayStart .memory) i 0
 
 -- the batch of a drawn task: the engine completed it with this ticket, and this is the task's number there
 pub record Given (entries : List Entry) (drawn : Drawn) : Type 0 where
@@ -45,7 +45,7 @@ pub record Given (entries : List Entry) (drawn : Drawn) : Type 0 where
   pub entry : Entry
   pub after : List Entry
   pub among : entries ≡ before ++ entry ∷ after
-  pub completes : served entry (servedAll before starting) .answer ≡ completed (entry .client) (drawn .ticket) (verdict entry)
+  pub completes : submitAndRun entry (submitAndRunAll before replayStart) .answer ≡ completed (entry .client) (drawn .ticket) (verdict entry)
   pub earlier : List Task
   pub later : List Task
   pub tasks : tasksDrawn (readingOf entry) ≡ earlier ++ drawn .task ∷ later
@@ -65,13 +65,13 @@ pub record Wrote (entries : List Entry) (i : ℕ) (answer : Touch) : Type 0 wher
   -- it did write the byte: that of its pixel, computed from the memory before it
   pub wrote : getD (drawTask (drawn .task) (memoryAfter before)) i 0 ≡ outputByte (drawn .task) (memoryAfter before) row place
   -- no later one did
-  pub later : OutsideAll (tasksOf after) i
+  pub later : OutsideAllRows (tasksOf after) i
   -- so the byte at the end is that one
   pub stays : byteAfter entries i ≡ outputByte (drawn .task) (memoryAfter before) row place
 
 -- no task of these records drew byte i: it is as at the start
 pub record Untouched (entries : List Entry) (i : ℕ) : Type 0 where
-  pub outside : OutsideAll (tasksOf (drawnFrom 0 entries)) i
+  pub outside : OutsideAllRows (tasksOf (drawnFrom 0 entries)) i
   pub zero : byteAfter entries i ≡ 0
 
 -- what an answer says
@@ -87,15 +87,15 @@ pub record Blamed (entries : List Entry) (ticket : ℕ) (answer : Explanation) :
   pub among : entries ≡ before ++ entry ∷ after
   -- the engine's run answered this ticket, this fault and this place
   pub status : ℕ
-  pub completes : served entry (servedAll before starting) .answer ≡ completed (entry .client) ticket (record { status = status; fault = answer .fault; offset = answer .place })
+  pub completes : submitAndRun entry (submitAndRunAll before replayStart) .answer ≡ completed (entry .client) ticket (record { status = status; fault = answer .fault; offset = answer .place })
   pub word : answer .word ≡ getD (words (entry .batch)) (answer .place / 4) 0
   -- 24: this is the register that the word is for, this is what it held, and it does not take the word
   pub refuses : (register held : ℕ) → answer .detail ≡ Register register held
-      → (register ≡ registerAt (words (entry .batch)) (answer .place / 4)) × (held ≡ heldIn (readingOf entry .bank) register) × (written (readingOf entry .bank) register (answer .word) ≡ Refused NotTaken)
+      → (register ≡ registerAt (words (entry .batch)) (answer .place / 4)) × (held ≡ heldIn (readingOf entry .bank) register) × (writeRegister (readingOf entry .bank) register (answer .word) ≡ Refused NotTaken)
 
 pub record Promise : Type 0 where
   -- the engine draws just these tasks, record for record
-  pub engine : (entries : List Entry) → servedAll entries starting .memory ≡ memoryAfter (drawnFrom 0 entries)
+  pub engine : (entries : List Entry) → submitAndRunAll entries replayStart .memory ≡ memoryAfter (drawnFrom 0 entries)
   -- the reason is true
   pub reason : (entries : List Entry) (i : ℕ) → i < 65536 → True entries i (touchedBy entries i)
   pub blames : (entries : List Entry) (ticket : ℕ) (answer : Explanation) → faultedBy entries ticket ≡ Faulted answer → Blamed entries ticket answer

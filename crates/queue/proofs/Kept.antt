@@ -14,15 +14,15 @@ use Rattle.record.specs.declared.Setup.{Setup}
 use Rattle.record.specs.declared.Window.{Window}
 use Rattle.record.specs.declared.Client.{Client}
 use Rattle.record.specs.declared.Record.{Record}
-use Rattle.record.specs.Slots.{ready, sum, total, countOf}
-use Rattle.record.specs.Tickets.{lastGiven, inOrder}
-use Rattle.record.specs.Clients.{openClients, openWindows, windowsOf, noneBad, countsRight}
+use Rattle.record.specs.Slots.{readyBatches, sumOver, totalLength, countOf}
+use Rattle.record.specs.Tickets.{ticketsConsecutive, inTicketOrder}
+use Rattle.record.specs.Clients.{openClients, openWindows, windowsOf, windowsValid, pendingCountsMatch}
 use Rattle.record.specs.Queue.{takenSlots, waiting}
-use Rattle.record.specs.Rules.{ringRule, memoryRule, clientsRule, readRule, numberRules, windowsRule, ticketsRule, endToEnd, endToEndRule, lengthsAllowed, lengthsRule, ofOpen, ownersRule, pendingRule, valid}
+use Rattle.record.specs.Rules.{ringRule, memoryRule, clientsRule, readRule, numberRules, windowsRule, ticketsRule, endToEnd, endToEndRule, lengthsAllowed, lengthsRule, clientsOpen, ownersRule, pendingRule, valid}
 use Rattle.record.proofs.Slots.{ready-most}
 use Rattle.record.proofs.Opened.{windows-snoc, none-snoc, open-more, open-none, counts-snoc}
 use Rattle.record.proofs.Rules.{ring-good, Valid, valid-facts, valid-made, numbers-kept, sum-waiting}
-use Rattle.queue.specs.Calls.{fresh, withClient}
+use Rattle.queue.specs.Calls.{initialRecord, withClient}
 use Rattle.queue.proofs.Calls.{noSetup}
 use Rattle.queue.proofs.Refusals.{SetUpAllowed, OpenAllowed}
 
@@ -37,24 +37,24 @@ few-taken engine s = omega (arith, ready-most (engine .slots), s .slots)
 
 -- ---- set up
 
-pub fresh-sized : (setup : Setup) → Sized (fresh setup)
-unfolding fresh
+pub fresh-sized : (setup : Setup) → Sized (initialRecord setup)
+unfolding initialRecord
 fresh-sized setup = record { clients = refl; slots = refl; next = omega arith }
 
-pub fresh-valid : (setup : Setup) → SetUpAllowed setup → valid (fresh setup) ≡ true
-unfolding fresh valid windowsOf noneBad ready sum lastGiven inOrder endToEnd lengthsAllowed ofOpen countsRight
+pub fresh-valid : (setup : Setup) → SetUpAllowed setup → valid (initialRecord setup) ≡ true
+unfolding initialRecord valid windowsOf windowsValid readyBatches sumOver ticketsConsecutive inTicketOrder endToEnd lengthsAllowed clientsOpen pendingCountsMatch
 fresh-valid setup a =
     let good = ring-good setup (a .ring) in
     rw (a .ring, a .memory, lt-ltb 0 (setup .ring) (good .some), le-leb 0 (setup .ring) (omega arith))
 
 -- a refused set up hands out a record that every call refuses
-pub no-engine : valid (fresh noSetup) ≡ false
-unfolding fresh valid
+pub no-engine : valid (initialRecord noSetup) ≡ false
+unfolding initialRecord valid
 no-engine = refl
 
 -- nothing waits in it
-pub fresh-waiting : (setup : Setup) → waiting (fresh setup) ≡ []
-unfolding fresh ready inOrder
+pub fresh-waiting : (setup : Setup) → waiting (initialRecord setup) ≡ []
+unfolding initialRecord readyBatches inTicketOrder
 fresh-waiting setup = refl
 
 -- ---- open
@@ -88,20 +88,20 @@ module _ (engine : Record) (w : Window) (s : Sized engine) where
       let y = and-true (ringRule engine && memoryRule engine) (clientsRule engine) (x .0) in
       rw (y .0, le-leb (engine .opened + 1) 4 (omega (arith, a .few)), x .1)
 
-  owner-rule : ofOpen engine (waiting engine) ≡ true → ownersRule (withClient engine w) ≡ true
+  owner-rule : clientsOpen engine (waiting engine) ≡ true → ownersRule (withClient engine w) ≡ true
   unfolding withClient
   owner-rule e = open-more engine (withClient engine w) (waiting engine) (omega arith) e
 
-  window-rule : noneBad (engine .setup) (openWindows (withClient engine w)) ≡ true → windowsRule (withClient engine w) ≡ true
+  window-rule : windowsValid (engine .setup) (openWindows (withClient engine w)) ≡ true → windowsRule (withClient engine w) ≡ true
   unfolding withClient
   window-rule e = e
 
-  count-rule : countsRight 0 (openClients (withClient engine w)) (ready (engine .slots)) ≡ true → pendingRule (withClient engine w) ≡ true
+  count-rule : pendingCountsMatch 0 (openClients (withClient engine w)) (readyBatches (engine .slots)) ≡ true → pendingRule (withClient engine w) ≡ true
   unfolding withClient
   count-rule e = e
 
   batch-rules : Valid engine → (ticketsRule (withClient engine w) ≡ true) × (endToEndRule (withClient engine w) ≡ true) × (lengthsRule (withClient engine w) ≡ true)
-      × (total (waiting (withClient engine w)) ≤ withClient engine w .setup .ring)
+      × (totalLength (waiting (withClient engine w)) ≤ withClient engine w .setup .ring)
   unfolding withClient
   batch-rules v = (v .given, v .ends, v .lengths, v .within)
 
@@ -110,11 +110,11 @@ module _ (engine : Record) (w : Window) (s : Sized engine) where
       let v = valid-facts engine (a .ok) in
       let b = batch-rules v in
       let long : length (openClients engine) ≡ engine .opened = length-take-le (engine .opened) (engine .clients) (omega (arith, a .few, s .clients)) in
-      let none : countOf (engine .opened) (ready (engine .slots)) ≡ 0 =
+      let none : countOf (engine .opened) (readyBatches (engine .slots)) ≡ 0 =
       sum-waiting engine v (few-taken engine s) (λ b. cond (eqb (b .client) (engine .opened)) 1 0) ∙ open-none engine (engine .opened) (waiting engine) (omega arith) (v .owners)
       in
       let z : 0 + length (openClients engine) ≡ engine .opened = omega arith in
-      let counts = counts-snoc 0 (openClients engine) (record { window = w; pending = 0 }) (ready (engine .slots)) (v .counts) (sym (ap (λ (x : ℕ). countOf x (ready (engine .slots))) z ∙ none)) in
+      let counts = counts-snoc 0 (openClients engine) (record { window = w; pending = 0 }) (readyBatches (engine .slots)) (v .counts) (sym (ap (λ (x : ℕ). countOf x (readyBatches (engine .slots))) z ∙ none)) in
       valid-made (withClient engine w)
       (number-rules a)
       (window-rule (rw (open-windows (a .few)) (none-snoc (engine .setup) (openWindows engine) w (v .windows) (a .good))))

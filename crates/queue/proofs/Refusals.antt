@@ -13,20 +13,20 @@ use Rattle.record.specs.Setup.{badRing, badMemory, badLength}
 use Rattle.record.specs.Clients.{isOpen, openWindows, badWindow}
 use Rattle.record.specs.Queue.{takenSlots, freeBytes}
 use Rattle.record.specs.Rules.{valid}
-use Rattle.queue.specs.Refusals.{Row, _when_, firstOf, setUpTable, openTable, submitTable, pendingTable}
+use Rattle.queue.specs.Refusals.{RefusalRow, _when_, firstRefusal, setUpTable, openTable, submitTable, pendingTable}
 
 -- a record that breaks a rule
-pub eleven : (rows : List Row) (v : Bool) → v ≡ false → 11 ≡ firstOf (11 when not v ∷ rows)
-unfolding firstOf
+pub eleven : (rows : List RefusalRow) (v : Bool) → v ≡ false → 11 ≡ firstRefusal (11 when not v ∷ rows)
+unfolding firstRefusal
 eleven rows v e = rw e
 
 -- no row holds
-abbrev pub Clear : List Row → Type 0
+abbrev pub Clear : List RefusalRow → Type 0
 Clear [] = Unit {0}
 Clear ((n when t) ∷ rows) = 0 < n → (t ≡ false) × Clear rows
 
-pub clear : (rows : List Row) → firstOf rows ≡ 0 → Clear rows
-unfolding firstOf
+pub clear : (rows : List RefusalRow) → firstRefusal rows ≡ 0 → Clear rows
+unfolding firstRefusal
 clear [] e = tt
 clear ((n when true) ∷ rows) e = λ p. absurd (omega arith)
 clear ((n when false) ∷ rows) e = λ p. (refl, clear rows e)
@@ -35,7 +35,7 @@ pub record SetUpAllowed (setup : Setup) : Type 0 where
   pub ring : badRing setup ≡ false
   pub memory : badMemory setup ≡ false
 
-pub set-up-allowed : (setup : Setup) → firstOf (setUpTable setup) ≡ 0 → SetUpAllowed setup
+pub set-up-allowed : (setup : Setup) → firstRefusal (setUpTable setup) ≡ 0 → SetUpAllowed setup
 set-up-allowed setup e =
     let one = clear (setUpTable setup) e (omega arith) in
     record { ring = one .0; memory = one .1 (omega arith) .0 }
@@ -45,7 +45,7 @@ pub record OpenAllowed (engine : Record) (w : Window) : Type 0 where
   pub few : engine .opened < 4
   pub good : badWindow (engine .setup) (openWindows engine) w ≡ false
 
-pub open-allowed : (engine : Record) (w : Window) → firstOf (openTable engine w) ≡ 0 → OpenAllowed engine w
+pub open-allowed : (engine : Record) (w : Window) → firstRefusal (openTable engine w) ≡ 0 → OpenAllowed engine w
 open-allowed engine w e =
     let first = clear (openTable engine w) e (omega arith) in
     let three = first .1 (omega arith) in
@@ -59,7 +59,7 @@ pub record SubmitAllowed (engine : Record) (given client size : ℕ) : Type 0 wh
   pub slot : takenSlots engine < 8
   pub room : size ≤ freeBytes engine
 
-pub submit-allowed : (engine : Record) (given client size : ℕ) → firstOf (submitTable engine given client size) ≡ 0 → SubmitAllowed engine given client size
+pub submit-allowed : (engine : Record) (given client size : ℕ) → firstRefusal (submitTable engine given client size) ≡ 0 → SubmitAllowed engine given client size
 submit-allowed engine given client size e =
     let first = clear (submitTable engine given client size) e (omega arith) in
     let ten = first .1 (omega arith) in
@@ -79,7 +79,7 @@ pub record PendingAllowed (engine : Record) (client : ℕ) : Type 0 where
   pub ok : valid engine ≡ true
   pub owner : isOpen engine client ≡ true
 
-pub pending-allowed : (engine : Record) (client : ℕ) → firstOf (pendingTable engine client) ≡ 0 → PendingAllowed engine client
+pub pending-allowed : (engine : Record) (client : ℕ) → firstRefusal (pendingTable engine client) ≡ 0 → PendingAllowed engine client
 pending-allowed engine client e =
     let first = clear (pendingTable engine client) e (omega arith) in
     record { ok = not-false (valid engine) (first .0); owner = not-false (isOpen engine client) (first .1 (omega arith) .0) }

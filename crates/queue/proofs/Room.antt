@@ -7,10 +7,10 @@ use native.Mathlib.Omega.{arith}
 use lib.ListN.{length, length-take}
 use lib.Seq.{getD-take}
 use borrow.Author.Tests.{ltb-true}
-use Rattle.ring.specs.Segment.{Lies}
+use Rattle.ring.specs.Segment.{LiesInRing}
 use Rattle.ring.proofs.Segment.{lies-wrapped}
 use Rattle.record.specs.declared.Record.{Record}
-use Rattle.record.specs.Slots.{ready, countOf}
+use Rattle.record.specs.Slots.{readyBatches, countOf}
 use Rattle.record.specs.Clients.{isOpen, noClient, openClients, clientAt}
 use Rattle.record.specs.Queue.{takenSlots, takenBytes, writeOffset}
 use Rattle.record.specs.Rules.{valid}
@@ -38,18 +38,18 @@ module _ (engine : Record) (ok : valid engine ≡ true) where
     pub pending-small : clientAt engine client .pending ≤ takenSlots engine
     pending-small =
         rw (getD-take (engine .opened) (engine .clients) client noClient (ltb-true client (engine .opened) owner)) at
-        (counts-small 0 client (openClients engine) (ready (engine .slots)) (facts .counts))
+        (counts-small 0 client (openClients engine) (readyBatches (engine .slots)) (facts .counts))
 
     -- an open client's count is that of its ready batches
-    pub pending-right : length (engine .clients) ≡ 4 → clientAt engine client .pending ≡ countOf client (ready (engine .slots))
+    pub pending-right : length (engine .clients) ≡ 4 → clientAt engine client .pending ≡ countOf client (readyBatches (engine .slots))
     pending-right long =
         let below = ltb-true client (engine .opened) owner in
         let z : 0 + client ≡ client = omega arith in
         rw (getD-take (engine .opened) (engine .clients) client noClient below, z) at
-        (counts-at 0 client (openClients engine) (ready (engine .slots)) (facts .counts) (simp length-take (omega (arith, facts .numbers .clients))))
+        (counts-at 0 client (openClients engine) (readyBatches (engine .slots)) (facts .counts) (simp length-take (omega (arith, facts .numbers .clients))))
 
 -- a batch that is accepted lies in the ring
-pub submit-lies : (engine : Record) (ring : List ℕ) (client size : ℕ) → SubmitAllowed engine (length ring) client size → Lies ring (writeOffset engine) size
+pub submit-lies : (engine : Record) (ring : List ℕ) (client size : ℕ) → SubmitAllowed engine (length ring) client size → LiesInRing ring (writeOffset engine) size
 submit-lies engine ring client size a =
     let v = valid-facts engine (a .ok) in
     let t = taken-within engine v (omega (arith, a .slot)) in

@@ -4,12 +4,12 @@ use Rattle.queue.specs.declared.Answer.{Answer}
 use Rattle.queue.specs.declared.Answer.the-variants.{Refused, Set, Opened, Accepted, Ready}
 
 -- the refusal's number, 0 if the call was not refused
-abbrev pub numberOf : Answer → ℕ
-numberOf (Refused number) = number
-numberOf Set = 0
-numberOf (Opened client) = 0
-numberOf (Accepted ticket) = 0
-numberOf (Ready count) = 0
+abbrev pub refusalNumberOf : Answer → ℕ
+refusalNumberOf (Refused number) = number
+refusalNumberOf Set = 0
+refusalNumberOf (Opened client) = 0
+refusalNumberOf (Accepted ticket) = 0
+refusalNumberOf (Ready count) = 0
 
 -- what else is answered: by open the client's id, by submit the ticket, by pending the number of the client's ready batches. "A refusal
 -- gives only its number."
@@ -21,6 +21,6 @@ valueOf (Accepted ticket) = ticket
 valueOf (Ready count) = count
 
 -- with a refusal number, 0 for none: the refusal, or else the answer
-unfoldable pub answered : (number : ℕ) → Answer → Answer
-answered zero otherwise = otherwise
-answered (suc n) otherwise = Refused (suc n)
+unfoldable pub answerUnlessRefused : (number : ℕ) → Answer → Answer
+answerUnlessRefused zero otherwise = otherwise
+answerUnlessRefused (suc n) otherwise = Refused (suc n)

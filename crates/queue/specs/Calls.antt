@@ -3,32 +3,32 @@
 use mathlib.Core.List.{List, [], _∷_}
 use Prim.Native.Nat.{ℕ, zero, suc, _+_}
 use lib.ListN.{length, getD, set}
-use Rattle.ring.specs.Copied.{copied}
+use Rattle.ring.specs.Copied.{copiedIn}
 use Rattle.record.specs.declared.Setup.{Setup}
 use Rattle.record.specs.declared.Window.{Window}
 use Rattle.record.specs.declared.Client.{Client}
 use Rattle.record.specs.declared.Batch.{Batch}
 use Rattle.record.specs.declared.Record.{Record}
-use Rattle.record.specs.Slots.{free, readyWith, ready, countOf, lowestFree}
+use Rattle.record.specs.Slots.{free, readyWith, readyBatches, countOf, lowestFree}
 use Rattle.record.specs.Tickets.{ticketAfter}
 use Rattle.record.specs.Clients.{noClient}
 use Rattle.record.specs.Queue.{writeOffset}
 use Rattle.queue.specs.declared.Answer.{Answer}
 use Rattle.queue.specs.declared.Answer.the-variants.{Set, Opened, Accepted, Ready}
 use Rattle.queue.specs.declared.Reply.{Reply}
-use Rattle.queue.specs.Answers.{answered}
-use Rattle.queue.specs.Refusals.{firstOf, setUpTable, openTable, submitTable, pendingTable}
+use Rattle.queue.specs.Answers.{answerUnlessRefused}
+use Rattle.queue.specs.Refusals.{firstRefusal, setUpTable, openTable, submitTable, pendingTable}
 
 -- a refusal number, 0 for none: what was there, or else what comes of the call
-unfoldable pub unless : {A : Type 0} → (number : ℕ) → A → A → A
-unless zero before after = after
-unless (suc n) before after = before
+unfoldable pub unlessRefused : {A : Type 0} → (number : ℕ) → A → A → A
+unlessRefused zero before after = after
+unlessRefused (suc n) before after = before
 
 -- ---- set up
 
 -- "The read offset starts at 0"; no client is open, no slot is ready, and the first ticket is 0
-unfoldable pub fresh : Setup → Record
-fresh setup = record {
+unfoldable pub initialRecord : Setup → Record
+initialRecord setup = record {
   setup = setup;
   clients = noClient ∷ noClient ∷ noClient ∷ noClient ∷ [];
   opened = 0;
@@ -38,11 +38,11 @@ fresh setup = record {
 }
 
 -- a refused set up hands out a record of no engine, which breaks the first rule
-unfoldable pub setUp : (ring memory common : ℕ) → Reply
-setUp ring memory common =
+unfoldable pub setUpResult : (ring memory common : ℕ) → Reply
+setUpResult ring memory common =
     let setup : Setup = record { ring = ring; memory = memory; common = common } in
-    let number : ℕ = firstOf (setUpTable setup) in
-    record { answer = answered number Set; engine = unless number (fresh (record { ring = 0; memory = 0; common = 0 })) (fresh setup) }
+    let number : ℕ = firstRefusal (setUpTable setup) in
+    record { answer = answerUnlessRefused number Set; engine = unlessRefused number (initialRecord (record { ring = 0; memory = 0; common = 0 })) (initialRecord setup) }
 
 -- ---- open
 
@@ -58,10 +58,10 @@ withClient engine w = record {
 }
 
 -- "ids are 0 to 3 in order of opening"
-unfoldable pub openOf : Record → Window → Reply
-openOf engine w =
-    let number : ℕ = firstOf (openTable engine w) in
-    record { answer = answered number (Opened (engine .opened)); engine = unless number engine (withClient engine w) }
+unfoldable pub openResult : Record → Window → Reply
+openResult engine w =
+    let number : ℕ = firstRefusal (openTable engine w) in
+    record { answer = answerUnlessRefused number (Opened (engine .opened)); engine = unlessRefused number engine (withClient engine w) }
 
 -- ---- submit
 
@@ -70,14 +70,14 @@ abbrev pub newBatch : Record → (client size : ℕ) → Batch
 newBatch engine client size = record { client = client; ticket = engine .next; offset = writeOffset engine; length = size }
 
 -- the clients with one batch more pending for one of them
-abbrev pub raised : List Client → ℕ → List Client
-raised clients client = set clients client (record { window = getD clients client noClient .window; pending = getD clients client noClient .pending + 1 })
+abbrev pub pendingRaised : List Client → ℕ → List Client
+pendingRaised clients client = set clients client (record { window = getD clients client noClient .window; pending = getD clients client noClient .pending + 1 })
 
 -- the record with the batch in the lowest free slot
 unfoldable pub withBatch : Record → Batch → Record
 withBatch engine batch = record {
   setup = engine .setup;
-  clients = raised (engine .clients) (batch .client);
+  clients = pendingRaised (engine .clients) (batch .client);
   opened = engine .opened;
   slots = set (engine .slots) (lowestFree (engine .slots)) (readyWith batch);
   read = engine .read;
@@ -86,20 +86,20 @@ withBatch engine batch = record {
 
 -- what submit is refused with, 0 if it is accepted
 abbrev pub submitNumber : Record → (ring : List ℕ) → (client : ℕ) → (batch : List ℕ) → ℕ
-submitNumber engine ring client batch = firstOf (submitTable engine (length ring) client (length batch))
+submitNumber engine ring client batch = firstRefusal (submitTable engine (length ring) client (length batch))
 
 -- the ticket is the one that was next
-unfoldable pub submitOf : Record → (ring : List ℕ) → (client : ℕ) → (batch : List ℕ) → Reply
-submitOf engine ring client batch =
+unfoldable pub submitResult : Record → (ring : List ℕ) → (client : ℕ) → (batch : List ℕ) → Reply
+submitResult engine ring client batch =
     let number : ℕ = submitNumber engine ring client batch in
-    record { answer = answered number (Accepted (engine .next)); engine = unless number engine (withBatch engine (newBatch engine client (length batch))) }
+    record { answer = answerUnlessRefused number (Accepted (engine .next)); engine = unlessRefused number engine (withBatch engine (newBatch engine client (length batch))) }
 
 -- the ring after it: the batch copied in, other bytes as they were
 unfoldable pub submitRing : Record → (ring : List ℕ) → (client : ℕ) → (batch : List ℕ) → List ℕ
-submitRing engine ring client batch = unless (submitNumber engine ring client batch) ring (copied ring (writeOffset engine) batch)
+submitRing engine ring client batch = unlessRefused (submitNumber engine ring client batch) ring (copiedIn ring (writeOffset engine) batch)
 
 -- ---- pending
 
 -- "Pending is the desk's ready batches."
-unfoldable pub pendingOf : Record → (client : ℕ) → Answer
-pendingOf engine client = answered (firstOf (pendingTable engine client)) (Ready (countOf client (ready (engine .slots))))
+unfoldable pub pendingAnswer : Record → (client : ℕ) → Answer
+pendingAnswer engine client = answerUnlessRefused (firstRefusal (pendingTable engine client)) (Ready (countOf client (readyBatches (engine .slots))))

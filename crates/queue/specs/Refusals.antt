@@ -13,23 +13,23 @@ use Rattle.record.specs.Rules.{valid}
 
 infix 70 _when_
 -- A row of the table: its number, and whether its condition holds.
-pub data Row : Type 0 where
-  _when_ : ℕ → Bool → Row
+pub data RefusalRow : Type 0 where
+  _when_ : ℕ → Bool → RefusalRow
 
 -- The first row whose condition holds; 0 if there is none: the call is not refused.
-unfoldable pub firstOf : List Row → ℕ
-firstOf [] = 0
-firstOf ((number when holds) ∷ rows) = cond holds number (firstOf rows)
+unfoldable pub firstRefusal : List RefusalRow → ℕ
+firstRefusal [] = 0
+firstRefusal ((number when holds) ∷ rows) = cond holds number (firstRefusal rows)
 
 -- set up
-abbrev pub setUpTable : Setup → List Row
+abbrev pub setUpTable : Setup → List RefusalRow
 setUpTable setup =
     1 when badRing setup
     ∷ 2 when badMemory setup
     ∷ []
 
 -- open
-abbrev pub openTable : Record → Window → List Row
+abbrev pub openTable : Record → Window → List RefusalRow
 openTable engine w =
     11 when not (valid engine)
     ∷ 3 when leb 4 (engine .opened)
@@ -37,7 +37,7 @@ openTable engine w =
     ∷ []
 
 -- submit; lent: the length of the ring that is lent; size: the batch's length
-abbrev pub submitTable : Record → (lent client size : ℕ) → List Row
+abbrev pub submitTable : Record → (lent client size : ℕ) → List RefusalRow
 submitTable engine lent client size =
     11 when not (valid engine)
     ∷ 10 when not (eqb lent (engine .setup .ring))
@@ -48,7 +48,7 @@ submitTable engine lent client size =
     ∷ []
 
 -- pending
-abbrev pub pendingTable : Record → (client : ℕ) → List Row
+abbrev pub pendingTable : Record → (client : ℕ) → List RefusalRow
 pendingTable engine client =
     11 when not (valid engine)
     ∷ 5 when not (isOpen engine client)

@@ -3,13 +3,13 @@ ghost use mathlib.Core.Path.{_≡_};
 ghost use mathlib.Core.Bool.{true, cond};
 ghost use Prim.Native.Nat.{_≤_, _<_};
 ghost use lib.ListN.{length, getD, set};
-ghost use Rattle.record.specs.Slots.{ready, lowestFree, readyWith};
+ghost use Rattle.record.specs.Slots.{readyBatches, lowestFree, readyWith};
 ghost use Rattle.record.specs.Tickets.{ticketAfter};
 ghost use Rattle.record.specs.Clients.{noClient, clientAt};
 ghost use Rattle.record.specs.Queue.{takenSlots, freeBytes, writeOffset};
 ghost use Rattle.record.specs.Rules.{valid};
-ghost use Rattle.queue.specs.Refusals.{firstOf, setUpTable, openTable, submitTable, pendingTable};
-ghost use Rattle.queue.specs.Calls.{fresh, setUp, withClient, openOf, raised, withBatch, submitOf, submitRing, pendingOf};
+ghost use Rattle.queue.specs.Refusals.{firstRefusal, setUpTable, openTable, submitTable, pendingTable};
+ghost use Rattle.queue.specs.Calls.{initialRecord, setUpResult, withClient, openResult, pendingRaised, withBatch, submitResult, submitRing, pendingAnswer};
 use record::Batch;
 use record::Client;
 use record::Record;
@@ -18,7 +18,7 @@ use record::Slot;
 use record::SlotState;
 use record::Window;
 
-// What a call answers. The paper's numbers are those of `numberOf` and `valueOf` in specs.
+// What a call answers. The paper's numbers are those of `refusalNumberOf` and `valueOf` in specs.
 pub enum Answer {
     Refused(u32),
     Set,
@@ -33,7 +33,7 @@ pub struct Reply {
 }
 
 // A row of the table, and what the rows after it say.
-pub fn first_of(holds: bool, number: u32, rest: u32) -> u32
+pub fn first_refusal(holds: bool, number: u32, rest: u32) -> u32
     ensures { λ r. ⌜ r ≡ cond holds number rest ⌝ }
 {
     if holds { number } else { rest }
@@ -41,7 +41,7 @@ pub fn first_of(holds: bool, number: u32, rest: u32) -> u32
 
 // A record of no client and no batch.
 fn fresh_record(setup: Setup) -> Record
-    ensures { λ r. ⌜ r ≡ fresh setup ⌝ }
+    ensures { λ r. ⌜ r ≡ initialRecord setup ⌝ }
 {
     let window = Window {
         start: 0,
@@ -65,15 +65,15 @@ fn fresh_record(setup: Setup) -> Record
 }
 
 fn set_up_refusal(setup: Setup) -> u32
-    ensures { λ r. ⌜ r ≡ firstOf (setUpTable setup) ⌝ }
+    ensures { λ r. ⌜ r ≡ firstRefusal (setUpTable setup) ⌝ }
 {
-    let no2 = first_of(record::bad_memory(setup), 2, 0);
-    first_of(record::bad_ring(setup), 1, no2)
+    let no2 = first_refusal(record::bad_memory(setup), 2, 0);
+    first_refusal(record::bad_ring(setup), 1, no2)
 }
 
 // Set up with the lengths of ring, memory and common.
 pub fn set_up(ring: usize, memory: usize, common: usize) -> Reply
-    ensures { λ r. ⌜ r ≡ setUp ring memory common ⌝ }
+    ensures { λ r. ⌜ r ≡ setUpResult ring memory common ⌝ }
 {
     let setup = Setup {
         ring: ring,
@@ -99,7 +99,7 @@ pub fn set_up(ring: usize, memory: usize, common: usize) -> Reply
 }
 
 fn open_refusal(engine: Record, w: Window) -> u32
-    ensures { λ r. ⌜ r ≡ firstOf (openTable engine w) ⌝ }
+    ensures { λ r. ⌜ r ≡ firstRefusal (openTable engine w) ⌝ }
 {
     if !record::is_valid(engine) {
         return 11;
@@ -108,7 +108,7 @@ fn open_refusal(engine: Record, w: Window) -> u32
     let clients = engine.clients;
     let opened = engine.opened;
     let bad = record::bad_window(setup, clients, 0, opened, w);
-    first_of(4 <= opened, 3, first_of(bad, 4, 0))
+    first_refusal(4 <= opened, 3, first_refusal(bad, 4, 0))
 }
 
 fn with_client(engine: Record, w: Window) -> Record
@@ -129,7 +129,7 @@ fn with_client(engine: Record, w: Window) -> Record
 
 // Opens a client with a window.
 pub fn open(engine: Record, start: u32, length: u32) -> Reply
-    ensures { λ r. ⌜ r ≡ openOf engine (record { start = start; length = length }) ⌝ }
+    ensures { λ r. ⌜ r ≡ openResult engine (record { start = start; length = length }) ⌝ }
 {
     let w = Window {
         start: start,
@@ -169,7 +169,7 @@ fn write_offset(engine: Record) -> usize
 }
 
 fn submit_refusal(engine: Record, given: usize, client: u32, size: usize) -> u32
-    ensures { λ r. ⌜ r ≡ firstOf (submitTable engine given client size) ⌝ }
+    ensures { λ r. ⌜ r ≡ firstRefusal (submitTable engine given client size) ⌝ }
 {
     if !record::is_valid(engine) {
         return 11;
@@ -178,17 +178,17 @@ fn submit_refusal(engine: Record, given: usize, client: u32, size: usize) -> u32
     let ring = setup.ring;
     let slots = engine.slots;
     let taken = record::taken_slots(slots);
-    let no8 = first_of(free_bytes(engine) < size, 8, 0);
-    let no7 = first_of(8 <= taken, 7, no8);
-    let no6 = first_of(record::bad_length(ring, size), 6, no7);
-    let no5 = first_of(!record::is_open(engine, client), 5, no6);
-    first_of(!(given == ring), 10, no5)
+    let no8 = first_refusal(free_bytes(engine) < size, 8, 0);
+    let no7 = first_refusal(8 <= taken, 7, no8);
+    let no6 = first_refusal(record::bad_length(ring, size), 6, no7);
+    let no5 = first_refusal(!record::is_open(engine, client), 5, no6);
+    first_refusal(!(given == ring), 10, no5)
 }
 
 // One batch more pending for a client.
 fn raise(clients: [Client; 4], client: u32) -> [Client; 4]
     requires { ⌜ (client < 4) × (getD clients client noClient .pending ≤ 8) ⌝ }
-    ensures { λ r. ⌜ r ≡ raised clients client ⌝ }
+    ensures { λ r. ⌜ r ≡ pendingRaised clients client ⌝ }
 {
     let at = client as usize;
     let old = clients[at];
@@ -203,7 +203,7 @@ fn raise(clients: [Client; 4], client: u32) -> [Client; 4]
 
 // The batch in the lowest free slot.
 fn fill(slots: [Slot; 8], batch: Batch) -> [Slot; 8]
-    requires { ⌜ length (ready slots) < 8 ⌝ }
+    requires { ⌜ length (readyBatches slots) < 8 ⌝ }
     ensures { λ r. ⌜ r ≡ set slots (lowestFree slots) (readyWith batch) ⌝ }
 {
     let at = record::lowest_free(slots);
@@ -239,7 +239,7 @@ fn with_batch(engine: Record, batch: Batch) -> Record
 
 // Puts a batch into the ring and the queue. What it says is not looked at.
 pub fn submit(engine: Record, ring: &mut [u8], client: u32, batch: &[u8]) -> Reply
-    ensures { λ r. ⌜ (r ≡ submitOf engine (now (ring .entry)) client (now (batch .entry)))
+    ensures { λ r. ⌜ (r ≡ submitResult engine (now (ring .entry)) client (now (batch .entry)))
         × (now (ring .exit) ≡ submitRing engine (now (ring .entry)) client (now (batch .entry))) ⌝ }
 {
     let size = batch.len();
@@ -277,15 +277,15 @@ fn pending_at(clients: [Client; 4], client: u32) -> u32
 }
 
 fn pending_refusal(engine: Record, client: u32) -> u32
-    ensures { λ r. ⌜ r ≡ firstOf (pendingTable engine client) ⌝ }
+    ensures { λ r. ⌜ r ≡ firstRefusal (pendingTable engine client) ⌝ }
 {
-    let no5 = first_of(!record::is_open(engine, client), 5, 0);
-    first_of(!record::is_valid(engine), 11, no5)
+    let no5 = first_refusal(!record::is_open(engine, client), 5, 0);
+    first_refusal(!record::is_valid(engine), 11, no5)
 }
 
 // How many batches of a client are ready.
 pub fn pending(engine: Record, client: u32) -> Answer
-    ensures { λ r. ⌜ r ≡ pendingOf engine client ⌝ }
+    ensures { λ r. ⌜ r ≡ pendingAnswer engine client ⌝ }
 {
     let number = pending_refusal(engine, client);
     if number != 0 {

@@ -6,29 +6,29 @@ use native.Mathlib.Omega.{arith}
 use lib.Dec.{leb}
 use borrow.Author.Tests.{leb-true, ltb-true, ltb-false}
 use Rattle.range.specs.declared.Range.{Range}
-use Rattle.range.specs.Range.{Holds, inside, shared}
+use Rattle.range.specs.Range.{Contains, containedIn, overlaps}
 use Rattle.word.proofs.Tests.{and-true}
 
--- the two comparisons behind `inside`
-pub inside-ends : (r q : Range) → inside r q ≡ true → (q .start ≤ r .start) × (r .end ≤ q .end)
+-- the two comparisons behind `containedIn`
+pub inside-ends : (r q : Range) → containedIn r q ≡ true → (q .start ≤ r .start) × (r .end ≤ q .end)
 inside-ends r q e =
     let both = and-true (leb (q .start) (r .start)) (leb (r .end) (q .end)) e in
     (leb-true (q .start) (r .start) (both .0), leb-true (r .end) (q .end) (both .1))
 
 -- each byte of a run that lies inside another is a byte of the other
-pub inside-holds : (r q : Range) → inside r q ≡ true → (i : ℕ) → Holds r i → Holds q i
+pub inside-holds : (r q : Range) → containedIn r q ≡ true → (i : ℕ) → Contains r i → Contains q i
 inside-holds r q e i h =
     let ends = inside-ends r q e in
     (omega arith, omega arith)
 
 -- runs that share a byte have one: the later start
-pub shared-byte : (r q : Range) → shared r q ≡ true → Holds r (max (r .start) (q .start)) × Holds q (max (r .start) (q .start))
+pub shared-byte : (r q : Range) → overlaps r q ≡ true → Contains r (max (r .start) (q .start)) × Contains q (max (r .start) (q .start))
 shared-byte r q e =
     let l = ltb-true (max (r .start) (q .start)) (min (r .end) (q .end)) e in
     ((omega arith, omega arith), (omega arith, omega arith))
 
 -- runs that share none have none
-pub apart : (r q : Range) → shared r q ≡ false → (i : ℕ) → Holds r i → Holds q i → ⊥
+pub apart : (r q : Range) → overlaps r q ≡ false → (i : ℕ) → Contains r i → Contains q i → ⊥
 apart r q e i h k =
     let l = ltb-false (max (r .start) (q .start)) (min (r .end) (q .end)) e in
     omega arith

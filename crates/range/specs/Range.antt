@@ -1,22 +1,22 @@
--- Runs of bytes: a client's window, common, and the span of a rectangle (01, "Engine, desks, queue" and "Faults of a taken
+-- Ranges of bytes: a client's window, common, and the span of a rectangle (01, "Engine, desks, queue" and "Faults of a taken
 -- batch"). Ends are plain numbers, so that no sum of a start and a length wraps.
 use Prim.Native.Nat.{ℕ, _+_, _≤_, _<_, min, max}
 use mathlib.Core.Bool.{Bool, _&&_}
 use lib.Dec.{leb, ltb}
 use Rattle.range.specs.declared.Range.{Range}
 
--- byte i is one of the run's
-abbrev pub Holds : Range → ℕ → Type 0
-Holds r i = (r .start ≤ i) × (i < r .end)
+-- Internal: byte i lies in the range
+abbrev pub Contains : Range → ℕ → Type 0
+Contains r i = (r .start ≤ i) × (i < r .end)
 
--- the run of `length` bytes from `start` on
-abbrev pub runOf : ℕ → ℕ → Range
-runOf start length = record { start = start; end = start + length }
+-- the range of `length` bytes from `start` on
+abbrev pub rangeOf : ℕ → ℕ → Range
+rangeOf start length = record { start = start; end = start + length }
 
--- the run r lies wholly in q
-abbrev pub inside : Range → Range → Bool
-inside r q = leb (q .start) (r .start) && leb (r .end) (q .end)
+-- the range r lies wholly in q
+abbrev pub containedIn : Range → Range → Bool
+containedIn r q = leb (q .start) (r .start) && leb (r .end) (q .end)
 
 -- r and q have a byte in common: the later start lies before the earlier end
-abbrev pub shared : Range → Range → Bool
-shared r q = ltb (max (r .start) (q .start)) (min (r .end) (q .end))
+abbrev pub overlaps : Range → Range → Bool
+overlaps r q = ltb (max (r .start) (q .start)) (min (r .end) (q .end))

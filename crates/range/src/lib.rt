@@ -1,7 +1,7 @@
-// Runs of bytes, by their first byte and the one past their last.
+// Ranges of bytes, by their first byte and the one past their last.
 ghost use mathlib.Core.Path.{_≡_};
 ghost use Prim.Native.Nat.{min, max};
-ghost use Rattle.range.specs.Range.{runOf, inside, shared};
+ghost use Rattle.range.specs.Range.{rangeOf, containedIn, overlaps};
 
 pub struct Range {
     pub start: usize,
@@ -21,9 +21,9 @@ fn greatest(a: usize, b: usize) -> usize
 }
 
 impl Range {
-    // The run of `length` bytes from `start` on. Both are 32 bits wide, so that the end fits.
+    // The range of `length` bytes from `start` on. Both are 32 bits wide, so that the end fits.
     pub fn new(start: u32, length: u32) -> Self
-        ensures { λ r. ⌜ r ≡ runOf start length ⌝ }
+        ensures { λ r. ⌜ r ≡ rangeOf start length ⌝ }
     {
         Range {
             start: start as usize,
@@ -31,16 +31,16 @@ impl Range {
         }
     }
 
-    // Whether the run lies wholly in another.
+    // Whether the range lies wholly in another.
     pub fn is_inside(self, other: Range) -> bool
-        ensures { λ r. ⌜ r ≡ inside self other ⌝ }
+        ensures { λ r. ⌜ r ≡ containedIn self other ⌝ }
     {
         (other.start <= self.start) & (self.end <= other.end)
     }
 
-    // Whether some byte lies in both runs.
+    // Whether some byte lies in both ranges.
     pub fn shares(self, other: Range) -> bool
-        ensures { λ r. ⌜ r ≡ shared self other ⌝ }
+        ensures { λ r. ⌜ r ≡ overlaps self other ⌝ }
     {
         greatest(self.start, other.start) < least(self.end, other.end)
     }

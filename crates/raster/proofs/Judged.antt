@@ -9,18 +9,18 @@ use Rattle.register.specs.declared.task.Task.{Task}
 use Rattle.rules.specs.declared.task.Bounds.{Bounds}
 use Rattle.rules.specs.Rules.{commonOf}
 use Rattle.rules.proofs.Sound.{Rows, Within, InReach, Sound}
-use Rattle.raster.specs.Clear.{Rectangle, Clear, Drawable, Below}
+use Rattle.raster.specs.Preconditions.{ValidRectangle, TaskInBounds, Drawable, EndsBelow}
 
 -- the rectangles that a batch with these bounds may read
 abbrev pub Reach : Bounds → Surface → Type 0
 Reach bounds s = InReach bounds (span s)
 
-pub rectangle : (s : Surface) → Rows s → Rectangle s
+pub rectangle : (s : Surface) → Rows s → ValidRectangle s
 rectangle s r = record { wide = r .sides .wide; narrow = r .sides .widest; high = r .sides .high; low = r .sides .highest; spaced = r .roomy }
 
 module _ (bounds : Bounds) (t : Task) (s : Sound bounds t) where
   -- wherever its reach is taken to lie in
-  reaching : (R : Surface → Type 0) → ((r : Surface) → Reach bounds r → R r) → Clear (bounds .window) R t
+  reaching : (R : Surface → Type 0) → ((r : Surface) → Reach bounds r → R r) → TaskInBounds (bounds .window) R t
   unfolding span
   reaching R on = record {
     output = rectangle (t .output) (s .rows);
@@ -35,13 +35,13 @@ module _ (bounds : Bounds) (t : Task) (s : Sound bounds t) where
     };
   }
 
-  pub clear : Clear (bounds .window) (Reach bounds) t
+  pub clear : TaskInBounds (bounds .window) (Reach bounds) t
   clear = reaching (Reach bounds) (λ r h. h)
 
   -- in a memory of n bytes that holds window and common
   pub drawable : (n : ℕ) → bounds .window .end ≤ n → bounds .common ≤ n → Drawable (bounds .window) n t
   drawable n w c = record {
     room = w;
-    clear = reaching (Below n)
+    clear = reaching (EndsBelow n)
         (λ r h. ⊎-elim (λ (i : Within (span r) (bounds .window)). omega arith) (λ (i : Within (span r) (commonOf bounds)). omega arith) h);
   }

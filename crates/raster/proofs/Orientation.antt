@@ -7,7 +7,7 @@ use lib.ListN.{length, getD}
 use Rattle.word.specs.Word.{byteOf}
 use Rattle.pixel.specs.Colours.{packed, unpacked, widened, narrowed}
 use Rattle.pixel.specs.declared.format.Format.the-variants.{Rgb565}
-use Rattle.transform.specs.Transform.{sourceOf}
+use Rattle.transform.specs.Transform.{sourcePixel}
 use Rattle.transform.specs.Compose.{opposite, SameOrientation}
 use Rattle.transform.specs.Laws.{Alike}
 use Rattle.transform.specs.declared.Transform.{Transform}
@@ -16,18 +16,18 @@ use Rattle.transform.proofs.Same.{exactly, turned-square}
 use Rattle.surface.specs.declared.Surface.{Surface}
 use Rattle.surface.specs.Surface.{span}
 use Rattle.surface.specs.Memory.{mapi, pixelAt}
-use Rattle.surface.specs.Rows.{rows, rowByte}
-use Rattle.surface.specs.Drawn.{loaded, drawn, drawnOn}
+use Rattle.surface.specs.Rows.{overwriteRows, rowByte}
+use Rattle.surface.specs.Drawn.{loadPixel, drawRectangle, drawSurface}
 use Rattle.surface.proofs.Outside.{drawnOn-ext}
 use Rattle.register.specs.Size.{sizeOf}
-use Rattle.rows.specs.Row.{colourAt, originOf}
+use Rattle.rows.specs.Row.{colourAt, sourcePixelOf}
 use Rattle.raster.specs.Twice.{turned, Fits, EqualDrawing, Orientations}
 use Rattle.raster.proofs.Turn.{stride-some}
 
 -- ---- the same orientation
 
 equal : (a b : Transform) → Alike a b → EqualDrawing a b
-unfolding turned originOf
+unfolding turned sourcePixelOf
 equal a b h = record {
   size = h .size;
   bytes = λ s o memory f.
@@ -52,7 +52,7 @@ abbrev first : List ℕ → ℕ
 first bytes = getD bytes 8 0 + 5 * getD bytes 10 0
 
 told : (a b : Transform) → shown a ≡ shown b → SameOrientation a b
-unfolding shown memory turned opposite drawnOn drawn mapi rows rowByte byteOf colourAt originOf loaded pixelAt packed unpacked widened narrowed sourceOf
+unfolding shown memory turned opposite drawSurface drawRectangle mapi overwriteRows rowByte byteOf colourAt sourcePixelOf loadPixel pixelAt packed unpacked widened narrowed sourcePixel
 told a b e = tells (λ (t : Transform). first (shown t)) tt a b (ap first e)
 
 fits : (t : Transform) → Fits (length memory) (picture 0) t (picture 8)

@@ -9,12 +9,12 @@ use Rattle.register.specs.declared.bank.Bank.{Bank}
 use Rattle.register.specs.declared.task.Task.{Task}
 use Rattle.rules.specs.declared.task.Bounds.{Bounds}
 use Rattle.rules.proofs.Sound.{Sound, AllSound}
-use Rattle.batch.specs.Batch.{readBatch, tasksDrawn}
+use Rattle.batch.specs.Batch.{decodeBatch, tasksDrawn}
 use Rattle.batch.proofs.Tasks.{drawn-sound}
 use Rattle.raster.specs.Task.{drawTask, drawTasks}
 use Rattle.raster.specs.Batch.{drawBatch}
-use Rattle.raster.specs.Clear.{Rectangle}
-use Rattle.raster.specs.Written.{Outside, OutsideAll, outputByte, Writes}
+use Rattle.raster.specs.Preconditions.{ValidRectangle}
+use Rattle.raster.specs.WriteFrame.{OutsideRows, OutsideAllRows, outputByte, WriteFrame}
 use Rattle.raster.proofs.Turn.{stride-some}
 use Rattle.raster.proofs.Judged.{rectangle}
 
@@ -23,9 +23,9 @@ module _ (t : Task) (memory : List ℕ) where
   unfolding drawTask
   length-task = length-drawnOn (t .output) _ memory
 
-  module _ (r : Rectangle (t .output)) where
+  module _ (r : ValidRectangle (t .output)) where
     -- no byte outside the output rows changes
-    pub outside-task : (i : ℕ) → Outside t i → getD (drawTask t memory) i 0 ≡ getD memory i 0
+    pub outside-task : (i : ℕ) → OutsideRows t i → getD (drawTask t memory) i 0 ≡ getD memory i 0
     unfolding drawTask
     outside-task i out = outside-rows (t .output) _ memory (stride-some (t .output) r) i out
 
@@ -42,7 +42,7 @@ unfolding drawTasks
 length-tasks [] memory = refl
 length-tasks (t ∷ ts) memory = length-tasks ts (drawTask t memory) ∙ length-task t memory
 
-pub outside-tasks : (bounds : Bounds) (ts : List Task) → AllSound bounds ts → (memory : List ℕ) (i : ℕ) → OutsideAll ts i →
+pub outside-tasks : (bounds : Bounds) (ts : List Task) → AllSound bounds ts → (memory : List ℕ) (i : ℕ) → OutsideAllRows ts i →
     getD (drawTasks ts memory) i 0 ≡ getD memory i 0
 unfolding drawTasks
 outside-tasks bounds [] s memory i out = refl
@@ -58,13 +58,13 @@ sound-within bounds (b ∷ bs) after t s = sound-within bounds bs after t (s .1)
 
 module _ (bounds : Bounds) (bank : Bank) (words memory : List ℕ) where
   abbrev drawn : List Task
-  drawn = tasksDrawn (readBatch bounds bank words)
+  drawn = tasksDrawn (decodeBatch bounds bank words)
 
   pub length-batch : length (drawBatch bounds bank words memory) ≡ length memory
   unfolding drawBatch
   length-batch = length-tasks drawn memory
 
-  pub outside-batch : (i : ℕ) → OutsideAll drawn i → getD (drawBatch bounds bank words memory) i 0 ≡ getD memory i 0
+  pub outside-batch : (i : ℕ) → OutsideAllRows drawn i → getD (drawBatch bounds bank words memory) i 0 ≡ getD memory i 0
   unfolding drawBatch
   outside-batch i out = outside-tasks bounds drawn (drawn-sound bounds bank words) memory i out
 
@@ -74,5 +74,5 @@ module _ (bounds : Bounds) (bank : Bank) (words memory : List ℕ) where
       let sound = sound-within bounds before after t (rw e at (drawn-sound bounds bank words)) in
       inside-task t (drawTasks before memory) (rectangle (t .output) (sound .rows)) i y j (rw (length-tasks before memory) l) h
 
-  pub writes : Writes bounds bank words memory
+  pub writes : WriteFrame bounds bank words memory
   writes = record { size = length-batch; outside = outside-batch; inside = inside-batch }

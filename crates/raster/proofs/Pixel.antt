@@ -5,7 +5,7 @@ use mathlib.Core.List.{List}
 use Prim.Native.Nat.{ℕ, _<_}
 use Rattle.range.specs.declared.Range.{Range}
 use Rattle.pixel.specs.declared.colour.Colour.{Colour as Channels}
-use Rattle.transform.specs.Transform.{Within, rotatedSize}
+use Rattle.transform.specs.Transform.{InPicture, rotatedSize}
 use Rattle.transform.specs.declared.Point.{Point}
 use Rattle.transform.proofs.Inside.{source-within}
 use Rattle.surface.specs.declared.Surface.{Surface}
@@ -15,13 +15,13 @@ use Rattle.register.specs.declared.task.SourceMode.{SourceMode}
 use Rattle.register.specs.declared.task.SourceMode.the-variants.{Buffer, Colour}
 use Rattle.register.specs.declared.task.Task.{Task}
 use Rattle.register.specs.Size.{sizeOf}
-use Rattle.rows.specs.Row.{colourAt, originOf}
-use Rattle.rows.specs.Mixed.{mixed}
-use Rattle.raster.specs.Task.{colourBy, sourceColour, destinationColour, pixelColour}
-use Rattle.raster.specs.Clear.{Clear}
+use Rattle.rows.specs.Row.{colourAt, sourcePixelOf}
+use Rattle.rows.specs.Mixed.{composite}
+use Rattle.raster.specs.Task.{sourceModeColour, sourceColour, destinationColour, pixelColour}
+use Rattle.raster.specs.Preconditions.{TaskInBounds}
 
 colourBy-same : (m : SourceMode) (s : Source) (memory memory′ : List ℕ) (p : Point) →
-    (isBuffer m ≡ true → colourAt (s .surface) memory p ≡ colourAt (s .surface) memory′ p) → colourBy m s memory p ≡ colourBy m s memory′ p
+    (isBuffer m ≡ true → colourAt (s .surface) memory p ≡ colourAt (s .surface) memory′ p) → sourceModeColour m s memory p ≡ sourceModeColour m s memory′ p
 colourBy-same Buffer s memory memory′ p h = h refl
 colourBy-same Colour s memory memory′ p h = refl
 
@@ -33,21 +33,21 @@ module _ (t : Task) (memory memory′ : List ℕ) (x y : ℕ) where
   -- two memories that are alike in what a pixel reads
   pub pixel-same :
       (isBuffer (t .source .mode) ≡ true →
-      colourAt (t .source .surface) memory (originOf (t .source .surface) (t .source .transform) x y)
-      ≡ colourAt (t .source .surface) memory′ (originOf (t .source .surface) (t .source .transform) x y)) →
+      colourAt (t .source .surface) memory (sourcePixelOf (t .source .surface) (t .source .transform) x y)
+      ≡ colourAt (t .source .surface) memory′ (sourcePixelOf (t .source .surface) (t .source .transform) x y)) →
       (t .blending .on ≡ true →
       colourAt (t .destination .surface) memory (record { x = x; y = y }) ≡ colourAt (t .destination .surface) memory′ (record { x = x; y = y })) →
       pixelColour t memory x y ≡ pixelColour t memory′ x y
   unfolding pixelColour sourceColour destinationColour
   pixel-same s d =
-      let e = colourBy-same (t .source .mode) (t .source) memory memory′ (originOf (t .source .surface) (t .source .transform) x y) s in
-      cond-same (t .blending .on) _ _ _ _ (λ on. ap₂ (mixed (t .blending) (t .source .alpha) (t .destination .alpha)) e (d on)) (λ off. e)
+      let e = colourBy-same (t .source .mode) (t .source) memory memory′ (sourcePixelOf (t .source .surface) (t .source .transform) x y) s in
+      cond-same (t .blending .on) _ _ _ _ (λ on. ap₂ (composite (t .blending) (t .source .alpha) (t .destination .alpha)) e (d on)) (λ off. e)
 
 -- the colour of a pixel, by blending
 module _ (t : Task) (memory : List ℕ) (x y : ℕ) where
   pub pixel-blended : t .blending .on ≡ true →
       pixelColour t memory x y
-      ≡ mixed (t .blending) (t .source .alpha) (t .destination .alpha) (sourceColour (t .source) memory x y) (destinationColour (t .destination) memory x y)
+      ≡ composite (t .blending) (t .source .alpha) (t .destination .alpha) (sourceColour (t .source) memory x y) (destinationColour (t .destination) memory x y)
   unfolding pixelColour
   pixel-blended e = rw e
 
@@ -56,7 +56,7 @@ module _ (t : Task) (memory : List ℕ) (x y : ℕ) where
   pixel-plain e = rw e
 
 -- in colour mode there is one colour
-colourBy-solid : (m : SourceMode) (s : Source) (memory : List ℕ) (p : Point) → isBuffer m ≡ false → colourBy m s memory p ≡ s .colour
+colourBy-solid : (m : SourceMode) (s : Source) (memory : List ℕ) (p : Point) → isBuffer m ≡ false → sourceModeColour m s memory p ≡ s .colour
 colourBy-solid Buffer s memory p e = let z : true ≡ false = e in cc
 colourBy-solid Colour s memory p e = refl
 
@@ -66,16 +66,16 @@ source-solid s memory x y e = colourBy-solid (s .mode) s memory _ e
 
 -- ---- which pixels are read
 
-module _ {window : Range} {Reach : Surface → Type 0} {t : Task} (s : Clear window Reach t) (x y : ℕ) (u : x < t .output .width) (v : y < t .output .height) where
+module _ {window : Range} {Reach : Surface → Type 0} {t : Task} (s : TaskInBounds window Reach t) (x y : ℕ) (u : x < t .output .width) (v : y < t .output .height) where
   -- an output pixel is one of the turned source
-  pub output-within : Within (rotatedSize (t .source .transform .rotation) (sizeOf (t .source .surface))) (record { x = x; y = y })
+  pub output-within : InPicture (rotatedSize (t .source .transform .rotation) (sizeOf (t .source .surface))) (record { x = x; y = y })
   output-within = rw (s .size) (record { across = u; down = v })
 
   -- the source pixel is one of the source
-  pub origin-within : Within (sizeOf (t .source .surface)) (originOf (t .source .surface) (t .source .transform) x y)
-  unfolding originOf
+  pub origin-within : InPicture (sizeOf (t .source .surface)) (sourcePixelOf (t .source .surface) (t .source .transform) x y)
+  unfolding sourcePixelOf
   origin-within = source-within (t .source .transform) (sizeOf (t .source .surface)) (record { x = x; y = y }) output-within
 
   -- the destination pixel is one of the destination
-  pub destination-within : t .blending .on ≡ true → Within (sizeOf (t .destination .surface)) (record { x = x; y = y })
+  pub destination-within : t .blending .on ≡ true → InPicture (sizeOf (t .destination .surface)) (record { x = x; y = y })
   destination-within on = rw (s .destination on .size) (record { across = u; down = v })

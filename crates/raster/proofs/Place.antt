@@ -7,7 +7,7 @@ use native.Mathlib.Omega.{arith}
 use lib.ListN.{length}
 use borrow.Rule.Slice.PartMut.{midOf, putMid}
 use Rattle.range.specs.declared.Range.{Range}
-use Rattle.pixel.specs.Formats.{bytesOf}
+use Rattle.pixel.specs.Formats.{bytesPerPixel}
 use Rattle.pixel.specs.declared.colour.Colour.{Colour}
 use Rattle.transform.specs.declared.Size.{Size}
 use Rattle.surface.specs.Surface.{rowLength, rowStart}
@@ -15,10 +15,10 @@ use Rattle.surface.proofs.Parts.{length-mid}
 use Rattle.surface.proofs.Outside.{row-in-span}
 use Rattle.register.specs.declared.task.Task.{Task}
 use Rattle.raster.specs.Task.{pixelColour}
-use Rattle.raster.specs.Row.{Row, Fetched, rowDrawn, drawRow}
+use Rattle.raster.specs.Row.{RowDrawable, SourceRowInBounds, rowDrawn, drawRow}
 use Rattle.raster.proofs.Lent.{window-lent, row-ext}
 
-module _ {window : Range} {memory : List ℕ} {t : Task} {y : ℕ} (r : Row window memory t y) where
+module _ {window : Range} {memory : List ℕ} {t : Task} {y : ℕ} (r : RowDrawable window memory t y) where
   pub starts : window .start ≤ rowStart (t .output) y
   starts = omega (arith, r .drawable .clear .begins)
 
@@ -32,7 +32,7 @@ module _ {window : Range} {memory : List ℕ} {t : Task} {y : ℕ} (r : Row wind
   ordered = omega (arith, starts, ends)
 
   -- the source row, which a buffer of 16,384 bytes holds
-  pub fetches : (buffer : List ℕ) → 16384 ≤ length buffer → Fetched memory buffer (t .source) y (t .output .width)
+  pub fetches : (buffer : List ℕ) → 16384 ≤ length buffer → SourceRowInBounds memory buffer (t .source) y (t .output .width)
   fetches buffer l =
       let s = r .drawable .clear in
       let w = ap (λ (z : Size). z .width) (s .size) in
@@ -46,13 +46,13 @@ module _ {window : Range} {memory : List ℕ} {t : Task} {y : ℕ} (r : Row wind
 
   -- the destination's row
   pub destination-row : t .blending .on ≡ true →
-      rowStart (t .destination .surface) y + t .output .width * bytesOf (t .destination .surface .format) ≤ length memory
+      rowStart (t .destination .surface) y + t .output .width * bytesPerPixel (t .destination .surface .format) ≤ length memory
   destination-row on =
       let d = r .drawable .clear .destination on in
       let w : t .destination .surface .width ≡ t .output .width = ap (λ (z : Size). z .width) (d .size) in
       let h : t .destination .surface .height ≡ t .output .height = ap (λ (z : Size). z .height) (d .size) in
-      let e : t .destination .surface .width * bytesOf (t .destination .surface .format) ≡ t .output .width * bytesOf (t .destination .surface .format) =
-      ap (λ (n : ℕ). n * bytesOf (t .destination .surface .format)) w in
+      let e : t .destination .surface .width * bytesPerPixel (t .destination .surface .format) ≡ t .output .width * bytesPerPixel (t .destination .surface .format) =
+      ap (λ (n : ℕ). n * bytesPerPixel (t .destination .surface .format)) w in
       omega (arith, row-in-span (t .destination .surface) y (omega (arith, r .row)), d .reach)
 
   -- ---- the window that is lent

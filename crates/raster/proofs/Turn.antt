@@ -8,14 +8,14 @@ use Prim.Native.Nat.{ℕ, _+_, _*_, _≤_, _<_}
 use native.Mathlib.Omega.{arith}
 use lib.ListN.{length, getD}
 use Rattle.range.specs.declared.Range.{Range}
-use Rattle.pixel.specs.Formats.{bytesOf, layoutOf}
+use Rattle.pixel.specs.Formats.{bytesPerPixel, layoutOf}
 use Rattle.pixel.specs.Colours.{packed}
-use Rattle.transform.specs.Transform.{Within}
+use Rattle.transform.specs.Transform.{InPicture}
 use Rattle.transform.specs.declared.Point.{Point}
-use Rattle.surface.specs.Surface.{rowLength, rowStart, pixelStart, Separate}
+use Rattle.surface.specs.Surface.{rowLength, rowStart, pixelStart, DisjointRows}
 use Rattle.surface.specs.Memory.{mapi}
-use Rattle.surface.specs.Rows.{rows, rowByte}
-use Rattle.surface.specs.Drawn.{drawn, drawnOn}
+use Rattle.surface.specs.Rows.{overwriteRows, rowByte}
+use Rattle.surface.specs.Drawn.{drawRectangle, drawSurface}
 use Rattle.surface.specs.declared.Surface.{Surface}
 use Rattle.surface.proofs.Sizes.{bytes-some}
 use Rattle.surface.proofs.Mapi.{length-mapi, mapi-stays}
@@ -26,21 +26,21 @@ use Rattle.register.specs.declared.task.Task.{Task}
 use Rattle.register.specs.Size.{sizeOf}
 use Rattle.rows.specs.Row.{colourAt}
 use Rattle.raster.specs.Task.{pixelColour, drawTask}
-use Rattle.raster.specs.Clear.{Rectangle, Clear}
+use Rattle.raster.specs.Preconditions.{ValidRectangle, TaskInBounds}
 use Rattle.raster.specs.Row.{rowDrawn, drawRow}
 use Rattle.raster.proofs.Lent.{row-ext}
 use Rattle.raster.proofs.Pixel.{pixel-same, origin-within, destination-within}
 
 -- a rectangle's stride is positive
-pub stride-some : (s : Surface) → Rectangle s → 0 < s .stride
-stride-some s r = omega (arith, next 0 (s .width) (bytesOf (s .format)) (r .wide), bytes-some (s .format), r .spaced)
+pub stride-some : (s : Surface) → ValidRectangle s → 0 < s .stride
+stride-some s r = omega (arith, next 0 (s .width) (bytesPerPixel (s .format)) (r .wide), bytes-some (s .format), r .spaced)
 
 -- memory after the first n rows of a task
 unfoldable pub begun : Task → ℕ → List ℕ → List ℕ
 begun t n memory =
     mapi
-    (rows (t .output .address) (t .output .stride) (rowLength (t .output)) n
-    (λ (y : ℕ). rowByte (bytesOf (t .output .format)) (λ (x : ℕ). packed (layoutOf (t .output .format)) (pixelColour t memory x y))))
+    (overwriteRows (t .output .address) (t .output .stride) (rowLength (t .output)) n
+    (λ (y : ℕ). rowByte (bytesPerPixel (t .output .format)) (λ (x : ℕ). packed (layoutOf (t .output .format)) (pixelColour t memory x y))))
     memory
 
 pub none-begun : (t : Task) (memory : List ℕ) → memory ≡ begun t 0 memory
@@ -49,7 +49,7 @@ none-begun t memory = none-rows _ _ _ _ memory
 
 -- all rows
 pub all-begun : (t : Task) (memory : List ℕ) → begun t (t .output .height) memory ≡ drawTask t memory
-unfolding begun drawTask drawnOn drawn
+unfolding begun drawTask drawSurface drawRectangle
 all-begun t memory = refl
 
 module _ (t : Task) (n : ℕ) (memory : List ℕ) where
@@ -67,18 +67,18 @@ module _ (t : Task) (n : ℕ) (memory : List ℕ) where
       (λ old. rows-else (t .output .address) (t .output .stride) (rowLength (t .output)) n _ i old z (λ v k u w l e. out v k u w e))
 
   -- a pixel of a surface that is apart from the output
-  pub apart-kept : (s : Surface) (p : Point) → 0 < t .output .stride → n ≤ t .output .height → Separate s (t .output) → Within (sizeOf s) p →
+  pub apart-kept : (s : Surface) (p : Point) → 0 < t .output .stride → n ≤ t .output .height → DisjointRows s (t .output) → InPicture (sizeOf s) p →
       colourAt s (begun t n memory) p ≡ colourAt s memory p
   unfolding colourAt
   apart-kept s p z l apart w =
       loaded-same (s .format) (pixelStart s (p .x) (p .y)) (begun t n memory) memory length-begun
       (λ b u. begun-else z (pixelStart s (p .x) (p .y) + b)
-      (λ v k a c e. apart (pixelStart s (p .x) (p .y) + b) (p .y) (p .x * bytesOf (s .format) + b) v k
+      (λ v k a c e. apart (pixelStart s (p .x) (p .y) + b) (p .y) (p .x * bytesPerPixel (s .format) + b) v k
       (record { row = w .down; column = omega (arith, pixel-in-row s (p .x) (w .across)); is = omega arith })
       (record { row = omega arith; column = c; is = omega arith })))
 
   -- a pixel of the output itself, in a row that is still to come
-  pub later-kept : (x y : ℕ) → Rectangle (t .output) → n ≤ y →
+  pub later-kept : (x y : ℕ) → ValidRectangle (t .output) → n ≤ y →
       colourAt (t .output) (begun t n memory) (record { x = x; y = y }) ≡ colourAt (t .output) memory (record { x = x; y = y })
   unfolding colourAt
   later-kept x y r l =
@@ -89,13 +89,13 @@ module _ (t : Task) (n : ℕ) (memory : List ℕ) where
       omega (arith, r .spaced)))
 
 -- what row y reads is as it was before the task
-pub pixel-kept : (window : Range) (Reach : Surface → Type 0) (t : Task) → Clear window Reach t → (memory : List ℕ) (x y : ℕ) →
+pub pixel-kept : (window : Range) (Reach : Surface → Type 0) (t : Task) → TaskInBounds window Reach t → (memory : List ℕ) (x y : ℕ) →
     x < t .output .width → y < t .output .height → pixelColour t (begun t y memory) x y ≡ pixelColour t memory x y
 pixel-kept window Reach t s memory x y u v =
     pixel-same t (begun t y memory) memory x y
     (λ reads. apart-kept t y memory (t .source .surface) _ z (omega arith) (s .source reads .separate) (origin-within s x y u v))
     (λ on. ⊎-elim
-    (λ (a : Separate (t .destination .surface) (t .output)). apart-kept t y memory (t .destination .surface) _ z (omega arith) a (destination-within s x y u v on))
+    (λ (a : DisjointRows (t .destination .surface) (t .output)). apart-kept t y memory (t .destination .surface) _ z (omega arith) a (destination-within s x y u v on))
     (λ (e : t .destination .surface ≡ t .output).
     ap (λ (d : Surface). colourAt d (begun t y memory) (record { x = x; y = y })) e
     ∙ later-kept t y memory x y (s .output) (omega arith)
@@ -106,7 +106,7 @@ pixel-kept window Reach t s memory x y u v =
     z = stride-some (t .output) (s .output)
 
 -- one row more
-pub more-begun : (window : Range) (Reach : Surface → Type 0) (t : Task) → Clear window Reach t → (memory₀ memory memory′ : List ℕ) (y : ℕ) →
+pub more-begun : (window : Range) (Reach : Surface → Type 0) (t : Task) → TaskInBounds window Reach t → (memory₀ memory memory′ : List ℕ) (y : ℕ) →
     y < t .output .height → memory ≡ begun t y memory₀ → memory′ ≡ drawRow t y memory → memory′ ≡ begun t (y + 1) memory₀
 unfolding begun drawRow rowDrawn
 more-begun window Reach t s memory₀ memory memory′ y v h m =

@@ -7,11 +7,11 @@ use native.Mathlib.Omega.{arith}
 use native.Mathlib.Nat.{div-lt-iff-lt-mul}
 use lib.ListN.{length, getD}
 use Rattle.word.specs.Word.{byteOf}
-use Rattle.pixel.specs.Formats.{bytesOf, layoutOf}
+use Rattle.pixel.specs.Formats.{bytesPerPixel, layoutOf}
 use Rattle.pixel.specs.Colours.{packed, unpacked}
 use Rattle.pixel.specs.declared.colour.Colour.{Colour as Channels}
 use Rattle.pixel.specs.declared.format.Format.{Format}
-use Rattle.transform.specs.Transform.{Within, rotatedSize, sourceOf}
+use Rattle.transform.specs.Transform.{InPicture, rotatedSize, sourcePixel}
 use Rattle.transform.specs.Compose.{compose}
 use Rattle.transform.specs.declared.Point.{Point}
 use Rattle.transform.specs.declared.Size.{Size}
@@ -28,15 +28,15 @@ use Rattle.register.specs.declared.task.SourceMode.{SourceMode}
 use Rattle.register.specs.declared.task.SourceMode.the-variants.{Buffer, Colour}
 use Rattle.register.specs.Task.{isBuffer}
 use Rattle.register.specs.Size.{sizeOf}
-use Rattle.rows.specs.Row.{colourAt, originOf}
-use Rattle.raster.specs.Task.{colourBy, sourceColour, drawTask}
+use Rattle.rows.specs.Row.{colourAt, sourcePixelOf}
+use Rattle.raster.specs.Task.{sourceModeColour, sourceColour, drawTask}
 use Rattle.raster.specs.Twice.{turned, Fits, Tasks, twice, once, TwoTurns, TwoTasks}
 use Rattle.raster.proofs.Turn.{stride-some}
 use Rattle.raster.proofs.Pixel.{pixel-plain}
 
 -- ---- the tasks that draw so
 
-colourBy-buffer : (m : SourceMode) (s : Source) (memory : List ℕ) (p : Point) → isBuffer m ≡ true → colourBy m s memory p ≡ colourAt (s .surface) memory p
+colourBy-buffer : (m : SourceMode) (s : Source) (memory : List ℕ) (p : Point) → isBuffer m ≡ true → sourceModeColour m s memory p ≡ colourAt (s .surface) memory p
 colourBy-buffer Buffer s memory p e = refl
 colourBy-buffer Colour s memory p e = let z : false ≡ true = e in cc
 
@@ -62,12 +62,12 @@ module _ (s : Surface) (setting : Transform) (o : Surface) (memory : List ℕ) w
   length-turned = length-drawnOn o _ memory
 
   -- it has the colour of the pixel that the setting brings there
-  turned-loaded : Fits (length memory) s setting o → (p : Point) → Within (sizeOf o) p →
-      colourAt o (turned s setting o memory) p ≡ colourAt s memory (sourceOf setting (sizeOf s) p)
-  unfolding turned colourAt originOf
+  turned-loaded : Fits (length memory) s setting o → (p : Point) → InPicture (sizeOf o) p →
+      colourAt o (turned s setting o memory) p ≡ colourAt s memory (sourcePixel setting (sizeOf s) p)
+  unfolding turned colourAt sourcePixelOf
   turned-loaded f p w =
-      loaded-drawn o (λ (x y : ℕ). colourAt s memory (originOf s setting x y)) memory (f .rows .spaced) (f .inside) (p .x) (p .y) (w .across) (w .down)
-      ∙ ap (λ (g : Format). unpacked (layoutOf g) (packed (layoutOf g) (colourAt s memory (sourceOf setting (sizeOf s) p)))) (sym (f .format))
+      loaded-drawn o (λ (x y : ℕ). colourAt s memory (sourcePixelOf s setting x y)) memory (f .rows .spaced) (f .inside) (p .x) (p .y) (w .across) (w .down)
+      ∙ ap (λ (g : Format). unpacked (layoutOf g) (packed (layoutOf g) (colourAt s memory (sourcePixel setting (sizeOf s) p)))) (sym (f .format))
       ∙ loaded-again (s .format) memory _
 
 -- ---- two drawings and one
@@ -80,13 +80,13 @@ module _ (s m o : Surface) (a b : Transform) (memory : List ℕ) (f : Fits (leng
   composed-size = composes .size a b (sizeOf s) ∙ ap (rotatedSize (b .rotation)) (f .size) ∙ g .size
 
   -- the second picture has the colours of the one
-  colours : (x y : ℕ) → x < o .width → y < o .height → colourAt m between (originOf m b x y) ≡ colourAt s memory (originOf s (compose a b) x y)
-  unfolding originOf
+  colours : (x y : ℕ) → x < o .width → y < o .height → colourAt m between (sourcePixelOf m b x y) ≡ colourAt s memory (sourcePixelOf s (compose a b) x y)
+  unfolding sourcePixelOf
   colours x y u v =
       let p : Point = record { x = x; y = y } in
-      let w : Within (sizeOf o) p = record { across = u; down = v } in
-      turned-loaded s a m memory f (sourceOf b (sizeOf m) p) (source-within b (sizeOf m) p (rw (g .size) w))
-      ∙ ap (λ (z : Size). colourAt s memory (sourceOf a (sizeOf s) (sourceOf b z p))) (sym (f .size))
+      let w : InPicture (sizeOf o) p = record { across = u; down = v } in
+      turned-loaded s a m memory f (sourcePixel b (sizeOf m) p) (source-within b (sizeOf m) p (rw (g .size) w))
+      ∙ ap (λ (z : Size). colourAt s memory (sourcePixel a (sizeOf s) (sourcePixel b z p))) (sym (f .size))
       ∙ ap (colourAt s memory) (sym (composes .source a b (sizeOf s) p (rw composed-size w)))
 
   -- so each byte of its rows is the same
@@ -94,9 +94,9 @@ module _ (s m o : Surface) (a b : Transform) (memory : List ℕ) (f : Fits (leng
   unfolding turned
   output i y j r =
       let l : i < length memory = omega (arith, byte-in-span o i y j r .1, g .inside) in
-      let x : j / bytesOf (o .format) < o .width = div-lt-iff-lt-mul (bytes-some (o .format)) .1 (r .column) in
+      let x : j / bytesPerPixel (o .format) < o .width = div-lt-iff-lt-mul (bytes-some (o .format)) .1 (r .column) in
       inside-row o _ between (g .rows .spaced) i y j (omega (arith, length-turned s a m memory)) r
-      ∙ ap (λ (c : Channels). byteOf (packed (layoutOf (o .format)) c) (j % bytesOf (o .format))) (colours (j / bytesOf (o .format)) y x (r .row))
+      ∙ ap (λ (c : Channels). byteOf (packed (layoutOf (o .format)) c) (j % bytesPerPixel (o .format))) (colours (j / bytesPerPixel (o .format)) y x (r .row))
       ∙ sym (inside-row o _ memory (g .rows .spaced) i y j l r)
 
   -- and one that the first drawing leaves is the same after the second

@@ -3,9 +3,9 @@ use mathlib.Core.List.{List}
 use Prim.Native.Nat.{ℕ}
 use Rattle.register.specs.declared.bank.Bank.{Bank}
 use Rattle.rules.specs.declared.task.Bounds.{Bounds}
-use Rattle.batch.specs.Batch.{readBatch, tasksDrawn}
+use Rattle.batch.specs.Batch.{decodeBatch, tasksDrawn}
 use Rattle.raster.specs.Task.{drawTasks}
 
 -- a batch of these words, read from this bank on: its tasks in order, or nothing at all of a faulty one
 unfoldable pub drawBatch : Bounds → Bank → List ℕ → List ℕ → List ℕ
-drawBatch bounds bank words memory = drawTasks (tasksDrawn (readBatch bounds bank words)) memory
+drawBatch bounds bank words memory = drawTasks (tasksDrawn (decodeBatch bounds bank words)) memory

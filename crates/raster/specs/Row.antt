@@ -1,16 +1,16 @@
--- One row of a task. The definition of a task does not speak of it: it is what the functions that draw a row promise.
+-- Internal: used only in contracts of helper functions. One row of a task.
 use mathlib.Core.Path.{_≡_}
 use mathlib.Core.Bool.{true, false}
 use mathlib.Core.List.{List}
 use Prim.Native.Nat.{ℕ, _+_, _*_, _≤_, _<_}
 use lib.ListN.{length}
 use Rattle.range.specs.declared.Range.{Range}
-use Rattle.pixel.specs.Formats.{bytesOf, layoutOf}
+use Rattle.pixel.specs.Formats.{bytesPerPixel, layoutOf}
 use Rattle.pixel.specs.Colours.{packed}
 use Rattle.pixel.specs.declared.colour.Colour.{Colour}
 use Rattle.transform.specs.Transform.{rotatedSize}
 use Rattle.surface.specs.Surface.{rowLength, rowStart, span}
-use Rattle.surface.specs.Memory.{mapi, within}
+use Rattle.surface.specs.Memory.{mapi, overwriteRange}
 use Rattle.surface.specs.Rows.{rowByte}
 use Rattle.surface.specs.declared.Surface.{Surface}
 use Rattle.register.specs.Task.{isBuffer}
@@ -18,46 +18,46 @@ use Rattle.register.specs.declared.task.Source.{Source}
 use Rattle.register.specs.declared.task.Task.{Task}
 use Rattle.register.specs.Size.{sizeOf}
 use Rattle.raster.specs.Task.{pixelColour}
-use Rattle.raster.specs.Clear.{Drawable}
+use Rattle.raster.specs.Preconditions.{Drawable}
 
 -- bytes after a row of a surface was drawn in them, from byte `at` on, in the colours p
 unfoldable pub rowDrawn : Surface → ℕ → (ℕ → Colour) → List ℕ → List ℕ
 rowDrawn s at p bytes =
-    mapi (within at (rowLength s) (λ (j old : ℕ). rowByte (bytesOf (s .format)) (λ (x : ℕ). packed (layoutOf (s .format)) (p x)) j)) bytes
+    mapi (overwriteRange at (rowLength s) (λ (j old : ℕ). rowByte (bytesPerPixel (s .format)) (λ (x : ℕ). packed (layoutOf (s .format)) (p x)) j)) bytes
 
 -- memory after row y of a task alone was drawn, its colours computed from the memory before the row
 unfoldable pub drawRow : Task → ℕ → List ℕ → List ℕ
 drawRow t y memory = rowDrawn (t .output) (rowStart (t .output) y) (λ (x : ℕ). pixelColour t memory x y) memory
 
 -- what is asked where a row of the source is fetched
-pub record Fetched (memory buffer : List ℕ) (s : Source) (y width : ℕ) : Type 0 where
+pub record SourceRowInBounds (memory buffer : List ℕ) (s : Source) (y width : ℕ) : Type 0 where
   pub room : width * 4 ≤ length buffer
   pub across : width ≤ rotatedSize (s .transform .rotation) (sizeOf (s .surface)) .width
   pub down : y < rotatedSize (s .transform .rotation) (sizeOf (s .surface)) .height
   pub inside : isBuffer (s .mode) ≡ true → span (s .surface) .end ≤ length memory
 
 -- what is asked where a row is drawn in a window's bytes from `at` on: it lies there, and the buffer holds a row
-pub record Fits (o : Surface) (at : ℕ) (bytes buffer : List ℕ) : Type 0 where
+pub record RowFits (o : Surface) (at : ℕ) (bytes buffer : List ℕ) : Type 0 where
   pub inside : at + rowLength o ≤ length bytes
   pub room : o .width * 4 ≤ length buffer
 
 -- what is asked where row y of a task is drawn
-pub record Row (window : Range) (memory : List ℕ) (t : Task) (y : ℕ) : Type 0 where
+pub record RowDrawable (window : Range) (memory : List ℕ) (t : Task) (y : ℕ) : Type 0 where
   pub drawable : Drawable window (length memory) t
   pub row : y < t .output .height
 
 -- two buffers, each for a row as wide as any
-pub record Buffers (s d : List ℕ) : Type 0 where
+pub record RowBuffers (s d : List ℕ) : Type 0 where
   pub source : 16384 ≤ length s
   pub destination : 16384 ≤ length d
 
 -- what is asked where row y of a task is drawn with buffers
-pub record Ready (window : Range) (memory s d : List ℕ) (t : Task) (y : ℕ) : Type 0 where
-  pub ask : Row window memory t y
-  pub buffers : Buffers s d
+pub record RowBuffered (window : Range) (memory s d : List ℕ) (t : Task) (y : ℕ) : Type 0 where
+  pub ask : RowDrawable window memory t y
+  pub buffers : RowBuffers s d
 
 -- or no buffer is needed, since it is all of one colour
-pub record Filled (window : Range) (memory : List ℕ) (t : Task) (y : ℕ) : Type 0 where
-  pub ask : Row window memory t y
+pub record RowFillable (window : Range) (memory : List ℕ) (t : Task) (y : ℕ) : Type 0 where
+  pub ask : RowDrawable window memory t y
   pub plain : t .blending .on ≡ false
   pub solid : isBuffer (t .source .mode) ≡ false

@@ -4,23 +4,23 @@ use mathlib.Core.List.{List, [], _∷_}
 use Prim.Native.Nat.{ℕ}
 use Rattle.pixel.specs.declared.colour.Colour.{Colour as Channels}
 use Rattle.transform.specs.declared.Point.{Point}
-use Rattle.surface.specs.Drawn.{drawnOn}
+use Rattle.surface.specs.Drawn.{drawSurface}
 use Rattle.register.specs.declared.task.Source.{Source}
 use Rattle.register.specs.declared.task.SourceMode.{SourceMode}
 use Rattle.register.specs.declared.task.SourceMode.the-variants.{Buffer, Colour}
 use Rattle.register.specs.declared.task.Destination.{Destination}
 use Rattle.register.specs.declared.task.Task.{Task}
-use Rattle.rows.specs.Row.{colourAt, originOf}
-use Rattle.rows.specs.Mixed.{mixed}
+use Rattle.rows.specs.Row.{colourAt, sourcePixelOf}
+use Rattle.rows.specs.Mixed.{composite}
 
 -- the colour of the source's pixel p, by source mode
-abbrev pub colourBy : SourceMode → Source → List ℕ → Point → Channels
-colourBy Buffer s memory p = colourAt (s .surface) memory p
-colourBy Colour s memory p = s .colour
+abbrev pub sourceModeColour : SourceMode → Source → List ℕ → Point → Channels
+sourceModeColour Buffer s memory p = colourAt (s .surface) memory p
+sourceModeColour Colour s memory p = s .colour
 
 -- the source colour of output pixel (x, y): that of the source pixel which flips and turn bring there
 unfoldable pub sourceColour : Source → List ℕ → ℕ → ℕ → Channels
-sourceColour s memory x y = colourBy (s .mode) s memory (originOf (s .surface) (s .transform) x y)
+sourceColour s memory x y = sourceModeColour (s .mode) s memory (sourcePixelOf (s .surface) (s .transform) x y)
 
 -- the destination has no flips and no turn
 unfoldable pub destinationColour : Destination → List ℕ → ℕ → ℕ → Channels
@@ -30,11 +30,11 @@ destinationColour d memory x y = colourAt (d .surface) memory (record { x = x; y
 unfoldable pub pixelColour : Task → List ℕ → ℕ → ℕ → Channels
 pixelColour t memory x y =
     cond (t .blending .on)
-    (mixed (t .blending) (t .source .alpha) (t .destination .alpha) (sourceColour (t .source) memory x y) (destinationColour (t .destination) memory x y))
+    (composite (t .blending) (t .source .alpha) (t .destination .alpha) (sourceColour (t .source) memory x y) (destinationColour (t .destination) memory x y))
     (sourceColour (t .source) memory x y)
 
 unfoldable pub drawTask : Task → List ℕ → List ℕ
-drawTask t memory = drawnOn (t .output) (pixelColour t memory) memory
+drawTask t memory = drawSurface (t .output) (pixelColour t memory) memory
 
 -- a batch: each task on the memory that the tasks before it left
 unfoldable pub drawTasks : List Task → List ℕ → List ℕ

@@ -16,25 +16,25 @@ use Rattle.transform.specs.Transform.{rotatedSize}
 use Rattle.transform.specs.Compose.{compose, SameOrientation}
 use Rattle.surface.specs.declared.Surface.{Surface}
 use Rattle.surface.specs.Surface.{InRow}
-use Rattle.surface.specs.Drawn.{drawnOn}
+use Rattle.surface.specs.Drawn.{drawSurface}
 use Rattle.register.specs.declared.task.Task.{Task}
 use Rattle.register.specs.Task.{isBuffer}
 use Rattle.register.specs.Size.{sizeOf}
-use Rattle.rows.specs.Row.{colourAt, originOf}
+use Rattle.rows.specs.Row.{colourAt, sourcePixelOf}
 use Rattle.raster.specs.Task.{drawTask}
-use Rattle.raster.specs.Clear.{Rectangle, Below, Drawable}
+use Rattle.raster.specs.Preconditions.{ValidRectangle, EndsBelow, Drawable}
 
 -- memory after the picture s was drawn with a setting into o, without blending
 unfoldable pub turned : Surface → Transform → Surface → List ℕ → List ℕ
-turned s setting o memory = drawnOn o (λ (x y : ℕ). colourAt s memory (originOf s setting x y)) memory
+turned s setting o memory = drawSurface o (λ (x y : ℕ). colourAt s memory (sourcePixelOf s setting x y)) memory
 
 -- o has the picture's turned size and its format, and lies in a memory of n bytes. That no byte lies in rows of both is not asked: all colours are
 -- those of the memory before the drawing. (A task whose rows meet is not drawn: fault 28.)
 pub record Fits (n : ℕ) (s : Surface) (setting : Transform) (o : Surface) : Type 0 where
   pub size : rotatedSize (setting .rotation) (sizeOf s) ≡ sizeOf o
   pub format : s .format ≡ o .format
-  pub rows : Rectangle o
-  pub inside : Below n o
+  pub rows : ValidRectangle o
+  pub inside : EndsBelow n o
 
 -- a task of which the request speaks: it may be drawn (so no byte lies in rows of its source and its output), reads its source from memory, in the
 -- output's format, and does not blend

@@ -4,9 +4,9 @@ ghost use mathlib.Core.Bool.{true, false};
 ghost use Prim.Native.Nat.{_+_, _≤_};
 ghost use lib.ListN.{length};
 ghost use Rattle.surface.specs.Surface.{rowLength};
-ghost use Rattle.rows.specs.Row.{colourIn, Spells};
+ghost use Rattle.rows.specs.Row.{colourIn, HoldsColours};
 ghost use Rattle.raster.specs.Task.{sourceColour};
-ghost use Rattle.raster.specs.Row.{rowDrawn, drawRow, Fetched, Fits, Ready, Filled};
+ghost use Rattle.raster.specs.Row.{rowDrawn, drawRow, SourceRowInBounds, RowFits, RowBuffered, RowFillable};
 use pixel::Colour;
 use range::Range;
 use register::Source;
@@ -22,8 +22,8 @@ use surface::Surface;
 
 // Fetches the source colours of output row y, by source mode.
 fn fetch_source(buffer: &mut [u8], width: usize, memory: &[u8], source: Source, y: usize)
-    requires { ⌜ Fetched (now memory) (now buffer) source y width ⌝ }
-    ensures { λ _. ⌜ Spells (now (buffer .exit)) width (λ x. sourceColour source (now (memory .entry)) x y) ⌝ }
+    requires { ⌜ SourceRowInBounds (now memory) (now buffer) source y width ⌝ }
+    ensures { λ _. ⌜ HoldsColours (now (buffer .exit)) width (λ x. sourceColour source (now (memory .entry)) x y) ⌝ }
 {
     let mode = source.mode;
     match mode {
@@ -50,7 +50,7 @@ fn fill_at(window: &mut [u8], at: usize, output: Surface, c: Colour)
 
 // Draws a row of the source's colours in the window, from byte `at` of it on.
 fn blit_at(window: &mut [u8], at: usize, output: Surface, source: &[u8])
-    requires { ⌜ Fits output at (now window) (now source) ⌝ }
+    requires { ⌜ RowFits output at (now window) (now source) ⌝ }
     ensures { λ _. ⌜ now (window .exit) ≡ rowDrawn output at (λ x. colourIn (now (source .entry)) x) (now (window .entry)) ⌝ }
 {
     let format = output.format;
@@ -67,7 +67,7 @@ fn blended_row(
     source: &mut [u8],
     destination: &mut [u8],
 )
-    requires { ⌜ Ready window (now memory) (now source) (now destination) task y × (task .blending .on ≡ true) ⌝ }
+    requires { ⌜ RowBuffered window (now memory) (now source) (now destination) task y × (task .blending .on ≡ true) ⌝ }
     ensures { λ _. ⌜ now (memory .exit) ≡ drawRow task y (now (memory .entry)) ⌝ }
 {
     let start = window.start;
@@ -88,7 +88,7 @@ fn blended_row(
 
 // Draws row y of a task that copies its source.
 fn copied_row(memory: &mut [u8], window: Range, task: Task, y: u16, source: &mut [u8])
-    requires { ⌜ Ready window (now memory) (now source) (now source) task y × (task .blending .on ≡ false) ⌝ }
+    requires { ⌜ RowBuffered window (now memory) (now source) (now source) task y × (task .blending .on ≡ false) ⌝ }
     ensures { λ _. ⌜ now (memory .exit) ≡ drawRow task y (now (memory .entry)) ⌝ }
 {
     let start = window.start;
@@ -102,7 +102,7 @@ fn copied_row(memory: &mut [u8], window: Range, task: Task, y: u16, source: &mut
 
 // Draws row y of a task that is all of one colour.
 fn filled_row(memory: &mut [u8], window: Range, task: Task, y: u16)
-    requires { ⌜ Filled window (now memory) task y ⌝ }
+    requires { ⌜ RowFillable window (now memory) task y ⌝ }
     ensures { λ _. ⌜ now (memory .exit) ≡ drawRow task y (now (memory .entry)) ⌝ }
 {
     let start = window.start;
@@ -122,7 +122,7 @@ pub fn draw_row(
     source: &mut [u8],
     destination: &mut [u8],
 )
-    requires { ⌜ Ready window (now memory) (now source) (now destination) task y ⌝ }
+    requires { ⌜ RowBuffered window (now memory) (now source) (now destination) task y ⌝ }
     ensures { λ _. ⌜ now (memory .exit) ≡ drawRow task y (now (memory .entry)) ⌝ }
 {
     if task.blending.on {

@@ -11,10 +11,10 @@ use Rattle.record.specs.declared.Setup.{Setup}
 use Rattle.record.specs.declared.Record.{Record}
 use Rattle.record.specs.Setup.{badRing, badMemory, badLength}
 use Rattle.record.specs.declared.Batch.{Batch}
-use Rattle.record.specs.Slots.{ready, sum, total}
+use Rattle.record.specs.Slots.{readyBatches, sumOver, totalLength}
 use Rattle.record.specs.Queue.{takenSlots, takenBytes, freeBytes, writeOffset, waiting}
 use Rattle.record.specs.Rules.{ringRule, memoryRule, clientsRule, readRule, numberRules, windowsRule, ticketsRule, endToEndRule, lengthsRule, totalRule, ownersRule, batchRules, pendingRule, valid}
-use Rattle.ring.specs.Segment.{wrapped}
+use Rattle.ring.specs.Segment.{wrapOffset}
 use Rattle.ring.proofs.Wrapped.{wrapped-in}
 use Rattle.record.proofs.Line.{after-last}
 use mathlib.Core.List.{List, [], _∷_, _++_}
@@ -94,7 +94,7 @@ pub record Valid (engine : Record) : Type 0 where
   pub given : ticketsRule engine ≡ true
   pub ends : endToEndRule engine ≡ true
   pub lengths : lengthsRule engine ≡ true
-  pub within : total (waiting engine) ≤ engine .setup .ring
+  pub within : totalLength (waiting engine) ≤ engine .setup .ring
   pub owners : ownersRule engine ≡ true
   pub counts : pendingRule engine ≡ true
 
@@ -121,9 +121,9 @@ valid-facts engine e =
 
 -- the number rules are kept, and every other one: the record is valid
 pub valid-made : (engine : Record) → numberRules engine ≡ true → windowsRule engine ≡ true → ticketsRule engine ≡ true → endToEndRule engine ≡ true →
-    lengthsRule engine ≡ true → total (waiting engine) ≤ engine .setup .ring → ownersRule engine ≡ true → pendingRule engine ≡ true → valid engine ≡ true
+    lengthsRule engine ≡ true → totalLength (waiting engine) ≤ engine .setup .ring → ownersRule engine ≡ true → pendingRule engine ≡ true → valid engine ≡ true
 unfolding valid
-valid-made engine n w g e l t o c = rw (n, w, g, e, l, le-leb (total (waiting engine)) (engine .setup .ring) t, o, c)
+valid-made engine n w g e l t o c = rw (n, w, g, e, l, le-leb (totalLength (waiting engine)) (engine .setup .ring) t, o, c)
 
 pub numbers-kept : (engine : Record) → valid engine ≡ true → numberRules engine ≡ true
 unfolding valid
@@ -134,11 +134,11 @@ numbers-kept engine e =
 
 -- the batches in order are all that are ready, so sums over the slots are sums over them
 module _ (engine : Record) (v : Valid engine) (few : takenSlots engine ≤ 8) where
-  pub sum-waiting : (f : Batch → ℕ) → sum f (ready (engine .slots)) ≡ sum f (waiting engine)
+  pub sum-waiting : (f : Batch → ℕ) → sumOver f (readyBatches (engine .slots)) ≡ sumOver f (waiting engine)
   sum-waiting f = sum-order f (takenSlots engine) (engine .next) (engine .slots) refl (omega arith) (v .given)
 
   -- free room is the ring less the waiting lengths
-  pub free-room : freeBytes engine ≡ engine .setup .ring - total (waiting engine)
+  pub free-room : freeBytes engine ≡ engine .setup .ring - totalLength (waiting engine)
   free-room = rw (sum-waiting (λ b. b .length))
 
   pub taken-within : takenBytes engine ≤ engine .setup .ring
@@ -148,13 +148,13 @@ module _ (engine : Record) (v : Valid engine) (few : takenSlots engine ≤ 8) wh
   length-waiting = length-order (takenSlots engine) (engine .next) (engine .slots)
 
   -- the next batch goes after the newest one, and to the read offset if none is ready
-  pub write-newest : (bs : List Batch) (b : Batch) → waiting engine ≡ bs ++ (b ∷ []) → writeOffset engine ≡ wrapped (engine .setup .ring) (b .offset + b .length)
+  pub write-newest : (bs : List Batch) (b : Batch) → waiting engine ≡ bs ++ (b ∷ []) → writeOffset engine ≡ wrapOffset (engine .setup .ring) (b .offset + b .length)
   write-newest bs b is =
-      ap (λ (x : ℕ). wrapped (engine .setup .ring) (engine .read + x)) (sum-waiting (λ x. x .length) ∙ ap total is)
+      ap (λ (x : ℕ). wrapOffset (engine .setup .ring) (engine .read + x)) (sum-waiting (λ x. x .length) ∙ ap totalLength is)
       ∙ after-last (engine .setup .ring) (engine .read) (v .numbers .below) bs b (rw is at (v .within)) (rw is at (v .ends))
 
   pub write-first : waiting engine ≡ [] → writeOffset engine ≡ engine .read
-  unfolding sum
+  unfolding sumOver
   write-first is =
-      ap (λ (x : ℕ). wrapped (engine .setup .ring) (engine .read + x)) (sum-waiting (λ x. x .length) ∙ ap total is)
+      ap (λ (x : ℕ). wrapOffset (engine .setup .ring) (engine .read + x)) (sum-waiting (λ x. x .length) ∙ ap totalLength is)
       ∙ rw add-zero (wrapped-in (engine .setup .ring) (engine .read) (v .numbers .below))

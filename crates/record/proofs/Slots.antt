@@ -13,60 +13,60 @@ use Rattle.record.specs.declared.Batch.{Batch}
 use Rattle.record.specs.declared.Slot.{Slot}
 use Rattle.record.specs.declared.SlotState.{SlotState}
 use Rattle.record.specs.declared.SlotState.the-variants.{Free, Ready}
-use Rattle.record.specs.Slots.{free, added, ready, sum, isFreeState, lowestFree}
-use Rattle.record.specs.Tickets.{ticketBefore, stateHas, place}
+use Rattle.record.specs.Slots.{free, consIfReady, readyBatches, sumOver, isFreeState, lowestFree}
+use Rattle.record.specs.Tickets.{ticketBefore, hasTicket, slotOfTicket}
 
 -- what one slot adds to a sum, and to the number of ready batches
-pub sum-added : (f : Batch → ℕ) (s : SlotState) (bs : List Batch) → sum f (added s bs) ≡ sum f (added s []) + sum f bs
-unfolding sum
+pub sum-added : (f : Batch → ℕ) (s : SlotState) (bs : List Batch) → sumOver f (consIfReady s bs) ≡ sumOver f (consIfReady s []) + sumOver f bs
+unfolding sumOver
 sum-added f Free bs = omega arith
 sum-added f (Ready b) bs = omega arith
 
-pub length-added : (s : SlotState) (bs : List Batch) → length (added s bs) ≡ length (added s []) + length bs
+pub length-added : (s : SlotState) (bs : List Batch) → length (consIfReady s bs) ≡ length (consIfReady s []) + length bs
 length-added Free bs = omega arith
 length-added (Ready b) bs = omega arith
 
-pub added-most : (s : SlotState) → length (added s []) ≤ 1
+pub added-most : (s : SlotState) → length (consIfReady s []) ≤ 1
 added-most Free = omega arith
 added-most (Ready b) = omega arith
 
 module _ (xs : List Slot) (i : ℕ) (h : i < length xs) where
-  ready-step : ready (drop i xs) ≡ added (getD xs i free .state) (ready (drop (i + 1) xs))
-  unfolding ready
+  ready-step : readyBatches (drop i xs) ≡ consIfReady (getD xs i free .state) (readyBatches (drop (i + 1) xs))
+  unfolding readyBatches
   ready-step = rw (add-one, drop-cons xs i free)
 
-  pub count-step : length (ready (drop i xs)) ≡ length (added (getD xs i free .state) []) + length (ready (drop (i + 1) xs))
-  count-step = rw ready-step (length-added (getD xs i free .state) (ready (drop (i + 1) xs)))
+  pub count-step : length (readyBatches (drop i xs)) ≡ length (consIfReady (getD xs i free .state) []) + length (readyBatches (drop (i + 1) xs))
+  count-step = rw ready-step (length-added (getD xs i free .state) (readyBatches (drop (i + 1) xs)))
 
-  pub sum-step : (f : Batch → ℕ) → sum f (ready (drop i xs)) ≡ sum f (added (getD xs i free .state) []) + sum f (ready (drop (i + 1) xs))
-  sum-step f = rw ready-step (sum-added f (getD xs i free .state) (ready (drop (i + 1) xs)))
+  pub sum-step : (f : Batch → ℕ) → sumOver f (readyBatches (drop i xs)) ≡ sumOver f (consIfReady (getD xs i free .state) []) + sumOver f (readyBatches (drop (i + 1) xs))
+  sum-step f = rw ready-step (sum-added f (getD xs i free .state) (readyBatches (drop (i + 1) xs)))
 
   pub lowest-step : lowestFree (drop i xs) ≡ cond (isFreeState (getD xs i free .state)) 0 (suc (lowestFree (drop (i + 1) xs)))
   unfolding lowestFree
   lowest-step = rw (add-one, drop-cons xs i free)
 
-  pub place-step : (t : ℕ) → place t (drop i xs) ≡ cond (stateHas t (getD xs i free .state)) 0 (suc (place t (drop (i + 1) xs)))
-  unfolding place
+  pub place-step : (t : ℕ) → slotOfTicket t (drop i xs) ≡ cond (hasTicket t (getD xs i free .state)) 0 (suc (slotOfTicket t (drop (i + 1) xs)))
+  unfolding slotOfTicket
   place-step t = rw (add-one, drop-cons xs i free)
 
 module _ (xs : List Slot) (i : ℕ) (h : length xs ≤ i) where
-  ready-end : ready (drop i xs) ≡ []
-  unfolding ready
+  ready-end : readyBatches (drop i xs) ≡ []
+  unfolding readyBatches
   ready-end = rw (drop-of-length-le xs h)
 
-  pub count-end : length (ready (drop i xs)) ≡ 0
+  pub count-end : length (readyBatches (drop i xs)) ≡ 0
   count-end = rw ready-end
 
-  pub sum-end : (f : Batch → ℕ) → sum f (ready (drop i xs)) ≡ 0
-  unfolding sum
+  pub sum-end : (f : Batch → ℕ) → sumOver f (readyBatches (drop i xs)) ≡ 0
+  unfolding sumOver
   sum-end f = rw ready-end
 
   pub lowest-end : lowestFree (drop i xs) ≡ 0
   unfolding lowestFree
   lowest-end = rw (drop-of-length-le xs h)
 
-  pub place-end : (t : ℕ) → place t (drop i xs) ≡ 0
-  unfolding place
+  pub place-end : (t : ℕ) → slotOfTicket t (drop i xs) ≡ 0
+  unfolding slotOfTicket
   place-end t = rw (drop-of-length-le xs h)
 
 -- the wrapping difference to the next ticket is k just where the ticket is the one k before it
@@ -81,7 +81,7 @@ age-ticket d next t k e hd ht hk = go (eqb d k) refl
         sym (ne-eqb t (ticketBefore next k) y)
 
 -- no more batches are ready than there are slots
-pub ready-most : (ss : List Slot) → length (ready ss) ≤ length ss
-unfolding ready
+pub ready-most : (ss : List Slot) → length (readyBatches ss) ≤ length ss
+unfolding readyBatches
 ready-most [] = omega arith
-ready-most (s ∷ ss) = omega (arith, length-added (s .state) (ready ss), added-most (s .state), ready-most ss)
+ready-most (s ∷ ss) = omega (arith, length-added (s .state) (readyBatches ss), added-most (s .state), ready-most ss)

@@ -9,14 +9,14 @@ use lib.ListN.{length, getD}
 use lib.Dec.{leb, ltb, eqb}
 use borrow.Author.Tests.{lt-ltb, le-ltb, le-leb, lt-leb, leb-true, eqb-true, ltb-true, not-true}
 use Rattle.word.proofs.Tests.{split, and-true}
-use Rattle.ring.specs.Segment.{wrapped}
+use Rattle.ring.specs.Segment.{wrapOffset}
 use Rattle.record.specs.declared.Batch.{Batch}
 use Rattle.record.specs.declared.Slot.{Slot}
 use Rattle.record.specs.declared.Record.{Record}
 use Rattle.record.specs.Setup.{badLength}
-use Rattle.record.specs.Slots.{free, sum, total}
-use Rattle.record.specs.Tickets.{ticketBefore, place, isGiven, stateBatch, batchWith, lastGiven, inOrder}
-use Rattle.record.specs.Rules.{endToEnd, lengthsAllowed, ofOpen}
+use Rattle.record.specs.Slots.{free, sumOver, totalLength}
+use Rattle.record.specs.Tickets.{ticketBefore, slotOfTicket, isReadyTicket, batchInState, batchOfTicket, ticketsConsecutive, inTicketOrder}
+use Rattle.record.specs.Rules.{endToEnd, lengthsAllowed, clientsOpen}
 
 -- the rules of one batch but its ticket
 abbrev pub fitsIn : (ring opened offset room : ℕ) → Batch → Bool
@@ -26,29 +26,29 @@ fitsIn ring opened offset room b = eqb (b .offset) offset && not (badLength ring
 unfoldable pub walk : (ring opened k next : ℕ) → List Slot → (offset room : ℕ) → Bool
 walk ring opened zero next slots offset room = true
 walk ring opened (suc k) next slots offset room =
-    let b : Batch = batchWith (ticketBefore next (suc k)) slots in
-    isGiven (ticketBefore next (suc k)) slots && eqb (b .offset) offset && not (badLength ring (b .length)) && leb (b .length) room && ltb (b .client) opened
-    && walk ring opened k next slots (wrapped ring (offset + b .length)) (room - b .length)
+    let b : Batch = batchOfTicket (ticketBefore next (suc k)) slots in
+    isReadyTicket (ticketBefore next (suc k)) slots && eqb (b .offset) offset && not (badLength ring (b .length)) && leb (b .length) room && ltb (b .client) opened
+    && walk ring opened k next slots (wrapOffset ring (offset + b .length)) (room - b .length)
 
 -- ---- a turn
 
-module _ (ring opened k next : ℕ) (slots : List Slot) (offset room : ℕ) (some : 0 < k) (i : ℕ) (at : i ≡ place (ticketBefore next k) slots) where
+module _ (ring opened k next : ℕ) (slots : List Slot) (offset room : ℕ) (some : 0 < k) (i : ℕ) (at : i ≡ slotOfTicket (ticketBefore next k) slots) where
   pub walk-missing : length slots ≤ i → false ≡ walk ring opened k next slots offset room
   unfolding walk
   walk-missing h = go k some at
     where
-      go : (k : ℕ) → 0 < k → i ≡ place (ticketBefore next k) slots → false ≡ walk ring opened k next slots offset room
+      go : (k : ℕ) → 0 < k → i ≡ slotOfTicket (ticketBefore next k) slots → false ≡ walk ring opened k next slots offset room
       go zero q e = absurd (omega arith)
       go (suc k) q e = rw (← e, le-ltb i (length slots) h)
 
-  module _ (h : i < length slots) (b : Batch) (is : b ≡ stateBatch (getD slots i free .state)) where
+  module _ (h : i < length slots) (b : Batch) (is : b ≡ batchInState (getD slots i free .state)) where
     walk-found : walk ring opened k next slots offset room ≡
-        (fitsIn ring opened offset room b && walk ring opened (k - 1) next slots (wrapped ring (offset + b .length)) (room - b .length))
+        (fitsIn ring opened offset room b && walk ring opened (k - 1) next slots (wrapOffset ring (offset + b .length)) (room - b .length))
     unfolding walk
     walk-found = go k some at
       where
-        go : (k : ℕ) → 0 < k → i ≡ place (ticketBefore next k) slots → walk ring opened k next slots offset room ≡
-            (fitsIn ring opened offset room b && walk ring opened (k - 1) next slots (wrapped ring (offset + b .length)) (room - b .length))
+        go : (k : ℕ) → 0 < k → i ≡ slotOfTicket (ticketBefore next k) slots → walk ring opened k next slots offset room ≡
+            (fitsIn ring opened offset room b && walk ring opened (k - 1) next slots (wrapOffset ring (offset + b .length)) (room - b .length))
         go zero q e = absurd (omega arith)
         go (suc k) q e =
             let less : suc k - 1 ≡ k = omega arith in
@@ -57,7 +57,7 @@ module _ (ring opened k next : ℕ) (slots : List Slot) (offset room : ℕ) (som
     pub walk-unfit : fitsIn ring opened offset room b ≡ false → false ≡ walk ring opened k next slots offset room
     walk-unfit e = rw (walk-found, e)
 
-    pub walk-next : fitsIn ring opened offset room b ≡ true → (on : ℕ) → on ≡ wrapped ring (offset + b .length) →
+    pub walk-next : fitsIn ring opened offset room b ≡ true → (on : ℕ) → on ≡ wrapOffset ring (offset + b .length) →
         walk ring opened (k - 1) next slots on (room - b .length) ≡ walk ring opened k next slots offset room
     walk-next e on o = rw (walk-found, e, o)
 
@@ -118,14 +118,14 @@ leb-add x y n = ⊎-elim over under (split n x)
 
 pub walk-rules : (engine : Record) (ring k next : ℕ) (slots : List Slot) (offset room : ℕ) →
     walk ring (engine .opened) k next slots offset room ≡
-    (lastGiven k next slots && endToEnd ring offset (inOrder k next slots) && lengthsAllowed ring (inOrder k next slots)
-    && leb (total (inOrder k next slots)) room && ofOpen engine (inOrder k next slots))
-unfolding walk lastGiven inOrder endToEnd lengthsAllowed ofOpen sum
+    (ticketsConsecutive k next slots && endToEnd ring offset (inTicketOrder k next slots) && lengthsAllowed ring (inTicketOrder k next slots)
+    && leb (totalLength (inTicketOrder k next slots)) room && clientsOpen engine (inTicketOrder k next slots))
+unfolding walk ticketsConsecutive inTicketOrder endToEnd lengthsAllowed clientsOpen sumOver
 walk-rules engine ring zero next slots offset room = rw (le-leb 0 room (omega arith))
 walk-rules engine ring (suc k) next slots offset room =
-    let b : Batch = batchWith (ticketBefore next (suc k)) slots in
-    let rest : List Batch = inOrder k next slots in
-    let on : ℕ = wrapped ring (offset + b .length) in
-    rw (walk-rules engine ring k next slots on (room - b .length), leb-add (b .length) (total rest) room)
-    (shuffle (isGiven (ticketBefore next (suc k)) slots) (eqb (b .offset) offset) (not (badLength ring (b .length))) (leb (b .length) room) (ltb (b .client) (engine .opened))
-    (lastGiven k next slots) (endToEnd ring on rest) (lengthsAllowed ring rest) (leb (total rest) (room - b .length)) (ofOpen engine rest))
+    let b : Batch = batchOfTicket (ticketBefore next (suc k)) slots in
+    let rest : List Batch = inTicketOrder k next slots in
+    let on : ℕ = wrapOffset ring (offset + b .length) in
+    rw (walk-rules engine ring k next slots on (room - b .length), leb-add (b .length) (totalLength rest) room)
+    (shuffle (isReadyTicket (ticketBefore next (suc k)) slots) (eqb (b .offset) offset) (not (badLength ring (b .length))) (leb (b .length) room) (ltb (b .client) (engine .opened))
+    (ticketsConsecutive k next slots) (endToEnd ring on rest) (lengthsAllowed ring rest) (leb (totalLength rest) (room - b .length)) (clientsOpen engine rest))

@@ -6,7 +6,7 @@ use Prim.Native.Nat.{ℕ, suc}
 use lib.ListN.{getD, take}
 use lib.Dec.{ltb, eqb}
 use Rattle.range.specs.declared.Range.{Range}
-use Rattle.range.specs.Range.{runOf, inside, shared}
+use Rattle.range.specs.Range.{rangeOf, containedIn, overlaps}
 use Rattle.record.specs.declared.Setup.{Setup}
 use Rattle.record.specs.declared.Window.{Window}
 use Rattle.record.specs.declared.Client.{Client}
@@ -40,29 +40,29 @@ abbrev pub openWindows : Record → List Window
 openWindows engine = windowsOf (openClients engine)
 
 -- the bytes of memory that a window holds
-abbrev pub bytesOf : Window → Range
-bytesOf w = runOf (w .start) (w .length)
+abbrev pub windowRange : Window → Range
+windowRange w = rangeOf (w .start) (w .length)
 
 -- the first bytes of memory: all of it, or the common area
-abbrev pub firstBytes : ℕ → Range
-firstBytes n = record { start = 0; end = n }
+abbrev pub prefixRange : ℕ → Range
+prefixRange n = record { start = 0; end = n }
 
 -- some of the bytes are a window's
-unfoldable pub sharesAny : Range → List Window → Bool
-sharesAny bytes [] = false
-sharesAny bytes (w ∷ ws) = shared bytes (bytesOf w) || sharesAny bytes ws
+unfoldable pub overlapsAny : Range → List Window → Bool
+overlapsAny bytes [] = false
+overlapsAny bytes (w ∷ ws) = overlaps bytes (windowRange w) || overlapsAny bytes ws
 
 -- 4: "window empty, past memory's end, or sharing a byte with common or another window"
 abbrev pub badWindow : Setup → (others : List Window) → Window → Bool
 badWindow setup others w =
-    eqb (w .length) 0 || not (inside (bytesOf w) (firstBytes (setup .memory))) || shared (bytesOf w) (firstBytes (setup .common)) || sharesAny (bytesOf w) others
+    eqb (w .length) 0 || not (containedIn (windowRange w) (prefixRange (setup .memory))) || overlaps (windowRange w) (prefixRange (setup .common)) || overlapsAny (windowRange w) others
 
--- 4 is true of none of the windows. Sharing goes both ways, so each is asked of those after it.
-unfoldable pub noneBad : Setup → List Window → Bool
-noneBad setup [] = true
-noneBad setup (w ∷ ws) = not (badWindow setup ws w) && noneBad setup ws
+-- 4 is true of none of the windows. Overlap is symmetric, so each window is compared with the later ones.
+unfoldable pub windowsValid : Setup → List Window → Bool
+windowsValid setup [] = true
+windowsValid setup (w ∷ ws) = not (badWindow setup ws w) && windowsValid setup ws
 
 -- the clients, whose ids go on from `id`, have as many batches pending as are theirs
-unfoldable pub countsRight : (id : ℕ) → List Client → List Batch → Bool
-countsRight id [] batches = true
-countsRight id (c ∷ cs) batches = eqb (c .pending) (countOf id batches) && countsRight (suc id) cs batches
+unfoldable pub pendingCountsMatch : (id : ℕ) → List Client → List Batch → Bool
+pendingCountsMatch id [] batches = true
+pendingCountsMatch id (c ∷ cs) batches = eqb (c .pending) (countOf id batches) && pendingCountsMatch (suc id) cs batches

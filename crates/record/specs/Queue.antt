@@ -3,19 +3,19 @@
 use mathlib.Core.List.{List}
 use Prim.Native.Nat.{ℕ, _+_, _-_}
 use lib.ListN.{length}
-use Rattle.ring.specs.Segment.{wrapped}
+use Rattle.ring.specs.Segment.{wrapOffset}
 use Rattle.record.specs.declared.Batch.{Batch}
 use Rattle.record.specs.declared.Record.{Record}
-use Rattle.record.specs.Slots.{ready, total}
-use Rattle.record.specs.Tickets.{inOrder}
+use Rattle.record.specs.Slots.{readyBatches, totalLength}
+use Rattle.record.specs.Tickets.{inTicketOrder}
 
 -- how many slots are ready
 abbrev pub takenSlots : Record → ℕ
-takenSlots engine = length (ready (engine .slots))
+takenSlots engine = length (readyBatches (engine .slots))
 
 -- how many ring bytes their batches have
 abbrev pub takenBytes : Record → ℕ
-takenBytes engine = total (ready (engine .slots))
+takenBytes engine = totalLength (readyBatches (engine .slots))
 
 -- how many ring bytes are free
 abbrev pub freeBytes : Record → ℕ
@@ -23,8 +23,8 @@ freeBytes engine = engine .setup .ring - takenBytes engine
 
 -- where the next batch goes: "after the newest one (at the read offset if none is ready), going on at byte 0 after the last byte"
 abbrev pub writeOffset : Record → ℕ
-writeOffset engine = wrapped (engine .setup .ring) (engine .read + takenBytes engine)
+writeOffset engine = wrapOffset (engine .setup .ring) (engine .read + takenBytes engine)
 
 -- the ready batches in ticket order, the oldest first: of n ready batches it has the ticket n before the next to be given
 abbrev pub waiting : Record → List Batch
-waiting engine = inOrder (takenSlots engine) (engine .next) (engine .slots)
+waiting engine = inTicketOrder (takenSlots engine) (engine .next) (engine .slots)

@@ -3,13 +3,13 @@ use mathlib.Core.List.{List, [], _∷_}
 use mathlib.Core.Bool.{Bool, true, _&&_, not}
 use Prim.Native.Nat.{ℕ, _+_, _%_}
 use lib.Dec.{leb, ltb, eqb}
-use Rattle.ring.specs.Segment.{wrapped}
+use Rattle.ring.specs.Segment.{wrapOffset}
 use Rattle.record.specs.declared.Batch.{Batch}
 use Rattle.record.specs.declared.Record.{Record}
 use Rattle.record.specs.Setup.{badRing, badMemory, badLength}
-use Rattle.record.specs.Slots.{ready, total}
-use Rattle.record.specs.Tickets.{lastGiven}
-use Rattle.record.specs.Clients.{isOpen, openClients, openWindows, noneBad, countsRight}
+use Rattle.record.specs.Slots.{readyBatches, totalLength}
+use Rattle.record.specs.Tickets.{ticketsConsecutive}
+use Rattle.record.specs.Clients.{isOpen, openClients, openWindows, windowsValid, pendingCountsMatch}
 use Rattle.record.specs.Queue.{takenSlots, waiting}
 
 -- "the conditions of 1, 2 and 4 don't occur": of 1
@@ -22,7 +22,7 @@ memoryRule engine = not (badMemory (engine .setup))
 
 -- and of 4, for every open client
 abbrev pub windowsRule : Record → Bool
-windowsRule engine = noneBad (engine .setup) (openWindows engine)
+windowsRule engine = windowsValid (engine .setup) (openWindows engine)
 
 -- "at most four desks"
 abbrev pub clientsRule : Record → Bool
@@ -35,12 +35,12 @@ readRule engine = eqb (engine .read % 4) 0 && ltb (engine .read) (engine .setup 
 -- "tickets are consecutive and the newest is the one before the next to be given": with n ready batches, each of the n tickets before the
 -- next one is that of some ready batch, so that each batch has one of them and no two have the same
 abbrev pub ticketsRule : Record → Bool
-ticketsRule engine = lastGiven (takenSlots engine) (engine .next) (engine .slots)
+ticketsRule engine = ticketsConsecutive (takenSlots engine) (engine .next) (engine .slots)
 
 -- "ready batches, in ticket order, lie end to end from it"
 unfoldable pub endToEnd : (ring offset : ℕ) → List Batch → Bool
 endToEnd ring offset [] = true
-endToEnd ring offset (b ∷ bs) = eqb (b .offset) offset && endToEnd ring (wrapped ring (offset + b .length)) bs
+endToEnd ring offset (b ∷ bs) = eqb (b .offset) offset && endToEnd ring (wrapOffset ring (offset + b .length)) bs
 
 -- that of the ready batches
 abbrev pub endToEndRule : Record → Bool
@@ -57,20 +57,20 @@ lengthsRule engine = lengthsAllowed (engine .setup .ring) (waiting engine)
 
 -- "in total at most the ring"
 abbrev pub totalRule : Record → Bool
-totalRule engine = leb (total (waiting engine)) (engine .setup .ring)
+totalRule engine = leb (totalLength (waiting engine)) (engine .setup .ring)
 
 -- "each of an open desk"
-unfoldable pub ofOpen : Record → List Batch → Bool
-ofOpen engine [] = true
-ofOpen engine (b ∷ bs) = isOpen engine (b .client) && ofOpen engine bs
+unfoldable pub clientsOpen : Record → List Batch → Bool
+clientsOpen engine [] = true
+clientsOpen engine (b ∷ bs) = isOpen engine (b .client) && clientsOpen engine bs
 
 -- that of the ready batches
 abbrev pub ownersRule : Record → Bool
-ownersRule engine = ofOpen engine (waiting engine)
+ownersRule engine = clientsOpen engine (waiting engine)
 
 -- "pending counts equal the ready batches"
 abbrev pub pendingRule : Record → Bool
-pendingRule engine = countsRight 0 (openClients engine) (ready (engine .slots))
+pendingRule engine = pendingCountsMatch 0 (openClients engine) (readyBatches (engine .slots))
 
 -- the rules of the numbers
 abbrev pub numberRules : Record → Bool

@@ -18,27 +18,27 @@ abbrev pub readyWith : Batch → Slot
 readyWith b = record { state = Ready b }
 
 -- what a slot adds to the ready batches of the slots after it
-abbrev pub added : SlotState → List Batch → List Batch
-added Free bs = bs
-added (Ready b) bs = b ∷ bs
+abbrev pub consIfReady : SlotState → List Batch → List Batch
+consIfReady Free bs = bs
+consIfReady (Ready b) bs = b ∷ bs
 
 -- the ready batches, slot by slot
-unfoldable pub ready : List Slot → List Batch
-ready [] = []
-ready (s ∷ ss) = added (s .state) (ready ss)
+unfoldable pub readyBatches : List Slot → List Batch
+readyBatches [] = []
+readyBatches (s ∷ ss) = consIfReady (s .state) (readyBatches ss)
 
 -- a number of each batch, summed
-unfoldable pub sum : (Batch → ℕ) → List Batch → ℕ
-sum f [] = 0
-sum f (b ∷ bs) = f b + sum f bs
+unfoldable pub sumOver : (Batch → ℕ) → List Batch → ℕ
+sumOver f [] = 0
+sumOver f (b ∷ bs) = f b + sumOver f bs
 
 -- the batches' lengths, summed
-abbrev pub total : List Batch → ℕ
-total bs = sum (λ b. b .length) bs
+abbrev pub totalLength : List Batch → ℕ
+totalLength bs = sumOver (λ b. b .length) bs
 
 -- how many of the batches are the client's
 abbrev pub countOf : ℕ → List Batch → ℕ
-countOf client bs = sum (λ b. cond (eqb (b .client) client) 1 0) bs
+countOf client bs = sumOver (λ b. cond (eqb (b .client) client) 1 0) bs
 
 -- the state is free
 abbrev pub isFreeState : SlotState → Bool

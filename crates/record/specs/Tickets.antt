@@ -19,34 +19,34 @@ abbrev pub ticketBefore : (next k : ℕ) → ℕ
 ticketBefore next k = (next + (4294967296 - k)) % 4294967296
 
 -- the state is ready with the ticket
-abbrev pub stateHas : ℕ → SlotState → Bool
-stateHas ticket Free = false
-stateHas ticket (Ready b) = eqb (b .ticket) ticket
+abbrev pub hasTicket : ℕ → SlotState → Bool
+hasTicket ticket Free = false
+hasTicket ticket (Ready b) = eqb (b .ticket) ticket
 
 -- the first slot that is ready with the ticket; the number of slots if none is
-unfoldable pub place : ℕ → List Slot → ℕ
-place ticket [] = 0
-place ticket (s ∷ ss) = cond (stateHas ticket (s .state)) 0 (suc (place ticket ss))
+unfoldable pub slotOfTicket : ℕ → List Slot → ℕ
+slotOfTicket ticket [] = 0
+slotOfTicket ticket (s ∷ ss) = cond (hasTicket ticket (s .state)) 0 (suc (slotOfTicket ticket ss))
 
 -- some ready batch has the ticket
-abbrev pub isGiven : ℕ → List Slot → Bool
-isGiven ticket slots = ltb (place ticket slots) (length slots)
+abbrev pub isReadyTicket : ℕ → List Slot → Bool
+isReadyTicket ticket slots = ltb (slotOfTicket ticket slots) (length slots)
 
--- the batch of a state that is ready; of a free one nothing is asked
-abbrev pub stateBatch : SlotState → Batch
-stateBatch Free = record { client = 0; ticket = 0; offset = 0; length = 0 }
-stateBatch (Ready b) = b
+-- the batch of a state that is ready; a dummy for a free slot; never used
+abbrev pub batchInState : SlotState → Batch
+batchInState Free = record { client = 0; ticket = 0; offset = 0; length = 0 }
+batchInState (Ready b) = b
 
 -- the ready batch that has the ticket; asked only where there is one
-abbrev pub batchWith : ℕ → List Slot → Batch
-batchWith ticket slots = stateBatch (getD slots (place ticket slots) free .state)
+abbrev pub batchOfTicket : ℕ → List Slot → Batch
+batchOfTicket ticket slots = batchInState (getD slots (slotOfTicket ticket slots) free .state)
 
 -- each of the k tickets before the next one is that of some ready batch
-unfoldable pub lastGiven : (k next : ℕ) → List Slot → Bool
-lastGiven zero next slots = true
-lastGiven (suc k) next slots = isGiven (ticketBefore next (suc k)) slots && lastGiven k next slots
+unfoldable pub ticketsConsecutive : (k next : ℕ) → List Slot → Bool
+ticketsConsecutive zero next slots = true
+ticketsConsecutive (suc k) next slots = isReadyTicket (ticketBefore next (suc k)) slots && ticketsConsecutive k next slots
 
 -- the ready batches that have these tickets, oldest first
-unfoldable pub inOrder : (k next : ℕ) → List Slot → List Batch
-inOrder zero next slots = []
-inOrder (suc k) next slots = batchWith (ticketBefore next (suc k)) slots ∷ inOrder k next slots
+unfoldable pub inTicketOrder : (k next : ℕ) → List Slot → List Batch
+inTicketOrder zero next slots = []
+inTicketOrder (suc k) next slots = batchOfTicket (ticketBefore next (suc k)) slots ∷ inTicketOrder k next slots

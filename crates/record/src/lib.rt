@@ -5,11 +5,11 @@ ghost use mathlib.Core.List.{[]};
 ghost use Prim.Native.Nat.{_+_, _%_, _≤_, _<_};
 ghost use lib.ListN.{length, take, drop};
 ghost use lib.Dec.{leb, eqb};
-ghost use Rattle.ring.specs.Segment.{wrapped};
+ghost use Rattle.ring.specs.Segment.{wrapOffset};
 ghost use Rattle.record.specs.Setup.{badRing, badMemory, badLength};
-ghost use Rattle.record.specs.Slots.{added, ready, total, countOf, isFreeState, lowestFree};
-ghost use Rattle.record.specs.Tickets.{ticketBefore, stateHas, place, stateBatch};
-ghost use Rattle.record.specs.Clients.{isOpen, windowsOf, sharesAny, badWindow, noneBad, countsRight};
+ghost use Rattle.record.specs.Slots.{consIfReady, readyBatches, totalLength, countOf, isFreeState, lowestFree};
+ghost use Rattle.record.specs.Tickets.{ticketBefore, hasTicket, slotOfTicket, batchInState};
+ghost use Rattle.record.specs.Clients.{isOpen, windowsOf, overlapsAny, badWindow, windowsValid, pendingCountsMatch};
 ghost use Rattle.record.specs.Rules.{numberRules, batchRules, valid};
 use range::Range;
 
@@ -20,7 +20,7 @@ pub struct Setup {
     pub common: usize,
 }
 
-// A run of bytes of memory.
+// A range of bytes of memory.
 pub struct Window {
     pub start: u32,
     pub length: u32,
@@ -88,8 +88,8 @@ fn is_free(slot: Slot) -> bool
     }
 }
 
-fn ready_one(slot: Slot) -> usize
-    ensures { λ r. ⌜ (r ≡ length (added (slot .state) [])) × (r ≤ 1) ⌝ }
+fn ready_in_slot(slot: Slot) -> usize
+    ensures { λ r. ⌜ (r ≡ length (consIfReady (slot .state) [])) × (r ≤ 1) ⌝ }
 {
     let state = slot.state;
     match state {
@@ -98,8 +98,8 @@ fn ready_one(slot: Slot) -> usize
     }
 }
 
-fn bytes_one(slot: Slot) -> usize
-    ensures { λ r. ⌜ r ≡ total (added (slot .state) []) ⌝ }
+fn bytes_in_slot(slot: Slot) -> usize
+    ensures { λ r. ⌜ r ≡ totalLength (consIfReady (slot .state) []) ⌝ }
 {
     let state = slot.state;
     match state {
@@ -108,8 +108,8 @@ fn bytes_one(slot: Slot) -> usize
     }
 }
 
-fn owned_one(slot: Slot, client: u32) -> usize
-    ensures { λ r. ⌜ (r ≡ countOf client (added (slot .state) [])) × (r ≤ 1) ⌝ }
+fn owned_in_slot(slot: Slot, client: u32) -> usize
+    ensures { λ r. ⌜ (r ≡ countOf client (consIfReady (slot .state) [])) × (r ≤ 1) ⌝ }
 {
     let state = slot.state;
     match state {
@@ -119,7 +119,7 @@ fn owned_one(slot: Slot, client: u32) -> usize
 }
 
 pub fn batch_of(slot: Slot) -> Batch
-    ensures { λ r. ⌜ r ≡ stateBatch (slot .state) ⌝ }
+    ensures { λ r. ⌜ r ≡ batchInState (slot .state) ⌝ }
 {
     let state = slot.state;
     match state {
@@ -143,7 +143,7 @@ fn age(next: u32, ticket: u32) -> u32
 // Whether the slot's batch has the ticket that was given k before the next one.
 fn has_age(slot: Slot, next: u32, k: usize) -> bool
     requires { ⌜ k ≤ 8 ⌝ }
-    ensures { λ r. ⌜ r ≡ stateHas (ticketBefore next k) (slot .state) ⌝ }
+    ensures { λ r. ⌜ r ≡ hasTicket (ticketBefore next k) (slot .state) ⌝ }
 {
     let state = slot.state;
     match state {
@@ -154,12 +154,12 @@ fn has_age(slot: Slot, next: u32, k: usize) -> bool
 
 // How many slots are ready.
 pub fn taken_slots(slots: [Slot; 8]) -> usize
-    ensures { λ r. ⌜ (r ≡ length (ready slots)) × (r ≤ 8) × (length slots ≡ 8) ⌝ }
+    ensures { λ r. ⌜ (r ≡ length (readyBatches slots)) × (r ≤ 8) × (length slots ≡ 8) ⌝ }
 {
     let mut n: usize = 0;
     let mut i: usize = 0;
     while i < 8 {
-        n += ready_one(slots[i]);
+        n += ready_in_slot(slots[i]);
         i += 1;
     }
     n
@@ -167,13 +167,13 @@ pub fn taken_slots(slots: [Slot; 8]) -> usize
 
 // How many ring bytes the ready batches have.
 pub fn taken_bytes(slots: [Slot; 8]) -> usize
-    requires { ⌜ total (ready slots) ≤ 32768 ⌝ }
-    ensures { λ r. ⌜ r ≡ total (ready slots) ⌝ }
+    requires { ⌜ totalLength (readyBatches slots) ≤ 32768 ⌝ }
+    ensures { λ r. ⌜ r ≡ totalLength (readyBatches slots) ⌝ }
 {
     let mut n: usize = 0;
     let mut i: usize = 0;
     while i < 8 {
-        n += bytes_one(slots[i]);
+        n += bytes_in_slot(slots[i]);
         i += 1;
     }
     n
@@ -181,12 +181,12 @@ pub fn taken_bytes(slots: [Slot; 8]) -> usize
 
 // How many ready batches are the client's.
 fn count_of(slots: [Slot; 8], client: u32) -> usize
-    ensures { λ r. ⌜ r ≡ countOf client (ready slots) ⌝ }
+    ensures { λ r. ⌜ r ≡ countOf client (readyBatches slots) ⌝ }
 {
     let mut n: usize = 0;
     let mut i: usize = 0;
     while i < 8 {
-        n += owned_one(slots[i], client);
+        n += owned_in_slot(slots[i], client);
         i += 1;
     }
     n
@@ -207,9 +207,9 @@ pub fn lowest_free(slots: [Slot; 8]) -> usize
 }
 
 // The slot of the batch whose ticket was given k before the next one, 8 if there is none.
-pub fn place_of(slots: [Slot; 8], next: u32, k: usize) -> usize
+pub fn slot_of_age(slots: [Slot; 8], next: u32, k: usize) -> usize
     requires { ⌜ k ≤ 8 ⌝ }
-    ensures { λ r. ⌜ r ≡ place (ticketBefore next k) slots ⌝ }
+    ensures { λ r. ⌜ r ≡ slotOfTicket (ticketBefore next k) slots ⌝ }
 {
     let mut i: usize = 0;
     while i < 8 {
@@ -223,15 +223,15 @@ pub fn place_of(slots: [Slot; 8], next: u32, k: usize) -> usize
 
 // An offset that may have run over the ring's end goes on at byte 0.
 pub fn wrap(ring: usize, offset: usize) -> usize
-    ensures { λ r. ⌜ r ≡ wrapped ring offset ⌝ }
+    ensures { λ r. ⌜ r ≡ wrapOffset ring offset ⌝ }
 {
     if offset < ring { offset } else { offset - ring }
 }
 
 // Whether some of the bytes are in a window of the clients at the places `from` up to `n`.
-fn shares_any(clients: [Client; 4], from: usize, n: usize, bytes: Range) -> bool
+fn overlaps_any(clients: [Client; 4], from: usize, n: usize, bytes: Range) -> bool
     requires { ⌜ n ≤ 4 ⌝ }
-    ensures { λ r. ⌜ r ≡ sharesAny bytes (windowsOf (drop from (take n clients))) ⌝ }
+    ensures { λ r. ⌜ r ≡ overlapsAny bytes (windowsOf (drop from (take n clients))) ⌝ }
 {
     let mut i = from;
     while i < n {
@@ -259,13 +259,13 @@ pub fn bad_window(setup: Setup, clients: [Client; 4], from: usize, n: usize, w: 
         start: 0,
         end: setup.common,
     };
-    let crowded = shares_any(clients, from, n, mine);
+    let crowded = overlaps_any(clients, from, n, mine);
     (w.length == 0) | !mine.is_inside(memory) | mine.shares(common) | crowded
 }
 
-fn none_bad(setup: Setup, clients: [Client; 4], n: usize) -> bool
+fn windows_valid(setup: Setup, clients: [Client; 4], n: usize) -> bool
     requires { ⌜ n ≤ 4 ⌝ }
-    ensures { λ r. ⌜ r ≡ noneBad setup (windowsOf (take n clients)) ⌝ }
+    ensures { λ r. ⌜ r ≡ windowsValid setup (windowsOf (take n clients)) ⌝ }
 {
     let mut k: usize = 0;
     while k < n {
@@ -280,9 +280,9 @@ fn none_bad(setup: Setup, clients: [Client; 4], n: usize) -> bool
 }
 
 // Whether each open client's count is that of its ready batches.
-fn counts_right(clients: [Client; 4], n: usize, slots: [Slot; 8]) -> bool
+fn pending_counts_match(clients: [Client; 4], n: usize, slots: [Slot; 8]) -> bool
     requires { ⌜ n ≤ 4 ⌝ }
-    ensures { λ r. ⌜ r ≡ countsRight 0 (take n clients) (ready slots) ⌝ }
+    ensures { λ r. ⌜ r ≡ pendingCountsMatch 0 (take n clients) (readyBatches slots) ⌝ }
 {
     let mut k: usize = 0;
     while k < n {
@@ -302,7 +302,7 @@ pub fn is_open(engine: Record, client: u32) -> bool
     (client as usize) < engine.opened
 }
 
-// Whether a batch keeps its rules at `offset`, in the room that is left; `owned` tells whether its client is open.
+// Whether a batch keeps its rules at `offset`, in the room that is left; `owned` says whether its client is open.
 fn fits_in(ring: usize, offset: usize, room: usize, owned: bool, b: Batch) -> bool
     ensures { λ r. ⌜ r ≡ (eqb (b .offset) offset && not (badLength ring (b .length)) && leb (b .length) room && owned) ⌝ }
 {
@@ -312,7 +312,7 @@ fn fits_in(ring: usize, offset: usize, room: usize, owned: bool, b: Batch) -> bo
 }
 
 // Whether the ready batches, from the oldest on, lie end to end from the read offset and keep their other rules.
-fn line_up(engine: Record) -> bool
+fn batches_valid(engine: Record) -> bool
     requires { ⌜ (engine .setup .ring ≤ 32768) × (engine .read < engine .setup .ring) ⌝ }
     ensures { λ r. ⌜ r ≡ batchRules engine ⌝ }
 {
@@ -324,7 +324,7 @@ fn line_up(engine: Record) -> bool
     let mut offset = engine.read;
     let mut room = ring;
     while 0 < k {
-        let i = place_of(slots, next, k);
+        let i = slot_of_age(slots, next, k);
         if 8 <= i {
             return false;
         }
@@ -341,7 +341,7 @@ fn line_up(engine: Record) -> bool
     true
 }
 
-fn numbers_right(engine: Record) -> bool
+fn numbers_valid(engine: Record) -> bool
     ensures { λ r. ⌜ r ≡ numberRules engine ⌝ }
 {
     let setup = engine.setup;
@@ -354,15 +354,15 @@ fn numbers_right(engine: Record) -> bool
 pub fn is_valid(engine: Record) -> bool
     ensures { λ r. ⌜ r ≡ valid engine ⌝ }
 {
-    if !numbers_right(engine) {
+    if !numbers_valid(engine) {
         return false;
     }
     let setup = engine.setup;
     let clients = engine.clients;
     let opened = engine.opened;
     let slots = engine.slots;
-    let windows = none_bad(setup, clients, opened);
-    let batches = line_up(engine);
-    let counts = counts_right(clients, opened, slots);
+    let windows = windows_valid(setup, clients, opened);
+    let batches = batches_valid(engine);
+    let counts = pending_counts_match(clients, opened, slots);
     windows & batches & counts
 }

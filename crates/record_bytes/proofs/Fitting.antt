@@ -8,7 +8,7 @@ use lib.ListN.{length}
 use lib.Dec.{ltb, eqb}
 use borrow.Author.Tests.{ltb-true, lt-ltb, eqb-true, not-true}
 use Rattle.word.proofs.Tests.{and-true}
-use Rattle.ring.specs.Segment.{wrapped}
+use Rattle.ring.specs.Segment.{wrapOffset}
 use Rattle.ring.proofs.Wrapped.{wrapped-below}
 use Rattle.record.specs.declared.Batch.{Batch}
 use Rattle.record.specs.declared.Slot.{Slot}
@@ -16,7 +16,7 @@ use Rattle.record.specs.declared.SlotState.{SlotState}
 use Rattle.record.specs.declared.SlotState.the-variants.{Free, Ready}
 use Rattle.record.specs.declared.Record.{Record}
 use Rattle.record.specs.Setup.{badLength}
-use Rattle.record.specs.Slots.{added, ready, sum}
+use Rattle.record.specs.Slots.{consIfReady, readyBatches, sumOver}
 use Rattle.record.specs.Queue.{takenSlots, waiting}
 use Rattle.record.specs.Rules.{endToEnd, lengthsAllowed, valid}
 use Rattle.record.proofs.Slots.{ready-most}
@@ -29,16 +29,16 @@ abbrev big : Batch → ℕ
 big b = cond (ltb (b .offset) 4294967296 && ltb (b .length) 4294967296) 0 1
 
 -- batches end to end in a ring of at most 32,768 bytes fit
-none-big : (ring offset : ℕ) (bs : List Batch) → ring ≤ 32768 → offset < ring → endToEnd ring offset bs ≡ true → lengthsAllowed ring bs ≡ true → sum big bs ≡ 0
-unfolding sum endToEnd lengthsAllowed
+none-big : (ring offset : ℕ) (bs : List Batch) → ring ≤ 32768 → offset < ring → endToEnd ring offset bs ≡ true → lengthsAllowed ring bs ≡ true → sumOver big bs ≡ 0
+unfolding sumOver endToEnd lengthsAllowed
 none-big ring offset [] small h e l = refl
 none-big ring offset (b ∷ bs) small h e l =
-    let ends = and-true (eqb (b .offset) offset) (endToEnd ring (wrapped ring (offset + b .length)) bs) e in
+    let ends = and-true (eqb (b .offset) offset) (endToEnd ring (wrapOffset ring (offset + b .length)) bs) e in
     let lengths = and-true (not (badLength ring (b .length))) (lengthsAllowed ring bs) l in
     let here = eqb-true (b .offset) offset (ends .0) in
     let good = length-good ring (b .length) (not-true (badLength ring (b .length)) (lengths .0)) in
     let short : b .length ≤ ring = good .within in
-    let rest = none-big ring (wrapped ring (offset + b .length)) bs small (wrapped-below ring (offset + b .length) (omega arith)) (ends .1) (lengths .1) in
+    let rest = none-big ring (wrapOffset ring (offset + b .length)) bs small (wrapped-below ring (offset + b .length) (omega arith)) (ends .1) (lengths .1) in
     rw (lt-ltb (b .offset) 4294967296 (omega arith), lt-ltb (b .length) 4294967296 (omega arith)) (omega arith)
 
 -- one that is counted as none fits
@@ -51,14 +51,14 @@ not-big b n e = go (ltb (b .offset) 4294967296 && ltb (b .length) 4294967296) re
         (ltb-true (b .offset) 4294967296 (both .0), ltb-true (b .length) 4294967296 (both .1))
     go false p q = absurd (omega arith)
 
-all-small : (ss : List Slot) → sum big (ready ss) ≡ 0 → AllSlots StateSmall ss
-unfolding sum ready
+all-small : (ss : List Slot) → sumOver big (readyBatches ss) ≡ 0 → AllSlots StateSmall ss
+unfolding sumOver readyBatches
 all-small [] e = tt
 all-small (s ∷ ss) e = go (s .state) refl (all-small ss) e
   where
-    go : (st : SlotState) → s .state ≡ st → (sum big (ready ss) ≡ 0 → AllSlots StateSmall ss) → sum big (added st (ready ss)) ≡ 0 → StateSmall (s .state) × AllSlots StateSmall ss
+    go : (st : SlotState) → s .state ≡ st → (sumOver big (readyBatches ss) ≡ 0 → AllSlots StateSmall ss) → sumOver big (consIfReady st (readyBatches ss)) ≡ 0 → StateSmall (s .state) × AllSlots StateSmall ss
     go Free p others q = (rw p tt, others q)
-    go (Ready b) p others q = (rw p (not-big b (sum big (ready ss)) q), others (omega arith))
+    go (Ready b) p others q = (rw p (not-big b (sumOver big (readyBatches ss)) q), others (omega arith))
 
 pub fits : (r : Record) → Typed r → valid r ≡ true → Small r
 fits r t ok =
@@ -67,7 +67,7 @@ fits r t ok =
     let memory = v .numbers .memory .small in
     let shared = v .numbers .memory .shared in
     let few : takenSlots r ≤ 8 = omega (arith, ready-most (r .slots), t .eight) in
-    let none : sum big (ready (r .slots)) ≡ 0 =
+    let none : sumOver big (readyBatches (r .slots)) ≡ 0 =
     sum-waiting r v few big ∙ none-big (r .setup .ring) (r .read) (waiting r) ring (v .numbers .below) (v .ends) (v .lengths)
     in
     record {

@@ -12,7 +12,7 @@ use Rattle.record.specs.declared.SlotState.{SlotState}
 use Rattle.record.specs.declared.SlotState.the-variants.{Free, Ready}
 use Rattle.record.specs.declared.Record.{Record}
 use Rattle.record.specs.Slots.{free}
-use Rattle.record.specs.Tickets.{stateBatch}
+use Rattle.record.specs.Tickets.{batchInState}
 use Rattle.record.specs.Clients.{noClient}
 use Rattle.record_bytes.specs.declared.write.Row.{Row}
 use Rattle.record_bytes.specs.Layout.{low}
@@ -27,10 +27,10 @@ abbrev pub tagOf : SlotState → ℕ
 tagOf Free = 0
 tagOf (Ready b) = 1
 
--- a slot's numbers; those of a free one are zeros, as its `stateBatch` is
+-- a slot's numbers; those of a free one are zeros, as its `batchInState` is
 abbrev pub rowOf : Slot → Row
 rowOf s =
-    let b : Batch = stateBatch (s .state) in
+    let b : Batch = batchInState (s .state) in
     record { tag = tagOf (s .state); client = b .client; ticket = b .ticket; offset = low (b .offset); length = low (b .length) }
 
 abbrev pub rowWords : Row → List ℕ
@@ -56,6 +56,6 @@ wordsOf r = wordsWith r (rowAt r 0) (rowAt r 1) (rowAt r 2) (rowAt r 3) (rowAt r
 unfoldable pub bytesOf : Record → List ℕ
 bytesOf r = wordsBytes (wordsOf r)
 
--- a buffer of another length stays as it was
+-- Internal: a buffer of another length stays as it was
 unfoldable pub written : Record → List ℕ → List ℕ
 written r bytes = cond (eqb (length bytes) 272) (bytesOf r) bytes

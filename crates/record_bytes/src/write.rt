@@ -1,6 +1,6 @@
 // A record as bytes.
 ghost use mathlib.Core.Path.{_≡_};
-ghost use Rattle.record.specs.Tickets.{stateBatch};
+ghost use Rattle.record.specs.Tickets.{batchInState};
 ghost use Rattle.record_bytes.specs.Layout.{low};
 ghost use Rattle.record_bytes.specs.Written.{tagOf, rowOf, wordsOf, written};
 use record::Record;

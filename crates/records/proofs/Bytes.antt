@@ -12,7 +12,7 @@ use Rattle.word.specs.Word.{be32At}
 use Rattle.word.proofs.Tests.{or-false}
 use Rattle.records.specs.declared.Stage.the-variants.{Records, Ended}
 use Rattle.records.specs.declared.Found.the-variants.{Record, BadRecord}
-use Rattle.records.specs.Records.{sizeOf, badSize, entryOf}
+use Rattle.records.specs.Records.{lengthField, badSize, entryOf}
 use Rattle.records.specs.Reading.{entryIn, missing, undecided, decided}
 
 -- a length that is not bad
@@ -25,16 +25,16 @@ good-size size e =
 
 -- ---- bytes behind those of a record
 
-pub size-front : (xs ys : List ℕ) → 4 ≤ length xs → sizeOf (xs ++ ys) ≡ sizeOf xs
+pub size-front : (xs ys : List ℕ) → 4 ≤ length xs → lengthField (xs ++ ys) ≡ lengthField xs
 unfolding be32At
 size-front xs ys h =
     rw (List·getD-append xs ys 0 0 (omega arith), List·getD-append xs ys 0 1 (omega arith), List·getD-append xs ys 0 2 (omega arith), List·getD-append xs ys 0 3 (omega arith))
 
-pub entry-front : (xs ys : List ℕ) → 1 ≤ sizeOf xs → 4 + sizeOf xs ≤ length xs → entryOf (xs ++ ys) ≡ entryOf xs
+pub entry-front : (xs ys : List ℕ) → 1 ≤ lengthField xs → 4 + lengthField xs ≤ length xs → entryOf (xs ++ ys) ≡ entryOf xs
 entry-front xs ys some h =
     let client = List·getD-append xs ys 0 4 (omega arith) in
     let rest = drop-append-le 5 xs ys (omega arith) in
-    let batch = take-append-le (sizeOf xs - 1) (drop 5 xs) ys (omega (arith, length-drop 5 xs)) in
+    let batch = take-append-le (lengthField xs - 1) (drop 5 xs) ys (omega (arith, length-drop 5 xs)) in
     rw (size-front xs ys (omega arith), client, rest, batch)
 
 -- ---- what is decided
@@ -44,31 +44,31 @@ module _ (bytes : List ℕ) (used : ℕ) where
   unfolding decided
   decided-short h = rw (lt-ltb (length bytes) 4 h)
 
-  pub decided-bad : 4 ≤ length bytes → badSize (sizeOf bytes) ≡ true → decided bytes used ≡ record { reader = record { stage = Ended; held = 0 }; used = used; found = BadRecord }
+  pub decided-bad : 4 ≤ length bytes → badSize (lengthField bytes) ≡ true → decided bytes used ≡ record { reader = record { stage = Ended; held = 0 }; used = used; found = BadRecord }
   unfolding decided
   decided-bad h bad = rw (le-ltb (length bytes) 4 h, bad)
 
-  pub decided-part : 4 ≤ length bytes → badSize (sizeOf bytes) ≡ false → length bytes < 4 + sizeOf bytes → decided bytes used ≡ undecided (length bytes) used
+  pub decided-part : 4 ≤ length bytes → badSize (lengthField bytes) ≡ false → length bytes < 4 + lengthField bytes → decided bytes used ≡ undecided (length bytes) used
   unfolding decided
-  decided-part h good part = rw (le-ltb (length bytes) 4 h, good, lt-ltb (length bytes) (4 + sizeOf bytes) part)
+  decided-part h good part = rw (le-ltb (length bytes) 4 h, good, lt-ltb (length bytes) (4 + lengthField bytes) part)
 
-  pub decided-whole : badSize (sizeOf bytes) ≡ false → 4 + sizeOf bytes ≤ length bytes
-      → decided bytes used ≡ record { reader = record { stage = Records; held = 0 }; used = used; found = Record (4 + sizeOf bytes) }
+  pub decided-whole : badSize (lengthField bytes) ≡ false → 4 + lengthField bytes ≤ length bytes
+      → decided bytes used ≡ record { reader = record { stage = Records; held = 0 }; used = used; found = Record (4 + lengthField bytes) }
   unfolding decided
   decided-whole good all =
       let h : 4 ≤ length bytes = omega arith in
-      rw (le-ltb (length bytes) 4 h, good, le-ltb (length bytes) (4 + sizeOf bytes) all)
+      rw (le-ltb (length bytes) 4 h, good, le-ltb (length bytes) (4 + lengthField bytes) all)
 
 module _ (bytes : List ℕ) where
   pub missing-short : length bytes < 4 → missing bytes ≡ 4 - length bytes
   unfolding missing
   missing-short h = rw (lt-ltb (length bytes) 4 h)
 
-  pub missing-bad : 4 ≤ length bytes → badSize (sizeOf bytes) ≡ true → missing bytes ≡ 0
+  pub missing-bad : 4 ≤ length bytes → badSize (lengthField bytes) ≡ true → missing bytes ≡ 0
   unfolding missing
   missing-bad h bad = rw (le-ltb (length bytes) 4 h, bad)
 
-  pub missing-rest : 4 ≤ length bytes → badSize (sizeOf bytes) ≡ false → missing bytes ≡ 4 + sizeOf bytes - length bytes
+  pub missing-rest : 4 ≤ length bytes → badSize (lengthField bytes) ≡ false → missing bytes ≡ 4 + lengthField bytes - length bytes
   unfolding missing
   missing-rest h good = rw (le-ltb (length bytes) 4 h, good)
 
@@ -78,16 +78,16 @@ module _ (held : List ℕ) (have : ℕ) (within : have ≤ length held) where
   pub there : length (take have held) ≡ have
   there = length-take-le have held within
 
-  pub size-there : 4 ≤ have → sizeOf (take have held) ≡ sizeOf held
+  pub size-there : 4 ≤ have → lengthField (take have held) ≡ lengthField held
   size-there h =
       let front : 4 ≤ length (take have held) = omega (arith, there) in
-      sym (size-front (take have held) (drop have held) front) ∙ ap sizeOf (take-append-drop have held)
+      sym (size-front (take have held) (drop have held) front) ∙ ap lengthField (take-append-drop have held)
 
   -- the entry, as it lies in the buffer
-  pub entry-there : 1 ≤ sizeOf (take have held) → 4 + sizeOf (take have held) ≤ have → entryOf (take have held) ≡ entryIn held (4 + sizeOf (take have held))
+  pub entry-there : 1 ≤ lengthField (take have held) → 4 + lengthField (take have held) ≤ have → entryOf (take have held) ≡ entryIn held (4 + lengthField (take have held))
   entry-there some h =
-      let all : 4 + sizeOf (take have held) ≤ length (take have held) = omega (arith, there) in
-      let body : 4 + sizeOf (take have held) - 5 ≡ sizeOf held - 1 = omega (arith, size-there (omega arith)) in
+      let all : 4 + lengthField (take have held) ≤ length (take have held) = omega (arith, there) in
+      let body : 4 + lengthField (take have held) - 5 ≡ lengthField held - 1 = omega (arith, size-there (omega arith)) in
       sym (entry-front (take have held) (drop have held) some all) ∙ ap entryOf (take-append-drop have held) ∙ rw body
 
   pub have-short : have < 4 → 4 - have ≡ missing (take have held)
@@ -95,14 +95,14 @@ module _ (held : List ℕ) (have : ℕ) (within : have ≤ length held) where
       let few : length (take have held) < 4 = omega (arith, there) in
       sym (missing-short (take have held) few ∙ ap (λ (n : ℕ). 4 - n) there)
 
-  module _ (size : ℕ) (size-is : size ≡ sizeOf held) (h : 4 ≤ have) where
+  module _ (size : ℕ) (size-is : size ≡ lengthField held) (h : 4 ≤ have) where
     four : 4 ≤ length (take have held)
     four = omega (arith, there)
 
-    same : sizeOf (take have held) ≡ size
+    same : lengthField (take have held) ≡ size
     same = size-there h ∙ sym size-is
 
-    judged : (b : Bool) → badSize size ≡ b → badSize (sizeOf (take have held)) ≡ b
+    judged : (b : Bool) → badSize size ≡ b → badSize (lengthField (take have held)) ≡ b
     judged b e = ap badSize same ∙ e
 
     pub have-bad : badSize size ≡ true → 0 ≡ missing (take have held)
@@ -116,13 +116,13 @@ module _ (held : List ℕ) (have : ℕ) (within : have ≤ length held) where
 
     pub decides-part : (used : ℕ) → badSize size ≡ false → have < 4 + size → undecided have used ≡ decided (take have held) used
     decides-part used good part =
-        let less : length (take have held) < 4 + sizeOf (take have held) = omega (arith, there, same) in
+        let less : length (take have held) < 4 + lengthField (take have held) = omega (arith, there, same) in
         sym (decided-part (take have held) used four (judged false good) less ∙ rw there)
 
     pub decides-whole : (used : ℕ) → badSize size ≡ false → 4 + size ≤ have
         → record { reader = record { stage = Records; held = 0 }; used = used; found = Record (4 + size) } ≡ decided (take have held) used
     decides-whole used good all =
-        let full : 4 + sizeOf (take have held) ≤ length (take have held) = omega (arith, there, same) in
+        let full : 4 + lengthField (take have held) ≤ length (take have held) = omega (arith, there, same) in
         sym (decided-whole (take have held) used (judged false good) full ∙ rw same)
 
   pub decides-short : (used : ℕ) → have < 4 → undecided have used ≡ decided (take have held) used

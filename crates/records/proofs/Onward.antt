@@ -11,14 +11,14 @@ use lib.Dec.{eqb, leb, ltb}
 use borrow.Author.Tests.{lt-ltb, le-ltb, le-leb, leb-true, ltb-true}
 use Rattle.word.specs.Splice.{spliced}
 use Rattle.word.proofs.Tests.{split, and-true}
-use Rattle.ring.specs.Copied.{copied}
+use Rattle.ring.specs.Copied.{copiedIn}
 use Rattle.ring.proofs.Copied.{copied-one}
 use Rattle.records.specs.declared.Stage.{Stage}
 use Rattle.records.specs.declared.Stage.the-variants.{Version, Records, Ended}
 use Rattle.records.specs.declared.Reader.{Reader}
 use Rattle.records.specs.declared.Found.the-variants.{Nothing, Record, BadVersion, BadRecord}
 use Rattle.records.specs.declared.Taken.{Taken}
-use Rattle.records.specs.Records.{Entry, Ending, File, whole, badVersion, badRecord, cutRecord, ends, andThen, sizeOf, badSize, entryOf, recordsFrom, records}
+use Rattle.records.specs.Records.{Entry, FileEnd, File, whole, badVersion, badRecord, cutRecord, fileEnds, consEntry, lengthField, badSize, entryOf, recordsFrom, records}
 use Rattle.records.specs.Reading.{fileFrom, fileIn, fileAt, entryIn, onto, missing, Due, Ready, Over, Takes, Lies, decided, versionTaken}
 use Rattle.records.proofs.Bytes.{good-size, size-front, entry-front, decided-short, decided-bad, decided-part, decided-whole, missing-short, missing-bad, missing-rest, there, entry-there}
 
@@ -27,10 +27,10 @@ use Rattle.records.proofs.Bytes.{good-size, size-front, entry-front, de
 -- the record at the front, with what comes of the bytes behind it
 abbrev front : List ℕ → File → File
 front bytes rest =
-    cond (ltb (length bytes) 4) (ends cutRecord)
-    (cond (badSize (sizeOf bytes)) (ends badRecord)
-    (cond (ltb (length bytes) (4 + sizeOf bytes)) (ends cutRecord)
-    (andThen (entryOf bytes) rest)))
+    cond (ltb (length bytes) 4) (fileEnds cutRecord)
+    (cond (badSize (lengthField bytes)) (fileEnds badRecord)
+    (cond (ltb (length bytes) (4 + lengthField bytes)) (fileEnds cutRecord)
+    (consEntry (entryOf bytes) rest)))
 
 fuel-free : (f g : ℕ) (bytes : List ℕ) → length bytes ≤ f → length bytes ≤ g → recordsFrom f bytes ≡ recordsFrom g bytes
 unfolding recordsFrom
@@ -41,52 +41,52 @@ fuel-free (suc f) zero [] p q = refl
 fuel-free (suc f) zero (b ∷ more) p q = absurd (omega arith)
 fuel-free (suc f) (suc g) [] p q = refl
 fuel-free (suc f) (suc g) (b ∷ more) p q =
-    let less = length-drop (4 + sizeOf (b ∷ more)) (b ∷ more) in
-    ap (front (b ∷ more)) (fuel-free f g (drop (4 + sizeOf (b ∷ more)) (b ∷ more)) (omega arith) (omega arith))
+    let less = length-drop (4 + lengthField (b ∷ more)) (b ∷ more) in
+    ap (front (b ∷ more)) (fuel-free f g (drop (4 + lengthField (b ∷ more)) (b ∷ more)) (omega arith) (omega arith))
 
-file-open : (bytes : List ℕ) → 1 ≤ length bytes → fileFrom bytes ≡ front bytes (fileFrom (drop (4 + sizeOf bytes) bytes))
+file-open : (bytes : List ℕ) → 1 ≤ length bytes → fileFrom bytes ≡ front bytes (fileFrom (drop (4 + lengthField bytes) bytes))
 unfolding recordsFrom
 file-open [] h = absurd (omega arith)
 file-open (b ∷ more) h =
-    let less = length-drop (4 + sizeOf (b ∷ more)) (b ∷ more) in
-    ap (front (b ∷ more)) (fuel-free (length more) (length (drop (4 + sizeOf (b ∷ more)) (b ∷ more))) (drop (4 + sizeOf (b ∷ more)) (b ∷ more)) (omega arith) (omega arith))
+    let less = length-drop (4 + lengthField (b ∷ more)) (b ∷ more) in
+    ap (front (b ∷ more)) (fuel-free (length more) (length (drop (4 + lengthField (b ∷ more)) (b ∷ more))) (drop (4 + lengthField (b ∷ more)) (b ∷ more)) (omega arith) (omega arith))
 
 module _ (bytes : List ℕ) where
-  file-short : 1 ≤ length bytes → length bytes < 4 → fileFrom bytes ≡ ends cutRecord
+  file-short : 1 ≤ length bytes → length bytes < 4 → fileFrom bytes ≡ fileEnds cutRecord
   file-short some h = file-open bytes some ∙ rw (lt-ltb (length bytes) 4 h)
 
   module _ (h : 4 ≤ length bytes) where
-    file-bad : badSize (sizeOf bytes) ≡ true → fileFrom bytes ≡ ends badRecord
+    file-bad : badSize (lengthField bytes) ≡ true → fileFrom bytes ≡ fileEnds badRecord
     file-bad bad = file-open bytes (omega arith) ∙ rw (le-ltb (length bytes) 4 h, bad)
 
-    file-part : badSize (sizeOf bytes) ≡ false → length bytes < 4 + sizeOf bytes → fileFrom bytes ≡ ends cutRecord
-    file-part good part = file-open bytes (omega arith) ∙ rw (le-ltb (length bytes) 4 h, good, lt-ltb (length bytes) (4 + sizeOf bytes) part)
+    file-part : badSize (lengthField bytes) ≡ false → length bytes < 4 + lengthField bytes → fileFrom bytes ≡ fileEnds cutRecord
+    file-part good part = file-open bytes (omega arith) ∙ rw (le-ltb (length bytes) 4 h, good, lt-ltb (length bytes) (4 + lengthField bytes) part)
 
-    file-whole : badSize (sizeOf bytes) ≡ false → 4 + sizeOf bytes ≤ length bytes → fileFrom bytes ≡ andThen (entryOf bytes) (fileFrom (drop (4 + sizeOf bytes) bytes))
-    file-whole good all = file-open bytes (omega arith) ∙ rw (le-ltb (length bytes) 4 h, good, le-ltb (length bytes) (4 + sizeOf bytes) all)
+    file-whole : badSize (lengthField bytes) ≡ false → 4 + lengthField bytes ≤ length bytes → fileFrom bytes ≡ consEntry (entryOf bytes) (fileFrom (drop (4 + lengthField bytes) bytes))
+    file-whole good all = file-open bytes (omega arith) ∙ rw (le-ltb (length bytes) 4 h, good, le-ltb (length bytes) (4 + lengthField bytes) all)
 
 -- ---- by cases: how far the bytes of a record are there
 
 data Reach (bytes : List ℕ) : Type 0 where
   short : length bytes < 4 → Reach bytes
-  bad : 4 ≤ length bytes → badSize (sizeOf bytes) ≡ true → Reach bytes
-  part : 4 ≤ length bytes → badSize (sizeOf bytes) ≡ false → length bytes < 4 + sizeOf bytes → Reach bytes
-  full : 4 ≤ length bytes → badSize (sizeOf bytes) ≡ false → 4 + sizeOf bytes ≤ length bytes → Reach bytes
+  bad : 4 ≤ length bytes → badSize (lengthField bytes) ≡ true → Reach bytes
+  part : 4 ≤ length bytes → badSize (lengthField bytes) ≡ false → length bytes < 4 + lengthField bytes → Reach bytes
+  full : 4 ≤ length bytes → badSize (lengthField bytes) ≡ false → 4 + lengthField bytes ≤ length bytes → Reach bytes
 
 reach : (bytes : List ℕ) → Reach bytes
 reach bytes = go (split (length bytes) 4)
   where
-    last : 4 ≤ length bytes → badSize (sizeOf bytes) ≡ false → (length bytes < 4 + sizeOf bytes) ⊎ (4 + sizeOf bytes ≤ length bytes) → Reach bytes
+    last : 4 ≤ length bytes → badSize (lengthField bytes) ≡ false → (length bytes < 4 + lengthField bytes) ⊎ (4 + lengthField bytes ≤ length bytes) → Reach bytes
     last h good (inl less) = part h good less
     last h good (inr more) = full h good more
 
-    judge : 4 ≤ length bytes → (b : Bool) → badSize (sizeOf bytes) ≡ b → Reach bytes
+    judge : 4 ≤ length bytes → (b : Bool) → badSize (lengthField bytes) ≡ b → Reach bytes
     judge h true e = bad h e
-    judge h false e = last h e (split (length bytes) (4 + sizeOf bytes))
+    judge h false e = last h e (split (length bytes) (4 + lengthField bytes))
 
     go : (length bytes < 4) ⊎ (4 ≤ length bytes) → Reach bytes
     go (inl h) = short h
-    go (inr h) = judge h (badSize (sizeOf bytes)) refl
+    go (inr h) = judge h (badSize (lengthField bytes)) refl
 
 -- ---- the bytes in the buffer are decided
 
@@ -96,7 +96,7 @@ module _ (held : List ℕ) (have used : ℕ) (within : have ≤ length held) whe
 
   -- no more bytes than the record has
   abbrev Exact : Type 0
-  Exact = 4 ≤ length bytes → badSize (sizeOf bytes) ≡ false → length bytes ≤ 4 + sizeOf bytes
+  Exact = 4 ≤ length bytes → badSize (lengthField bytes) ≡ false → length bytes ≤ 4 + lengthField bytes
 
   record Decides (d : Taken) : Type 0 where
     file : (rest : List ℕ) → fileFrom (bytes ++ rest) ≡ onto (d .found) held (fileAt (d .reader) held rest)
@@ -125,20 +125,20 @@ module _ (held : List ℕ) (have used : ℕ) (within : have ≤ length held) whe
   decides-by (part h is less) exact = rw (decided-part bytes used h is less) (record {
     file = λ rest. rw itself;
     over = tt;
-    few = omega (arith, good-size (sizeOf bytes) is .1);
+    few = omega (arith, good-size (lengthField bytes) is .1);
     due = rw (itself, missing-rest bytes h is) (omega arith);
   })
   decides-by (full h is more) exact = rw (decided-whole bytes used is more) (record {
     file = λ rest.
         let long : 4 ≤ length (bytes ++ rest) = omega (arith, length-append bytes rest) in
         let same = size-front bytes rest h in
-        let all : 4 + sizeOf (bytes ++ rest) ≤ length (bytes ++ rest) = omega (arith, length-append bytes rest) in
-        let some = good-size (sizeOf bytes) is .0 in
-        let end : length bytes ≡ 4 + sizeOf (bytes ++ rest) = omega (arith, exact h is) in
-        let behind = drop-at bytes rest (4 + sizeOf (bytes ++ rest)) end in
+        let all : 4 + lengthField (bytes ++ rest) ≤ length (bytes ++ rest) = omega (arith, length-append bytes rest) in
+        let some = good-size (lengthField bytes) is .0 in
+        let end : length bytes ≡ 4 + lengthField (bytes ++ rest) = omega (arith, exact h is) in
+        let behind = drop-at bytes rest (4 + lengthField (bytes ++ rest)) end in
         file-whole (bytes ++ rest) long (ap badSize same ∙ is) all
-        ∙ ap (λ (e : Entry). andThen e (fileFrom (drop (4 + sizeOf (bytes ++ rest)) (bytes ++ rest)))) (entry-front bytes rest some more ∙ entry-there held have within some (omega (arith, there held have within)))
-        ∙ ap (λ (xs : List ℕ). andThen (entryIn held (4 + sizeOf bytes)) (fileFrom xs)) behind;
+        ∙ ap (λ (e : Entry). consEntry e (fileFrom (drop (4 + lengthField (bytes ++ rest)) (bytes ++ rest)))) (entry-front bytes rest some more ∙ entry-there held have within some (omega (arith, there held have within)))
+        ∙ ap (λ (xs : List ℕ). consEntry (entryIn held (4 + lengthField bytes)) (fileFrom xs)) behind;
     over = tt;
     few = omega arith;
     due = rw (missing-short [] (omega arith)) (omega arith);
@@ -146,7 +146,7 @@ module _ (held : List ℕ) (have used : ℕ) (within : have ≤ length held) whe
 
 -- no more bytes are taken than the record has
 exact-by : (bytes input : List ℕ) → 0 < missing bytes → Reach bytes
-    → let all : List ℕ = bytes ++ take (missing bytes) input in 4 ≤ length all → badSize (sizeOf all) ≡ false → length all ≤ 4 + sizeOf all
+    → let all : List ℕ = bytes ++ take (missing bytes) input in 4 ≤ length all → badSize (lengthField all) ≡ false → length all ≤ 4 + lengthField all
 exact-by bytes input some (short h) = λ long good.
     omega (arith, length-append bytes (take (missing bytes) input), length-take (missing bytes) input, missing-short bytes h)
 exact-by bytes input some (bad h is) = absurd (omega (arith, missing-bad bytes h is))
@@ -174,7 +174,7 @@ kept-there h kept held =
 
 module _ (have : ℕ) (held input : List ℕ) (taken : ℕ) (held′ : List ℕ) (t : Taken) where
   pub record-takes : (wanted : ℕ) → wanted ≡ missing (take have held) → have + wanted ≤ 32773 → 32773 ≤ length held → length held′ ≡ length held
-      → taken ≡ min wanted (length input) → held′ ≡ copied held have (take taken input) → t ≡ decided (take (have + taken) held′) taken → t .used ≡ taken
+      → taken ≡ min wanted (length input) → held′ ≡ copiedIn held have (take taken input) → t ≡ decided (take (have + taken) held′) taken → t .used ≡ taken
       → 0 < missing (take have held) → Takes (record { stage = Records; held = have }) held input t held′
   record-takes wanted want fits room same least is-held is used some =
       let bytes : List ℕ = take have held in
@@ -182,7 +182,7 @@ module _ (have : ℕ) (held input : List ℕ) (taken : ℕ) (held′ : List ℕ)
       let part-is : take taken input ≡ part = take-least wanted taken input least ∙ ap (λ (n : ℕ). take n input) want in
       let size : length part ≡ taken = ap length (sym part-is) ∙ length-take taken input ∙ omega arith in
       let small : length part ≤ length held - have = omega arith in
-      let after : held′ ≡ spliced have part held = is-held ∙ ap (copied held have) part-is ∙ copied-one held have part small in
+      let after : held′ ≡ spliced have part held = is-held ∙ ap (copiedIn held have) part-is ∙ copied-one held have part small in
       let count : length (bytes ++ part) ≡ have + taken = length-append bytes part ∙ omega (arith, length-take-le have held (omega arith)) in
       let all : take (have + taken) held′ ≡ bytes ++ part = rw (after, sym count) (kept-there have part held) in
       let exact : Exact held′ (have + taken) taken (omega arith) = rw all (exact-by bytes input some (reach bytes)) in
@@ -225,7 +225,7 @@ module _ (r : Reader) (held input : List ℕ) (t : Taken) (ready : Ready r held)
     where
       by : (b : Bool) (version : ℕ) (more : List ℕ)
           → let u : Taken = cond b (record { reader = record { stage = Records; held = 0 }; used = 1; found = Nothing }) (record { reader = record { stage = Ended; held = 0 }; used = 1; found = BadVersion }) in
-          ((rest : List ℕ) → cond b (fileFrom rest) (ends badVersion) ≡ onto (u .found) held (fileAt (u .reader) held rest)) × Ready (u .reader) held × (1 ≤ u .used) × Over (u .found) (u .reader .stage)
+          ((rest : List ℕ) → cond b (fileFrom rest) (fileEnds badVersion) ≡ onto (u .found) held (fileAt (u .reader) held rest)) × Ready (u .reader) held × (1 ≤ u .used) × Over (u .found) (u .reader .stage)
       by true version more = (λ rest. refl, record { room = ready .room; few = omega arith; due = rw (missing-short [] (omega arith)) (omega arith) }, omega arith, tt)
       by false version more = (λ rest. refl, record { room = ready .room; few = omega arith; due = tt }, omega arith, refl)
 
@@ -239,24 +239,24 @@ module _ (r : Reader) (held input : List ℕ) (t : Taken) (ready : Ready r held)
 -- ---- the end of the file
 
 -- how a file ends where no byte follows
-abbrev pub endingAt : Stage → (have : ℕ) → Ending
+abbrev pub endingAt : Stage → (have : ℕ) → FileEnd
 endingAt Version have = badVersion
 endingAt Records zero = whole
 endingAt Records (suc have) = cutRecord
 endingAt Ended have = whole
 
-pub file-ends : (r : Reader) (held : List ℕ) → Ready r held → fileAt r held [] ≡ ends (endingAt (r .stage) (length (take (r .held) held)))
+pub file-ends : (r : Reader) (held : List ℕ) → Ready r held → fileAt r held [] ≡ fileEnds (endingAt (r .stage) (length (take (r .held) held)))
 unfolding records recordsFrom
 file-ends r held ready = go (r .stage) (take (r .held) held) (ready .due)
   where
-    last : (bytes : List ℕ) → Reach bytes → 0 < missing bytes → fileFrom bytes ≡ ends (endingAt Records (length bytes))
+    last : (bytes : List ℕ) → Reach bytes → 0 < missing bytes → fileFrom bytes ≡ fileEnds (endingAt Records (length bytes))
     last [] far some = refl
     last (b ∷ more) (short h) some = file-short (b ∷ more) (omega arith) h
     last (b ∷ more) (bad h is) some = absurd (omega (arith, missing-bad (b ∷ more) h is))
     last (b ∷ more) (part h is less) some = file-part (b ∷ more) h is less
     last (b ∷ more) (full h is more′) some = absurd (omega (arith, missing-rest (b ∷ more) h is))
 
-    go : (g : Stage) (bytes : List ℕ) → Due g bytes → fileIn g bytes [] ≡ ends (endingAt g (length bytes))
+    go : (g : Stage) (bytes : List ℕ) → Due g bytes → fileIn g bytes [] ≡ fileEnds (endingAt g (length bytes))
     go Version bytes due = refl
     go Records bytes due = rw (append-nil bytes) (last bytes (reach bytes) due)
     go Ended bytes due = refl

@@ -12,7 +12,7 @@ use Rattle.records.specs.declared.Reader.{Reader}
 use Rattle.records.specs.declared.Found.{Found}
 use Rattle.records.specs.declared.Found.the-variants.{Nothing, Record, BadVersion, BadRecord}
 use Rattle.records.specs.declared.Taken.{Taken}
-use Rattle.records.specs.Records.{Entry, Ending, whole, badVersion, badRecord, cutRecord, File, ends, andThen, sizeOf, badSize, recordsFrom, records}
+use Rattle.records.specs.Records.{Entry, FileEnd, whole, badVersion, badRecord, cutRecord, File, fileEnds, consEntry, lengthField, badSize, recordsFrom, records}
 
 -- ---- what is to come
 
@@ -23,7 +23,7 @@ fileFrom bytes = recordsFrom (length bytes) bytes
 abbrev pub fileIn : Stage → (bytes rest : List ℕ) → File
 fileIn Version bytes rest = records rest
 fileIn Records bytes rest = fileFrom (bytes ++ rest)
-fileIn Ended bytes rest = ends whole
+fileIn Ended bytes rest = fileEnds whole
 
 abbrev pub fileAt : Reader → (held rest : List ℕ) → File
 fileAt r held rest = fileIn (r .stage) (take (r .held) held) rest
@@ -35,7 +35,7 @@ entryIn held end = record { client = getD held 4 0; batch = take (end - 5) (drop
 -- what was found, and then the rest: of a file that ended so there is none
 abbrev pub onto : Found → (held : List ℕ) → File → File
 onto Nothing held rest = rest
-onto (Record end) held rest = andThen (entryIn held end) rest
+onto (Record end) held rest = consEntry (entryIn held end) rest
 onto BadVersion held rest = record { entries = rest .entries; ending = badVersion }
 onto BadRecord held rest = record { entries = rest .entries; ending = badRecord }
 
@@ -45,8 +45,8 @@ onto BadRecord held rest = record { entries = rest .entries; ending = badRecord 
 unfoldable pub missing : List ℕ → ℕ
 missing bytes =
     cond (ltb (length bytes) 4) (4 - length bytes)
-    (cond (badSize (sizeOf bytes)) 0
-    (4 + sizeOf bytes - length bytes))
+    (cond (badSize (lengthField bytes)) 0
+    (4 + lengthField bytes - length bytes))
 
 abbrev pub Due : Stage → List ℕ → Type 0
 Due Version bytes = Unit {0}
@@ -90,9 +90,9 @@ undecided have used = record { reader = record { stage = Records; held = have };
 unfoldable pub decided : List ℕ → (used : ℕ) → Taken
 decided bytes used =
     cond (ltb (length bytes) 4) (undecided (length bytes) used)
-    (cond (badSize (sizeOf bytes)) (record { reader = record { stage = Ended; held = 0 }; used = used; found = BadRecord })
-    (cond (ltb (length bytes) (4 + sizeOf bytes)) (undecided (length bytes) used)
-    (record { reader = record { stage = Records; held = 0 }; used = used; found = Record (4 + sizeOf bytes) })))
+    (cond (badSize (lengthField bytes)) (record { reader = record { stage = Ended; held = 0 }; used = used; found = BadRecord })
+    (cond (ltb (length bytes) (4 + lengthField bytes)) (undecided (length bytes) used)
+    (record { reader = record { stage = Records; held = 0 }; used = used; found = Record (4 + lengthField bytes) })))
 
 abbrev pub versionTaken : (version : ℕ) → Taken
 versionTaken version =

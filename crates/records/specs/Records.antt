@@ -13,27 +13,27 @@ pub record Entry : Type 0 where
   pub batch : List ℕ
 
 -- how a file ends: after a whole record, or after the version byte; or with what is told of it
-pub data Ending : Type 0 where
-  whole : Ending
-  badVersion : Ending
-  badRecord : Ending
-  cutRecord : Ending
+pub data FileEnd : Type 0 where
+  whole : FileEnd
+  badVersion : FileEnd
+  badRecord : FileEnd
+  cutRecord : FileEnd
 
 pub record File : Type 0 where
   pub entries : List Entry
-  pub ending : Ending
+  pub ending : FileEnd
 
 -- no record more
-abbrev pub ends : Ending → File
-ends ending = record { entries = []; ending = ending }
+abbrev pub fileEnds : FileEnd → File
+fileEnds ending = record { entries = []; ending = ending }
 
 -- this record, and then the rest
-abbrev pub andThen : Entry → File → File
-andThen entry rest = record { entries = entry ∷ rest .entries; ending = rest .ending }
+abbrev pub consEntry : Entry → File → File
+consEntry entry rest = record { entries = entry ∷ rest .entries; ending = rest .ending }
 
 -- the length that stands before a record
-abbrev pub sizeOf : List ℕ → ℕ
-sizeOf bytes = be32At bytes 0
+abbrev pub lengthField : List ℕ → ℕ
+lengthField bytes = be32At bytes 0
 
 -- "length 0 or over 32,769"
 abbrev pub badSize : ℕ → Bool
@@ -41,21 +41,21 @@ badSize size = eqb size 0 || ltb 32769 size
 
 -- the record whose length stands at the start of the bytes: a byte for the client, and the batch
 abbrev pub entryOf : List ℕ → Entry
-entryOf bytes = record { client = getD bytes 4 0; batch = take (sizeOf bytes - 1) (drop 5 bytes) }
+entryOf bytes = record { client = getD bytes 4 0; batch = take (lengthField bytes - 1) (drop 5 bytes) }
 
 -- the records from here on, with fuel for as many; as many as there are bytes suffice. An end inside the four bytes of a length cuts the
 -- record; the length is "judged before the rest is read"; "an end after a whole record prints nothing more"
 unfoldable pub recordsFrom : (fuel : ℕ) → List ℕ → File
-recordsFrom zero bytes = ends whole
-recordsFrom (suc fuel) [] = ends whole
+recordsFrom zero bytes = fileEnds whole
+recordsFrom (suc fuel) [] = fileEnds whole
 recordsFrom (suc fuel) (byte ∷ more) =
     let bytes : List ℕ = byte ∷ more in
-    cond (ltb (length bytes) 4) (ends cutRecord)
-    (cond (badSize (sizeOf bytes)) (ends badRecord)
-    (cond (ltb (length bytes) (4 + sizeOf bytes)) (ends cutRecord)
-    (andThen (entryOf bytes) (recordsFrom fuel (drop (4 + sizeOf bytes) bytes)))))
+    cond (ltb (length bytes) 4) (fileEnds cutRecord)
+    (cond (badSize (lengthField bytes)) (fileEnds badRecord)
+    (cond (ltb (length bytes) (4 + lengthField bytes)) (fileEnds cutRecord)
+    (consEntry (entryOf bytes) (recordsFrom fuel (drop (4 + lengthField bytes) bytes)))))
 
 -- a whole file; "an empty file prints `bad version`"
 unfoldable pub records : List ℕ → File
-records [] = ends badVersion
-records (version ∷ bytes) = cond (eqb version 1) (recordsFrom (length bytes) bytes) (ends badVersion)
+records [] = fileEnds badVersion
+records (version ∷ bytes) = cond (eqb version 1) (recordsFrom (length bytes) bytes) (fileEnds badVersion)

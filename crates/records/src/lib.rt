@@ -3,7 +3,7 @@ ghost use mathlib.Core.Path.{_≡_};
 ghost use Prim.Native.Nat.{_+_, _≤_, _<_};
 ghost use lib.ListN.{length, take};
 ghost use Rattle.records.specs.declared.Stage.the-variants.{Version, Records};
-ghost use Rattle.records.specs.Records.{badSize, sizeOf};
+ghost use Rattle.records.specs.Records.{badSize, lengthField};
 ghost use Rattle.records.specs.Reading.{missing, Ready, Takes, Lies, undecided, decided, versionTaken};
 
 // What is to come next: the version byte, a record, or nothing that is looked at.

@@ -8,11 +8,11 @@ use Rattle.pixel.specs.Formats.{isFormat}
 use Rattle.pixel.specs.Alpha.{isAlphaMode}
 use Rattle.pixel.specs.Blending.{isFactor}
 use Rattle.register.specs.declared.table.Kind.{Kind}
-use Rattle.register.specs.declared.table.Kind.the-variants.{SourceControl, DestinationControl, OutputControl, Size, Stride, Blending, Whole, NotWritable}
+use Rattle.register.specs.declared.table.Kind.the-variants.{SourceControl, DestinationControl, OutputControl, Size, Stride, Blending, FullWord, NotWritable}
 
 -- the row of the register at an offset
-unfoldable pub kindOf : ℕ → Kind
-kindOf offset =
+unfoldable pub registerKindOf : ℕ → Kind
+registerKindOf offset =
     -- SRC_SURFACE_CTRL
     cond (eqb offset 0x010) SourceControl
     -- DST_SURFACE_CTRL
@@ -22,7 +22,7 @@ kindOf offset =
     -- SRC_SURFACE_STRIDE, DST_SURFACE_STRIDE, OUTPUT_STRIDE
     (cond (eqb offset 0x018 || eqb offset 0x058 || eqb offset 0x108) Stride
     -- SRC_SURFACE_FILL_COLOR; SRC_SURFACE_ADDR0, DST_SURFACE_ADDR0, OUTPUT_ADDR0
-    (cond (eqb offset 0x01C || eqb offset 0x020 || eqb offset 0x060 || eqb offset 0x110) Whole
+    (cond (eqb offset 0x01C || eqb offset 0x020 || eqb offset 0x060 || eqb offset 0x110) FullWord
     -- BLENDING_CTRL
     (cond (eqb offset 0x090) Blending
     -- OUTPUT_CTRL
@@ -34,8 +34,8 @@ abbrev pub isSourceMode : ℕ → Bool
 isSourceMode code = leb code 1
 
 -- 31:24 global alpha, 23:22 alpha mode, 14:8 format, 7 and 6 flips, 5:4 quarter turns, 3:2 source mode, 0 enable; the others zero
-abbrev pub sourceTakes : ℕ → Bool
-sourceTakes word =
+abbrev pub sourceControlAccepts : ℕ → Bool
+sourceControlAccepts word =
     isAlphaMode (field 23 22 word)
     && eqb (field 21 15 word) 0
     && isFormat (field 14 8 word)
@@ -43,43 +43,43 @@ sourceTakes word =
     && eqb (field 1 1 word) 0
 
 -- 31:24 global alpha, 23:22 alpha mode, 14:8 format, 0 enable
-abbrev pub destinationTakes : ℕ → Bool
-destinationTakes word =
+abbrev pub destinationControlAccepts : ℕ → Bool
+destinationControlAccepts word =
     isAlphaMode (field 23 22 word)
     && eqb (field 21 15 word) 0
     && isFormat (field 14 8 word)
     && eqb (field 7 1 word) 0
 
 -- 14:8 format
-abbrev pub outputTakes : ℕ → Bool
-outputTakes word = eqb (field 31 15 word) 0 && isFormat (field 14 8 word) && eqb (field 7 0 word) 0
+abbrev pub outputControlAccepts : ℕ → Bool
+outputControlAccepts word = eqb (field 31 15 word) 0 && isFormat (field 14 8 word) && eqb (field 7 0 word) 0
 
 -- 28:16 height, 12:0 width
-abbrev pub sizeTakes : ℕ → Bool
-sizeTakes word = eqb (field 31 29 word) 0 && eqb (field 15 13 word) 0
+abbrev pub sizeAccepts : ℕ → Bool
+sizeAccepts word = eqb (field 31 29 word) 0 && eqb (field 15 13 word) 0
 
 -- 15:0 stride
-abbrev pub strideTakes : ℕ → Bool
-strideTakes word = eqb (field 31 16 word) 0
+abbrev pub strideAccepts : ℕ → Bool
+strideAccepts word = eqb (field 31 16 word) 0
 
 -- 13:11 source factor, 10:8 destination factor, 0 blend on
-abbrev pub blendingTakes : ℕ → Bool
-blendingTakes word =
+abbrev pub blendingAccepts : ℕ → Bool
+blendingAccepts word =
     eqb (field 31 14 word) 0
     && isFactor (field 13 11 word)
     && isFactor (field 10 8 word)
     && eqb (field 7 1 word) 0
 
 -- a register of a row takes a word
-abbrev pub takes : Kind → ℕ → Bool
-takes SourceControl word = sourceTakes word
-takes DestinationControl word = destinationTakes word
-takes OutputControl word = outputTakes word
-takes Size word = sizeTakes word
-takes Stride word = strideTakes word
-takes Blending word = blendingTakes word
-takes Whole word = true
-takes NotWritable word = false
+abbrev pub acceptsWord : Kind → ℕ → Bool
+acceptsWord SourceControl word = sourceControlAccepts word
+acceptsWord DestinationControl word = destinationControlAccepts word
+acceptsWord OutputControl word = outputControlAccepts word
+acceptsWord Size word = sizeAccepts word
+acceptsWord Stride word = strideAccepts word
+acceptsWord Blending word = blendingAccepts word
+acceptsWord FullWord word = true
+acceptsWord NotWritable word = false
 
 abbrev pub isWritable : Kind → Bool
 isWritable SourceControl = true
@@ -88,5 +88,5 @@ isWritable OutputControl = true
 isWritable Size = true
 isWritable Stride = true
 isWritable Blending = true
-isWritable Whole = true
+isWritable FullWord = true
 isWritable NotWritable = false

@@ -12,7 +12,7 @@ use Rattle.pixel.specs.declared.format.Format.the-variants.{Argb8888}
 use Rattle.surface.specs.declared.Surface.{Surface}
 use Rattle.transform.specs.declared.Transform.{Transform}
 use Rattle.transform.specs.declared.Rotation.{Rotation}
-use Rattle.transform.specs.declared.Rotation.the-variants.{Upright, Clockwise, Half, CounterClockwise}
+use Rattle.transform.specs.declared.Rotation.the-variants.{Rotate0, Rotate90, Rotate180, Rotate270}
 use Rattle.register.specs.declared.bank.SurfaceRegisters.{SurfaceRegisters}
 use Rattle.register.specs.declared.bank.Bank.{Bank}
 use Rattle.register.specs.declared.task.Alpha.{Alpha}
@@ -35,7 +35,7 @@ surfaceOf r = record {
 
 -- quarter turns clockwise (the paper's turn), 0 to 3
 abbrev pub rotationOf : ℕ → Rotation
-rotationOf code = cond (eqb code 0) Upright (cond (eqb code 1) Clockwise (cond (eqb code 2) Half CounterClockwise))
+rotationOf code = cond (eqb code 0) Rotate0 (cond (eqb code 1) Rotate90 (cond (eqb code 2) Rotate180 Rotate270))
 
 abbrev pub sourceModeOf : ℕ → SourceMode
 sourceModeOf code = cond (eqb code 0) Buffer Colour
@@ -61,8 +61,8 @@ abbrev pub isEnabled : ℕ → Bool
 isEnabled control = eqb (field 0 0 control) 1
 
 -- the colour register is A, R, G, B from bit 31 down, as a stored pixel of ARGB8888 is
-unfoldable pub sourceOf : Bank → Source
-sourceOf bank = record {
+unfoldable pub sourceOfBank : Bank → Source
+sourceOfBank bank = record {
   surface = surfaceOf (bank .source);
   mode = sourceModeOf (field 3 2 (bank .source .control));
   colour = unpacked (layoutOf Argb8888) (bank .colour);
@@ -87,7 +87,7 @@ blendingOf bank = record {
 
 unfoldable pub taskOf : Bank → Task
 taskOf bank = record {
-  source = sourceOf bank;
+  source = sourceOfBank bank;
   destination = destinationOf bank;
   output = surfaceOf (bank .output);
   blending = blendingOf bank;

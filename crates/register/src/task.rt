@@ -1,6 +1,6 @@
 // The task that a bank describes.
 ghost use mathlib.Core.Path.{_≡_};
-ghost use Rattle.register.specs.Task.{surfaceOf, rotationOf, sourceModeOf, isBuffer, transformOf, alphaOf, isEnabled, sourceOf, destinationOf, blendingOf, taskOf};
+ghost use Rattle.register.specs.Task.{surfaceOf, rotationOf, sourceModeOf, isBuffer, transformOf, alphaOf, isEnabled, sourceOfBank, destinationOf, blendingOf, taskOf};
 use crate::bank::Bank;
 use crate::bank::SurfaceRegisters;
 use pixel::AlphaMode;
@@ -58,10 +58,10 @@ fn rotation(code: u32) -> Rotation
     ensures { λ r. ⌜ r ≡ rotationOf code ⌝ }
 {
     match code {
-        0 => Rotation::Upright,
-        1 => Rotation::Clockwise,
-        2 => Rotation::Half,
-        _ => Rotation::CounterClockwise,
+        0 => Rotation::Rotate0,
+        1 => Rotation::Rotate90,
+        2 => Rotation::Rotate180,
+        _ => Rotation::Rotate270,
     }
 }
 
@@ -129,7 +129,7 @@ impl SurfaceRegisters {
 
 impl Bank {
     fn source(self) -> Source
-        ensures { λ r. ⌜ r ≡ sourceOf self ⌝ }
+        ensures { λ r. ⌜ r ≡ sourceOfBank self ⌝ }
     {
         let registers = self.source;
         Source {

@@ -11,23 +11,23 @@ use lib.Dec.{ltb, eqb, eqb·suc-zero}
 use borrow.Author.Tests.{lt-ltb, le-ltb, ltb-false}
 use Rattle.word.proofs.Tests.{split}
 use Rattle.register.specs.Bank.{resetBank}
-use Rattle.queue.specs.Answers.{answered}
-use Rattle.queue.specs.Refusals.{firstOf as firstRow}
-use Rattle.queue.specs.Calls.{setUp}
+use Rattle.queue.specs.Answers.{answerUnlessRefused}
+use Rattle.queue.specs.Refusals.{firstRefusal as firstRow}
+use Rattle.queue.specs.Calls.{setUpResult}
 use Rattle.model.specs.Windows.{Window, window, overlapAny}
 use Rattle.model.specs.Calls.{submit, run, accepted, completed}
 use Rattle.model.specs.State.{Model, totalBytes, windowOf as windowIn}
-use Rattle.model.specs.Refusals.{table, firstOf, refusal as refusalIn, badLength}
-use Rattle.model.specs.Model.{refuse, submitStep, runStep, unless, effect, step, after, end}
-use Rattle.claims.specs.OfModel.{real}
-use Rattle.claims.specs.Engine.{State, Called, told, called, Accepted}
+use Rattle.model.specs.Refusals.{refusalTable, firstHolding, refusal as refusalIn, badLength}
+use Rattle.model.specs.Model.{refuse, submitStep, runStep, refuseOr, effect, step, after, modelAfterAll}
+use Rattle.claims.specs.ModelProperties.{batchSemantics}
+use Rattle.claims.specs.Engine.{State, CallResult, answerOrRefusal, performCall, SetUpAccepted}
 use Rattle.claims.proofs.Confined.{confined}
 use Rattle.claims.proofs.Related.{Related}
 use Rattle.claims.proofs.Steps.{Alike}
 use Rattle.claims.proofs.Follows.{together, at-end}
-use Rattle.records.specs.Records.{Entry, Ending, File}
-use Rattle.replay.specs.Lines.{setup, opening, started, starting, served, entryLine, endingLine, printedFrom, lines}
-use Rattle.replay.specs.Answered.{refusal, windowOf, verdict, ticketAfter, answerAfter, countAfter, drawnAfter, toldAfter, lineFeeds, OneLine, acceptedFrom, servedAll, Answered, Promise}
+use Rattle.records.specs.Records.{Entry, FileEnd, File}
+use Rattle.replay.specs.Lines.{setup, opening, engineOpened, replayStart, submitAndRun, entryLine, endingLine, printedFrom, lines}
+use Rattle.replay.specs.Answered.{recordRefusal, replayWindow, verdict, ticketOfCount, answerAfter, countAfter, drawnAfter, linesAfter, lineFeeds, OneLine, acceptedFrom, submitAndRunAll, RecordAnswered, ReplayAnswersHold}
 use Rattle.replay.proofs.LineFeeds.{feeds-append, one-feed, answer-one}
 
 -- ---- the model between two records
@@ -63,8 +63,8 @@ never-eight true over = refl
 never-eight false true = refl
 never-eight false false = refl
 
-refusal-is : (count : ℕ) (memory : List ℕ) (entry : Entry) → refusalIn setup 32768 (resting count memory) (submit (entry .client) (entry .batch)) ≡ refusal entry
-unfolding table firstOf totalBytes
+refusal-is : (count : ℕ) (memory : List ℕ) (entry : Entry) → refusalIn setup 32768 (resting count memory) (submit (entry .client) (entry .batch)) ≡ recordRefusal entry
+unfolding refusalTable firstHolding totalBytes
 refusal-is count memory entry =
     let size : ℕ = length (entry .batch) in
     rw (open-like (entry .client), never-eight (eqb size 0 || not (eqb (size % 4) 0)) (ltb 32768 size))
@@ -74,11 +74,11 @@ passed : (far bad : Bool) → _≡_ {A = ℕ} (cond far 5 (cond bad 6 0)) 0 → 
 passed true bad e = absurd (omega arith)
 passed false bad e = refl
 
-owner : (entry : Entry) → refusal entry ≡ 0 → entry .client ≤ 3
+owner : (entry : Entry) → recordRefusal entry ≡ 0 → entry .client ≤ 3
 owner entry e = ltb-false 3 (entry .client) (passed (ltb 3 (entry .client)) (badLength setup (length (entry .batch))) e)
 
 -- whose window is the one at its place
-window-is : (count : ℕ) (memory : List ℕ) (client : ℕ) → client ≤ 3 → windowIn (resting count memory) client ≡ windowOf client
+window-is : (count : ℕ) (memory : List ℕ) (client : ℕ) → client ≤ 3 → windowIn (resting count memory) client ≡ replayWindow client
 window-is count memory zero h = refl
 window-is count memory (suc zero) h = refl
 window-is count memory (suc (suc zero)) h = refl
@@ -95,43 +95,43 @@ module _ (count : ℕ) (s : State) (S : Stands count s) (entry : Entry) where
   taken = holding count (S .memory) entry
 
   abbrev drawn : List ℕ
-  drawn = real .draw (windowIn now (entry .client)) 16384 (entry .batch) (S .memory)
+  drawn = batchSemantics .draw (windowIn now (entry .client)) 16384 (entry .batch) (S .memory)
 
-  abbrev submitted : Called
-  submitted = called (submit (entry .client) (entry .batch)) s
+  abbrev submitted : CallResult
+  submitted = performCall (submit (entry .client) (entry .batch)) s
 
-  abbrev ran : Called
-  ran = called run (submitted .after)
+  abbrev ran : CallResult
+  ran = performCall run (submitted .after)
 
-  submit-alike : Alike setup 32768 submitted (unless (refusal entry) now (submitStep now (entry .client) (entry .batch)))
+  submit-alike : Alike setup 32768 submitted (refuseOr (recordRefusal entry) now (submitStep now (entry .client) (entry .batch)))
   unfolding effect
   submit-alike = rw (← refusal-is count (S .memory) entry) (together setup 32768 (submit (entry .client) (entry .batch)) now s (S .related))
 
   -- refused
-  module _ (k : ℕ) (e : refusal entry ≡ suc k) where
+  module _ (k : ℕ) (e : recordRefusal entry ≡ suc k) where
     told-no : Alike setup 32768 submitted (refuse (suc k) now)
-    unfolding unless
+    unfolding refuseOr
     told-no = rw e at submit-alike
 
-    served-no : served entry s ≡ submitted
-    unfolding served
+    served-no : submitAndRun entry s ≡ submitted
+    unfolding submitAndRun
     served-no = rw (told-no .0)
 
   -- accepted
-  module _ (e : refusal entry ≡ 0) where
+  module _ (e : recordRefusal entry ≡ 0) where
     told-yes : Alike setup 32768 submitted (submitStep now (entry .client) (entry .batch))
-    unfolding unless
+    unfolding refuseOr
     told-yes = rw e at submit-alike
 
-    served-yes : served entry s ≡ ran
-    unfolding served
+    served-yes : submitAndRun entry s ≡ ran
+    unfolding submitAndRun
     served-yes = rw (told-yes .0)
 
-    run-step : step real setup 32768 run taken ≡ runStep real 16384 taken (taken .waiting)
-    unfolding unless effect table firstOf
+    run-step : step batchSemantics setup 32768 run taken ≡ runStep batchSemantics 16384 taken (taken .waiting)
+    unfolding refuseOr effect refusalTable firstHolding
     run-step = rw (S .size)
 
-    run-alike : Alike setup 32768 ran (runStep real 16384 taken (taken .waiting))
+    run-alike : Alike setup 32768 ran (runStep batchSemantics 16384 taken (taken .waiting))
     run-alike = rw run-step at (together setup 32768 run taken (submitted .after) (told-yes .1))
 
     completes : ran .answer ≡ completed (entry .client) (count % 4294967296) (verdict entry)
@@ -139,37 +139,37 @@ module _ (count : ℕ) (s : State) (S : Stands count s) (entry : Entry) where
 
     drawn-size : length drawn ≡ 65536
     drawn-size =
-        let w : Window = windowOf (entry .client) in
+        let w : Window = replayWindow (entry .client) in
         let h : entry .client ≤ 3 = owner entry e in
         rw (window-is count (S .memory) (entry .client) h) (confined resetBank w 16384 (entry .batch) .sized (S .memory) (omega (arith, S .size), omega (arith, S .size)) ∙ S .size)
 
-    drawn-memory : ran .after .memory ≡ real .draw (windowOf (entry .client)) 16384 (entry .batch) (s .memory)
+    drawn-memory : ran .after .memory ≡ batchSemantics .draw (replayWindow (entry .client)) 16384 (entry .batch) (s .memory)
     drawn-memory =
         sym (memory-is (run-alike .1))
-        ∙ ap (λ (w : Window). real .draw w 16384 (entry .batch) (S .memory)) (window-is count (S .memory) (entry .client) (owner entry e))
-        ∙ ap (real .draw (windowOf (entry .client)) 16384 (entry .batch)) (memory-is (S .related))
+        ∙ ap (λ (w : Window). batchSemantics .draw w 16384 (entry .batch) (S .memory)) (window-is count (S .memory) (entry .client) (owner entry e))
+        ∙ ap (batchSemantics .draw (replayWindow (entry .client)) 16384 (entry .batch)) (memory-is (S .related))
 
   -- what is answered, and where it leads
   record Told : Type 0 where
-    submits : submitted .answer ≡ told (refusal entry) (accepted (ticketAfter count))
+    submits : submitted .answer ≡ answerOrRefusal (recordRefusal entry) (accepted (ticketOfCount count))
     runs : (ticket : ℕ) → submitted .answer ≡ accepted ticket → ran .answer ≡ completed (entry .client) ticket (verdict entry)
-    answers : served entry s .answer ≡ answerAfter count entry
-    draws : served entry s .after .memory ≡ drawnAfter entry (s .memory)
-    onward : Stands (countAfter count entry) (served entry s .after)
+    answers : submitAndRun entry s .answer ≡ answerAfter count entry
+    draws : submitAndRun entry s .after .memory ≡ drawnAfter entry (s .memory)
+    onward : Stands (countAfter count entry) (submitAndRun entry s .after)
 
   one : Told
-  unfolding told
-  one = go (refusal entry) refl
+  unfolding answerOrRefusal
+  one = go (recordRefusal entry) refl
     where
-      go : (n : ℕ) → refusal entry ≡ n → Told
+      go : (n : ℕ) → recordRefusal entry ≡ n → Told
       go zero e =
           let yes = told-yes e .0 in
           let next : countAfter count entry ≡ suc count = rw e (omega arith) in
           record {
             submits = rw e yes;
-            runs = λ ticket a. let same : ticketAfter count ≡ ticket = cc in rw (← same) (completes e);
+            runs = λ ticket a. let same : ticketOfCount count ≡ ticket = cc in rw (← same) (completes e);
             answers = rw (e, served-yes e) (completes e);
-            draws = ap (λ (c : Called). c .after .memory) (served-yes e) ∙ rw e (drawn-memory e);
+            draws = ap (λ (c : CallResult). c .after .memory) (served-yes e) ∙ rw e (drawn-memory e);
             onward = rw (next, served-yes e) (record { memory = drawn; size = drawn-size e; related = run-alike e .1 });
           }
       go (suc k) e =
@@ -179,72 +179,72 @@ module _ (count : ℕ) (s : State) (S : Stands count s) (entry : Entry) where
             submits = rw e no;
             runs = λ ticket a. absurd (let z : _≡_ {A = ℕ} 0 1 = cc in omega arith);
             answers = rw (e, served-no k e) no;
-            draws = ap (λ (c : Called). c .after .memory) (served-no k e) ∙ rw (e, eqb·suc-zero k) (sym (memory-is (told-no k e .1)) ∙ memory-is (S .related));
+            draws = ap (λ (c : CallResult). c .after .memory) (served-no k e) ∙ rw (e, eqb·suc-zero k) (sym (memory-is (told-no k e .1)) ∙ memory-is (S .related));
             onward = rw (next, served-no k e) (record { memory = S .memory; size = S .size; related = told-no k e .1 });
           }
 
   one-line : OneLine (entryLine entry s)
-  one-line = rw (one .answers) (answer-one (refusal entry) (entry .client) (ticketAfter count) (verdict entry))
+  one-line = rw (one .answers) (answer-one (recordRefusal entry) (entry .client) (ticketOfCount count) (verdict entry))
 
 -- ---- any records
 
-stands-on : (before : List Entry) (count : ℕ) (s : State) → Stands count s → Stands (acceptedFrom count before) (servedAll before s)
-unfolding servedAll acceptedFrom
+stands-on : (before : List Entry) (count : ℕ) (s : State) → Stands count s → Stands (acceptedFrom count before) (submitAndRunAll before s)
+unfolding submitAndRunAll acceptedFrom
 stands-on [] count s S = S
-stands-on (entry ∷ entries) count s S = stands-on entries (countAfter count entry) (served entry s .after) (one count s S entry .onward)
+stands-on (entry ∷ entries) count s S = stands-on entries (countAfter count entry) (submitAndRun entry s .after) (one count s S entry .onward)
 
-module _ (ending : Ending) where
-  text-from : (entries : List Entry) (count : ℕ) (s : State) → Stands count s → printedFrom s entries ending ≡ toldAfter count entries ending
-  unfolding printedFrom toldAfter
+module _ (ending : FileEnd) where
+  text-from : (entries : List Entry) (count : ℕ) (s : State) → Stands count s → printedFrom s entries ending ≡ linesAfter count entries ending
+  unfolding printedFrom linesAfter
   text-from [] count s S = refl
   text-from (entry ∷ entries) count s S =
       let o = one count s S entry in
-      rw (o .answers, text-from entries (countAfter count entry) (served entry s .after) (o .onward))
+      rw (o .answers, text-from entries (countAfter count entry) (submitAndRun entry s .after) (o .onward))
 
   count-from : (entries : List Entry) (count : ℕ) (s : State) → Stands count s → lineFeeds (printedFrom s entries ending) ≡ length entries + lineFeeds (endingLine ending)
   unfolding printedFrom
   count-from [] count s S = omega arith
   count-from (entry ∷ entries) count s S =
-      let rest = count-from entries (countAfter count entry) (served entry s .after) (one count s S entry .onward) in
+      let rest = count-from entries (countAfter count entry) (submitAndRun entry s .after) (one count s S entry .onward) in
       rw (feeds-append, one-feed (entryLine entry s) (one-line count s S entry), rest) (omega arith)
 
 -- ---- from the start
 
-set-up : Accepted setup
-unfolding setUp answered firstRow
+set-up : SetUpAccepted setup
+unfolding setUpResult answerUnlessRefused firstRow
 set-up = refl
 
-opens-four : (n : ℕ) (memory : List ℕ) → end real setup n opening memory ≡ resting 0 memory
-unfolding after effect unless table firstOf overlapAny
+opens-four : (n : ℕ) (memory : List ℕ) → modelAfterAll batchSemantics setup n opening memory ≡ resting 0 memory
+unfolding after effect refuseOr refusalTable firstHolding overlapAny
 opens-four n memory = refl
 
-starts : (ring memory : List ℕ) → length ring ≡ 32768 → length memory ≡ 65536 → Stands 0 (started ring memory)
-unfolding started
+starts : (ring memory : List ℕ) → length ring ≡ 32768 → length memory ≡ 65536 → Stands 0 (engineOpened ring memory)
+unfolding engineOpened
 starts ring memory long size = record {
   memory = memory;
   size = size;
   related = rw (opens-four (length ring) memory, long) at (at-end setup ring set-up opening memory);
 }
 
-program-starts : Stands 0 starting
-unfolding starting
+program-starts : Stands 0 replayStart
+unfolding replayStart
 program-starts = starts (replicate 32768 0) (replicate 65536 0) (length-replicate {A = ℕ} 32768 0) (length-replicate {A = ℕ} 65536 0)
 
-each : (ring memory : List ℕ) → length ring ≡ 32768 → length memory ≡ 65536 → (before : List Entry) (entry : Entry) → Answered ring memory before entry
+each : (ring memory : List ℕ) → length ring ≡ 32768 → length memory ≡ 65536 → (before : List Entry) (entry : Entry) → RecordAnswered ring memory before entry
 each ring memory long size before entry =
     let count : ℕ = acceptedFrom 0 before in
-    let s : State = servedAll before (started ring memory) in
-    let S : Stands count s = stands-on before 0 (started ring memory) (starts ring memory long size) in
+    let s : State = submitAndRunAll before (engineOpened ring memory) in
+    let S : Stands count s = stands-on before 0 (engineOpened ring memory) (starts ring memory long size) in
     let o = one count s S entry in
     record { submits = o .submits; runs = o .runs; answers = o .answers; one-line = one-line count s S entry; draws = o .draws }
 
-text : (file : File) → lines file ≡ toldAfter 0 (file .entries) (file .ending)
+text : (file : File) → lines file ≡ linesAfter 0 (file .entries) (file .ending)
 unfolding lines
-text file = text-from (file .ending) (file .entries) 0 starting program-starts
+text file = text-from (file .ending) (file .entries) 0 replayStart program-starts
 
 line-count : (file : File) → lineFeeds (lines file) ≡ length (file .entries) + lineFeeds (endingLine (file .ending))
 unfolding lines
-line-count file = count-from (file .ending) (file .entries) 0 starting program-starts
+line-count file = count-from (file .ending) (file .entries) 0 replayStart program-starts
 
-pub promise : Promise
+pub promise : ReplayAnswersHold
 promise = record { each = each; text = text; line-count = line-count }

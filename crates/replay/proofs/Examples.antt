@@ -2,18 +2,18 @@
 use mathlib.Core.Path.{_≡_, refl}
 use mathlib.Core.List.{[], _∷_}
 use Rattle.word.specs.Word.{byteOf, be32At, beBytes}
-use Rattle.record.specs.Slots.{ready, sum}
-use Rattle.record.specs.Tickets.{lastGiven, inOrder}
-use Rattle.record.specs.Clients.{windowsOf, sharesAny, noneBad, countsRight}
-use Rattle.record.specs.Rules.{endToEnd, lengthsAllowed, ofOpen, valid}
-use Rattle.queue.specs.Answers.{answered}
-use Rattle.queue.specs.Refusals.{firstOf}
-use Rattle.queue.specs.Calls.{unless, fresh, setUp, withClient, openOf}
+use Rattle.record.specs.Slots.{readyBatches, sumOver}
+use Rattle.record.specs.Tickets.{ticketsConsecutive, inTicketOrder}
+use Rattle.record.specs.Clients.{windowsOf, overlapsAny, windowsValid, pendingCountsMatch}
+use Rattle.record.specs.Rules.{endToEnd, lengthsAllowed, clientsOpen, valid}
+use Rattle.queue.specs.Answers.{answerUnlessRefused}
+use Rattle.queue.specs.Refusals.{firstRefusal}
+use Rattle.queue.specs.Calls.{unlessRefused, initialRecord, setUpResult, withClient, openResult}
 use Rattle.model.specs.Calls.{opened}
-use Rattle.claims.specs.Engine.{told, called, answersOf, begin}
+use Rattle.claims.specs.Engine.{answerOrRefusal, performCall, answersOf, initialState}
 use Rattle.text.specs.Hex.{hexByte, hexBytes, hexWord}
 use Rattle.text.specs.Decimal.{digitsIn, decimal}
-use Rattle.records.specs.Records.{whole, badVersion, badRecord, cutRecord, ends, andThen, recordsFrom, records}
+use Rattle.records.specs.Records.{whole, badVersion, badRecord, cutRecord, fileEnds, consEntry, recordsFrom, records}
 use Rattle.replay.specs.Lines.{completionLine, refusalLine, setup, opening}
 
 -- `0 0 00010001 0 0`
@@ -39,46 +39,46 @@ unfolding refusalLine digitsIn decimal
 refused = refl
 
 -- an empty file; another version; the version byte alone
-pub empty : records [] ≡ ends badVersion
+pub empty : records [] ≡ fileEnds badVersion
 unfolding records
 empty = refl
 
-pub other-version : records (2 ∷ []) ≡ ends badVersion
+pub other-version : records (2 ∷ []) ≡ fileEnds badVersion
 unfolding records
 other-version = refl
 
-pub version-alone : records (1 ∷ []) ≡ ends whole
+pub version-alone : records (1 ∷ []) ≡ fileEnds whole
 unfolding records recordsFrom
 version-alone = refl
 
 -- one record, of client 3 and one byte
-pub one : records (1 ∷ 0 ∷ 0 ∷ 0 ∷ 2 ∷ 3 ∷ 9 ∷ []) ≡ andThen (record { client = 3; batch = 9 ∷ [] }) (ends whole)
+pub one : records (1 ∷ 0 ∷ 0 ∷ 0 ∷ 2 ∷ 3 ∷ 9 ∷ []) ≡ consEntry (record { client = 3; batch = 9 ∷ [] }) (fileEnds whole)
 unfolding records recordsFrom be32At
 one = refl
 
 -- an end inside a length, and inside a record
-pub cut-length : records (1 ∷ 0 ∷ 0 ∷ 0 ∷ []) ≡ ends cutRecord
+pub cut-length : records (1 ∷ 0 ∷ 0 ∷ 0 ∷ []) ≡ fileEnds cutRecord
 unfolding records recordsFrom
 cut-length = refl
 
-pub cut-body : records (1 ∷ 0 ∷ 0 ∷ 0 ∷ 2 ∷ 3 ∷ []) ≡ ends cutRecord
+pub cut-body : records (1 ∷ 0 ∷ 0 ∷ 0 ∷ 2 ∷ 3 ∷ []) ≡ fileEnds cutRecord
 unfolding records recordsFrom be32At
 cut-body = refl
 
 -- a length of 0, and one of 32,770, told before the body is missed; 32,769 is allowed
-pub no-length : records (1 ∷ 0 ∷ 0 ∷ 0 ∷ 0 ∷ []) ≡ ends badRecord
+pub no-length : records (1 ∷ 0 ∷ 0 ∷ 0 ∷ 0 ∷ []) ≡ fileEnds badRecord
 unfolding records recordsFrom be32At
 no-length = refl
 
-pub long : records (1 ∷ 0 ∷ 0 ∷ 128 ∷ 2 ∷ []) ≡ ends badRecord
+pub long : records (1 ∷ 0 ∷ 0 ∷ 128 ∷ 2 ∷ []) ≡ fileEnds badRecord
 unfolding records recordsFrom be32At
 long = refl
 
-pub longest : records (1 ∷ 0 ∷ 0 ∷ 128 ∷ 1 ∷ []) ≡ ends cutRecord
+pub longest : records (1 ∷ 0 ∷ 0 ∷ 128 ∷ 1 ∷ []) ≡ fileEnds cutRecord
 unfolding records recordsFrom be32At
 longest = refl
 
 -- set up is accepted, and the four windows are opened
-pub opens-four : answersOf opening (begin setup [] []) ≡ opened 0 ∷ opened 1 ∷ opened 2 ∷ opened 3 ∷ []
-unfolding answersOf called told setUp openOf fresh withClient unless firstOf answered valid windowsOf sharesAny noneBad countsRight endToEnd lengthsAllowed ofOpen lastGiven inOrder ready sum
+pub opens-four : answersOf opening (initialState setup [] []) ≡ opened 0 ∷ opened 1 ∷ opened 2 ∷ opened 3 ∷ []
+unfolding answersOf performCall answerOrRefusal setUpResult openResult initialRecord withClient unlessRefused firstRefusal answerUnlessRefused valid windowsOf overlapsAny windowsValid pendingCountsMatch endToEnd lengthsAllowed clientsOpen ticketsConsecutive inTicketOrder readyBatches sumOver
 opens-four = refl

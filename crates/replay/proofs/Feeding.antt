@@ -12,23 +12,23 @@ use borrow.Author.Tests.{le-leb, lt-leb, leb-true, ltb-true}
 use Rattle.word.specs.Splice.{spliced}
 use Rattle.word.proofs.Splice.{spliced-none}
 use Rattle.word.proofs.Tests.{split, and-true}
-use Rattle.ring.specs.Copied.{copied}
+use Rattle.ring.specs.Copied.{copiedIn}
 use Rattle.ring.proofs.Copied.{copied-one}
-use Rattle.claims.specs.Engine.{State, state}
+use Rattle.claims.specs.Engine.{State, mkState}
 use Rattle.record.specs.declared.Record.{Record}
 use Rattle.replay.specs.declared.Stage.{Stage}
 use Rattle.replay.specs.declared.Stage.the-variants.{Version, Records, Ended}
 use Rattle.replay.specs.declared.Replay.{Replay}
 use Rattle.replay.specs.declared.Fed.{Fed}
 use Rattle.replay.specs.declared.Decided.{Decided}
-use Rattle.records.specs.Records.{badVersion, cutRecord, sizeOf, badSize}
+use Rattle.records.specs.Records.{badVersion, cutRecord, lengthField, badSize}
 use Rattle.replay.specs.Lines.{endingLine}
-use Rattle.replay.specs.Step.{Position, position, missing, Told, decided, Step, idle, stepIn, step, finishText}
-use Rattle.replay.specs.Calls.{positionOf, replayAt, Prints, suffice, fedStep, Feeds, finishedText, Decides, Steps}
+use Rattle.replay.specs.Step.{ReaderState, readerState, bytesWanted, Progressed, afterRecordBytes, FeedStep, idle, stepIn, step, finishText}
+use Rattle.replay.specs.Calls.{positionOf, replayAt, Prints, buffersSuffice, fedStep, FeedContract, finishedText, DecideContract, FeedRecordContract}
 use Rattle.replay.proofs.Printing.{prints-none}
 
 -- what the test of the buffers says
-pub sufficing : (r : Replay) (held line : List ℕ) → suffice r held line ≡ true → (32773 ≤ length held) × (128 ≤ length line) × (r .held < 32773)
+pub sufficing : (r : Replay) (held line : List ℕ) → buffersSuffice r held line ≡ true → (32773 ≤ length held) × (128 ≤ length line) × (r .held < 32773)
 sufficing r held line e =
     let last = and-true (leb 32773 (length held) && leb 128 (length line)) (ltb (r .held) 32773) e in
     let both = and-true (leb 32773 (length held)) (leb 128 (length line)) (last .0) in
@@ -36,26 +36,26 @@ sufficing r held line e =
 
 -- ---- the bytes held after a step: none, or those before it and those that it keeps
 
-picked : (a b c : Bool) (bytes : List ℕ) (w x y z : Told) → w .next .bytes ≡ bytes → x .next .bytes ≡ [] → y .next .bytes ≡ bytes → z .next .bytes ≡ []
+picked : (a b c : Bool) (bytes : List ℕ) (w x y z : Progressed) → w .next .bytes ≡ bytes → x .next .bytes ≡ [] → y .next .bytes ≡ bytes → z .next .bytes ≡ []
     → (cond a w (cond b x (cond c y z)) .next .bytes ≡ []) ⊎ (cond a w (cond b x (cond c y z)) .next .bytes ≡ bytes)
 picked true b c bytes w x y z ew ex ey ez = inr ew
 picked false true c bytes w x y z ew ex ey ez = inl ex
 picked false false true bytes w x y z ew ex ey ez = inr ey
 picked false false false bytes w x y z ew ex ey ez = inl ez
 
-decided-bytes : (s : State) (bytes : List ℕ) → (decided s bytes .next .bytes ≡ []) ⊎ (decided s bytes .next .bytes ≡ bytes)
-unfolding decided
-decided-bytes s bytes = picked (ltb (length bytes) 4) (badSize (sizeOf bytes)) (ltb (length bytes) (4 + sizeOf bytes)) bytes _ _ _ _ refl refl refl refl
+decided-bytes : (s : State) (bytes : List ℕ) → (afterRecordBytes s bytes .next .bytes ≡ []) ⊎ (afterRecordBytes s bytes .next .bytes ≡ bytes)
+unfolding afterRecordBytes
+decided-bytes s bytes = picked (ltb (length bytes) 4) (badSize (lengthField bytes)) (ltb (length bytes) (4 + lengthField bytes)) bytes _ _ _ _ refl refl refl refl
 
-either : (b : Bool) (x y : Step) → x .next .bytes ≡ [] → y .next .bytes ≡ [] → cond b x y .next .bytes ≡ []
+either : (b : Bool) (x y : FeedStep) → x .next .bytes ≡ [] → y .next .bytes ≡ [] → cond b x y .next .bytes ≡ []
 either true x y ex ey = ex
 either false x y ex ey = ey
 
-step-bytes : (g : Stage) (p : Position) (input : List ℕ) → (stepIn g p input .next .bytes ≡ []) ⊎ (stepIn g p input .next .bytes ≡ p .bytes ++ stepIn g p input .kept)
+step-bytes : (g : Stage) (p : ReaderState) (input : List ℕ) → (stepIn g p input .next .bytes ≡ []) ⊎ (stepIn g p input .next .bytes ≡ p .bytes ++ stepIn g p input .kept)
 unfolding stepIn
 step-bytes Version p [] = inr (sym (append-nil (p .bytes)))
 step-bytes Version p (version ∷ more) = inl (either (eqb version 1) _ _ refl refl)
-step-bytes Records p input = decided-bytes (p .state) (p .bytes ++ take (missing (p .bytes)) input)
+step-bytes Records p input = decided-bytes (p .state) (p .bytes ++ take (bytesWanted (p .bytes)) input)
 step-bytes Ended p input = inr (sym (append-nil (p .bytes)))
 
 -- they stand in the buffer
@@ -70,19 +70,19 @@ bytes-there h kept held bytes (inl e) = rw e
 bytes-there h kept held bytes (inr e) = rw e (kept-there h kept held)
 
 -- so the reading stands where the step leaves it
-stands : (n : Position) (r : Replay) (held ring memory : List ℕ) → r ≡ replayAt n → take (length (n .bytes)) held ≡ n .bytes → ring ≡ n .state .ring → memory ≡ n .state .memory
+stands : (n : ReaderState) (r : Replay) (held ring memory : List ℕ) → r ≡ replayAt n → take (length (n .bytes)) held ≡ n .bytes → ring ≡ n .state .ring → memory ≡ n .state .memory
     → positionOf r held ring memory ≡ n
 stands n r held ring memory er eb eg em = rw (er, eg, em, eb)
 
 -- ---- the version byte
 
-module _ (p : Position) (have : ℕ) (held line : List ℕ) (f : Fed) (line′ : List ℕ) (used : f .used ≡ 1) where
+module _ (p : ReaderState) (have : ℕ) (held line : List ℕ) (f : Fed) (line′ : List ℕ) (used : f .used ≡ 1) where
   judged : (b : Bool) → f .replay ≡ record { engine = p .state .engine; stage = cond b Records Ended; held = 0 }
       → Prints (cond b [] (endingLine badVersion)) line (f .written) line′
-      → Steps
+      → FeedRecordContract
       (cond b
-      (record { used = 1; kept = []; text = []; next = position Records [] (p .state) })
-      (record { used = 1; kept = []; text = endingLine badVersion; next = position Ended [] (p .state) }))
+      (record { used = 1; kept = []; text = []; next = readerState Records [] (p .state) })
+      (record { used = 1; kept = []; text = endingLine badVersion; next = readerState Ended [] (p .state) }))
       have held line f held (p .state .ring) (p .state .memory) line′
   judged true is prints =
       record { used-is = used; replay-is = is; prints = prints; held-is = sym (spliced-none have held); ring-is = refl; memory-is = refl }
@@ -91,7 +91,7 @@ module _ (p : Position) (have : ℕ) (held line : List ℕ) (f : Fed) (line′ :
 
   version-steps : (input : List ℕ) → (length input ≡ 0 → ⊥) → f .replay ≡ record { engine = p .state .engine; stage = cond (eqb (getD input 0 0) 1) Records Ended; held = 0 }
       → Prints (cond (eqb (getD input 0 0) 1) [] (endingLine badVersion)) line (f .written) line′
-      → Steps (stepIn Version p input) have held line f held (p .state .ring) (p .state .memory) line′
+      → FeedRecordContract (stepIn Version p input) have held line f held (p .state .ring) (p .state .memory) line′
   unfolding stepIn
   version-steps [] some is prints = absurd (some refl)
   version-steps (version ∷ more) some is prints = judged (eqb version 1) is prints
@@ -108,18 +108,18 @@ take-least n k xs e = go (split n (length xs))
     go (inr h) = take-all k xs (omega arith) ∙ sym (take-all n xs h)
 
 module _ (engine : Record) (have : ℕ) (held ring memory input line : List ℕ) (taken : ℕ) (held₁ ring′ memory′ line′ : List ℕ) (f : Fed) where
-  pub record-steps : (wanted : ℕ) (d : Decided) → wanted ≡ missing (take have held) → have + wanted ≤ length held → taken ≡ min wanted (length input)
-      → held₁ ≡ copied held have (take taken input)
-      → Decides engine (take (have + taken) held₁) ring memory line d ring′ memory′ line′
+  pub record-steps : (wanted : ℕ) (d : Decided) → wanted ≡ bytesWanted (take have held) → have + wanted ≤ length held → taken ≡ min wanted (length input)
+      → held₁ ≡ copiedIn held have (take taken input)
+      → DecideContract engine (take (have + taken) held₁) ring memory line d ring′ memory′ line′
       → f ≡ record { replay = d .replay; used = taken; written = d .written }
-      → Steps (stepIn Records (position Records (take have held) (state engine ring memory)) input) have held line f held₁ ring′ memory′ line′
+      → FeedRecordContract (stepIn Records (readerState Records (take have held) (mkState engine ring memory)) input) have held line f held₁ ring′ memory′ line′
   unfolding stepIn
   record-steps wanted d want fits least is-held decides is =
-      let part : List ℕ = take (missing (take have held)) input in
+      let part : List ℕ = take (bytesWanted (take have held)) input in
       let part-is : take taken input ≡ part = take-least wanted taken input least ∙ ap (λ (n : ℕ). take n input) want in
       let size : length part ≡ taken = ap length (sym part-is) ∙ length-take taken input ∙ omega arith in
       let room : length part ≤ length held - have = omega arith in
-      let after : held₁ ≡ spliced have part held = is-held ∙ ap (copied held have) part-is ∙ copied-one held have part room in
+      let after : held₁ ≡ spliced have part held = is-held ∙ ap (copiedIn held have) part-is ∙ copied-one held have part room in
       let count : length (take have held ++ part) ≡ have + taken = length-append (take have held) part ∙ omega (arith, length-take-le have held (omega arith)) in
       let front : take (have + taken) held₁ ≡ take have held ++ part = rw (after, sym count) (kept-there have part held) in
       let all = rw front at decides in
@@ -136,7 +136,7 @@ module _ (engine : Record) (have : ℕ) (held ring memory input line : List ℕ)
 
 module _ (r : Replay) (held ring memory input line : List ℕ) (f : Fed) where
   -- the buffers do not suffice
-  pub feeds-short : suffice r held line ≡ false → f ≡ record { replay = r; used = 0; written = 0 } → Feeds r held ring memory input line f held ring memory line
+  pub feeds-short : buffersSuffice r held line ≡ false → f ≡ record { replay = r; used = 0; written = 0 } → FeedContract r held ring memory input line f held ring memory line
   unfolding fedStep
   feeds-short short is = record {
     used-is = rw short (ap (λ (x : Fed). x .used) is);
@@ -148,10 +148,10 @@ module _ (r : Replay) (held ring memory input line : List ℕ) (f : Fed) where
     onward = rw (short, ap (λ (x : Fed). x .replay) is);
   }
 
-  module _ (enough : suffice r held line ≡ true) where
+  module _ (enough : buffersSuffice r held line ≡ true) where
     -- they suffice
-    feeds-step : (held′ ring′ memory′ line′ : List ℕ) → Steps (step (positionOf r held ring memory) input) (r .held) held line f held′ ring′ memory′ line′
-        → Feeds r held ring memory input line f held′ ring′ memory′ line′
+    feeds-step : (held′ ring′ memory′ line′ : List ℕ) → FeedRecordContract (step (positionOf r held ring memory) input) (r .held) held line f held′ ring′ memory′ line′
+        → FeedContract r held ring memory input line f held′ ring′ memory′ line′
     unfolding fedStep
     feeds-step held′ ring′ memory′ line′ s =
         let bytes = bytes-there (r .held) (step (positionOf r held ring memory) input .kept) held (step (positionOf r held ring memory) input .next .bytes) (step-bytes (r .stage) (positionOf r held ring memory) input) in
@@ -172,7 +172,7 @@ module _ (r : Replay) (held ring memory input line : List ℕ) (f : Fed) where
 
     -- nothing but used
     passes : (n : ℕ) → step (positionOf r held ring memory) input ≡ record { used = n; kept = []; text = []; next = positionOf r held ring memory }
-        → f ≡ record { replay = r; used = n; written = 0 } → Feeds r held ring memory input line f held ring memory line
+        → f ≡ record { replay = r; used = n; written = 0 } → FeedContract r held ring memory input line f held ring memory line
     passes n e is = feeds-step held ring memory line (rw e (record {
       used-is = ap (λ (x : Fed). x .used) is;
       replay-is = ap (λ (x : Fed). x .replay) is ∙ same;
@@ -182,30 +182,30 @@ module _ (r : Replay) (held ring memory input line : List ℕ) (f : Fed) where
       memory-is = refl;
     }))
 
-    pub feeds-none : r .stage ≡ Version → length input ≡ 0 → f ≡ record { replay = r; used = 0; written = 0 } → Feeds r held ring memory input line f held ring memory line
+    pub feeds-none : r .stage ≡ Version → length input ≡ 0 → f ≡ record { replay = r; used = 0; written = 0 } → FeedContract r held ring memory input line f held ring memory line
     unfolding stepIn
-    feeds-none stage none is = passes 0 (rw stage (empty (position Version (take (r .held) held) (state (r .engine) ring memory)) input none)) is
+    feeds-none stage none is = passes 0 (rw stage (empty (readerState Version (take (r .held) held) (mkState (r .engine) ring memory)) input none)) is
       where
-        empty : (p : Position) (xs : List ℕ) → length xs ≡ 0 → stepIn Version p xs ≡ idle p
+        empty : (p : ReaderState) (xs : List ℕ) → length xs ≡ 0 → stepIn Version p xs ≡ idle p
         empty p [] e = refl
         empty p (x ∷ xs) e = absurd (omega arith)
 
-    pub feeds-ended : r .stage ≡ Ended → f ≡ record { replay = r; used = length input; written = 0 } → Feeds r held ring memory input line f held ring memory line
+    pub feeds-ended : r .stage ≡ Ended → f ≡ record { replay = r; used = length input; written = 0 } → FeedContract r held ring memory input line f held ring memory line
     unfolding stepIn
     feeds-ended stage is = passes (length input) (rw stage) is
 
     pub feeds-record : (held′ ring′ memory′ line′ : List ℕ) → r .stage ≡ Records
-        → Steps (stepIn Records (position Records (take (r .held) held) (state (r .engine) ring memory)) input) (r .held) held line f held′ ring′ memory′ line′
-        → Feeds r held ring memory input line f held′ ring′ memory′ line′
+        → FeedRecordContract (stepIn Records (readerState Records (take (r .held) held) (mkState (r .engine) ring memory)) input) (r .held) held line f held′ ring′ memory′ line′
+        → FeedContract r held ring memory input line f held′ ring′ memory′ line′
     feeds-record held′ ring′ memory′ line′ stage s = feeds-step held′ ring′ memory′ line′ (rw stage s)
 
     pub feeds-version : (line′ : List ℕ) (d : Decided) → r .stage ≡ Version → (length input ≡ 0 → ⊥)
         → d .replay ≡ record { engine = r .engine; stage = cond (eqb (getD input 0 0) 1) Records Ended; held = 0 }
         → Prints (cond (eqb (getD input 0 0) 1) [] (endingLine badVersion)) line (d .written) line′
         → f ≡ record { replay = d .replay; used = 1; written = d .written }
-        → Feeds r held ring memory input line f held ring memory line′
+        → FeedContract r held ring memory input line f held ring memory line′
     feeds-version line′ d stage some replay prints is =
-        feeds-step held ring memory line′ (rw stage (version-steps (position Version (take (r .held) held) (state (r .engine) ring memory)) (r .held) held line f line′
+        feeds-step held ring memory line′ (rw stage (version-steps (readerState Version (take (r .held) held) (mkState (r .engine) ring memory)) (r .held) held line f line′
         (ap (λ (x : Fed). x .used) is) input some (ap (λ (x : Fed). x .replay) is ∙ replay) (rw (ap (λ (x : Fed). x .written) is) prints)))
 
 -- ---- finish

@@ -6,8 +6,8 @@ use Prim.Native.Nat.{ℕ, zero, suc, _+_, _/_, _%_, _≤_, _<_}
 use native.Mathlib.Omega.{arith}
 use borrow.Author.Tests.{ne-eqb, lt-ltb, le-ltb}
 use Rattle.word.proofs.Tests.{split}
-use Rattle.model.specs.Calls.{Verdict, completed}
-use Rattle.claims.specs.Engine.{told}
+use Rattle.model.specs.Calls.{CompletionStatus, completed}
+use Rattle.claims.specs.Engine.{answerOrRefusal}
 use Rattle.text.specs.Hex.{digitOf, hexByte, hexBytes, hexWord}
 use Rattle.text.specs.Decimal.{digitsIn, decimal}
 use Rattle.replay.specs.Lines.{spaced, completionLine, refusalLine, answerLine}
@@ -78,7 +78,7 @@ pub one-feed : (text : List ℕ) → OneLine text → lineFeeds text ≡ 1
 unfolding lineFeeds
 one-feed text o = ap lineFeeds (o .ended) ∙ rw (feeds-append, o .unbroken)
 
-completion-one : (client ticket : ℕ) (v : Verdict) → OneLine (completionLine client ticket v)
+completion-one : (client ticket : ℕ) (v : CompletionStatus) → OneLine (completionLine client ticket v)
 unfolding completionLine
 completion-one client ticket v =
     behind (decimal client) _ (in-decimal client)
@@ -96,7 +96,7 @@ refusal-one client number =
     (behind (32 ∷ 48 ∷ []) _ refl one-end)))
 
 -- a record's line: a refusal, or a completion
-pub answer-one : (number client ticket : ℕ) (v : Verdict) → OneLine (answerLine client (told number (completed client ticket v)))
-unfolding answerLine told
+pub answer-one : (number client ticket : ℕ) (v : CompletionStatus) → OneLine (answerLine client (answerOrRefusal number (completed client ticket v)))
+unfolding answerLine answerOrRefusal
 answer-one zero client ticket v = completion-one client ticket v
 answer-one (suc number) client ticket v = refusal-one client (suc number)

@@ -10,11 +10,11 @@ use Rattle.records.specs.declared.Reader.{Reader}
 use Rattle.records.specs.declared.Found.{Found}
 use Rattle.records.specs.declared.Found.the-variants.{Nothing, Record, BadVersion, BadRecord}
 use Rattle.records.specs.declared.Taken.{Taken}
-use Rattle.records.specs.Records.{File, whole, badVersion, badRecord, ends}
+use Rattle.records.specs.Records.{File, whole, badVersion, badRecord, fileEnds}
 use Rattle.records.specs.Reading.{fileIn, fileAt, entryIn, onto, Over, Ready, Takes}
 use Rattle.records.proofs.Onward.{endingAt, file-ends}
 use Rattle.claims.specs.Engine.{State}
-use Rattle.replay.specs.Lines.{endingLine, served, entryLine, printedFrom, linesFrom}
+use Rattle.replay.specs.Lines.{endingLine, submitAndRun, entryLine, printedFrom, linesFrom}
 
 -- what is printed of what was found, and the engine after it
 abbrev textOf : Found → (held : List ℕ) → State → List ℕ
@@ -25,7 +25,7 @@ textOf BadRecord held s = endingLine badRecord
 
 abbrev nextOf : Found → (held : List ℕ) → State → State
 nextOf Nothing held s = s
-nextOf (Record end) held s = served (entryIn held end) s .after
+nextOf (Record end) held s = submitAndRun (entryIn held end) s .after
 nextOf BadVersion held s = s
 nextOf BadRecord held s = s
 

@@ -6,8 +6,8 @@ use native.Mathlib.Omega.{arith}
 use lib.ListN.{length, length-append}
 use Rattle.word.specs.Word.{byteOf, beBytes}
 use Rattle.word.specs.Splice.{spliced}
-use Rattle.model.specs.Calls.{Verdict}
-use Rattle.text.specs.Line.{Line, lineOf, pushed, typed}
+use Rattle.model.specs.Calls.{CompletionStatus}
+use Rattle.text.specs.Line.{Line, lineOf, pushed, appended}
 use Rattle.text.specs.Hex.{hexByte, hexBytes, hexWord}
 use Rattle.text.specs.Decimal.{decimal}
 use Rattle.text.proofs.Typing.{typed-append, typed-whole}
@@ -35,27 +35,27 @@ prints-none line = record { size = refl; bytes = refl }
 
 -- a text that was typed from the buffer's start on, and that fits
 pub prints-typed : (text line : List ℕ) (written : ℕ) (line′ : List ℕ) → length text ≤ 128 → 128 ≤ length line
-    → lineOf line′ written ≡ typed (lineOf line 0) text → Prints text line written line′
+    → lineOf line′ written ≡ appended (lineOf line 0) text → Prints text line written line′
 prints-typed text line written line′ small room e =
     let all = e ∙ typed-whole line text (omega arith) in
     record { size = ap (λ (l : Line). l .end) all; bytes = ap (λ (l : Line). l .bytes) all }
 
 -- a space and a text
-pub typed-spaced : (l : Line) (text : List ℕ) → typed (pushed l 32) text ≡ typed l (spaced text)
-unfolding typed
+pub typed-spaced : (l : Line) (text : List ℕ) → appended (pushed l 32) text ≡ appended l (spaced text)
+unfolding appended
 typed-spaced l text = refl
 
 -- one character
-typed-one : (l : Line) (byte : ℕ) → pushed l byte ≡ typed l (byte ∷ [])
-unfolding typed
+typed-one : (l : Line) (byte : ℕ) → pushed l byte ≡ appended l (byte ∷ [])
+unfolding appended
 typed-one l byte = refl
 
 module _ (line line′ : List ℕ) (written : ℕ) (room : 128 ≤ length line) where
   pub refusal-prints : (client number : ℕ) (a b c : Line) → length (decimal client) ≤ 20 → length (decimal number) ≤ 20
-      → a ≡ typed (lineOf line 0) (decimal client)
-      → b ≡ typed a (32 ∷ 45 ∷ 32 ∷ 45 ∷ 32 ∷ [])
-      → c ≡ typed b (decimal number)
-      → lineOf line′ written ≡ typed c (32 ∷ 48 ∷ 10 ∷ [])
+      → a ≡ appended (lineOf line 0) (decimal client)
+      → b ≡ appended a (32 ∷ 45 ∷ 32 ∷ 45 ∷ 32 ∷ [])
+      → c ≡ appended b (decimal number)
+      → lineOf line′ written ≡ appended c (32 ∷ 48 ∷ 10 ∷ [])
       → Prints (refusalLine client number) line written line′
   unfolding refusalLine
   refusal-prints client number a b c m n ea eb ec e =
@@ -65,14 +65,14 @@ module _ (line line′ : List ℕ) (written : ℕ) (room : 128 ≤ length line) 
       let z = typed-append b (decimal number) (32 ∷ 48 ∷ 10 ∷ []) in
       prints-typed (refusalLine client number) line written line′ (simp length-append (omega arith)) room (cc)
 
-  completion-typed : (client ticket : ℕ) (v : Verdict) (a b c d f : Line)
+  completion-typed : (client ticket : ℕ) (v : CompletionStatus) (a b c d f : Line)
       → length (decimal client) ≤ 20 → length (decimal ticket) ≤ 20 → length (decimal (v .fault)) ≤ 20 → length (decimal (v .offset)) ≤ 20
-      → a ≡ typed (lineOf line 0) (decimal client)
-      → b ≡ typed a (spaced (decimal ticket))
-      → c ≡ typed b (spaced (hexWord (v .status)))
-      → d ≡ typed c (spaced (decimal (v .fault)))
-      → f ≡ typed d (spaced (decimal (v .offset)))
-      → lineOf line′ written ≡ typed f (10 ∷ [])
+      → a ≡ appended (lineOf line 0) (decimal client)
+      → b ≡ appended a (spaced (decimal ticket))
+      → c ≡ appended b (spaced (hexWord (v .status)))
+      → d ≡ appended c (spaced (decimal (v .fault)))
+      → f ≡ appended d (spaced (decimal (v .offset)))
+      → lineOf line′ written ≡ appended f (10 ∷ [])
       → Prints (completionLine client ticket v) line written line′
   unfolding completionLine
   completion-typed client ticket v a b c d f m n o p ea eb ec ed ef e =
@@ -86,15 +86,15 @@ module _ (line line′ : List ℕ) (written : ℕ) (room : 128 ≤ length line) 
       let q = typed-append d (spaced (decimal (v .offset))) (10 ∷ []) in
       prints-typed (completionLine client ticket v) line written line′ (simp length-append (omega (arith, hex-size (v .status)))) room (cc)
 
-  pub completion-prints : (client ticket : ℕ) (v : Verdict) (word fault offset : ℕ) (a b s c d f : Line)
+  pub completion-prints : (client ticket : ℕ) (v : CompletionStatus) (word fault offset : ℕ) (a b s c d f : Line)
       → length (decimal client) ≤ 20 → length (decimal ticket) ≤ 20 → length (decimal fault) ≤ 20 → length (decimal offset) ≤ 20
       → hexWord word ≡ hexWord (v .status) → fault ≡ v .fault → offset ≡ v .offset
-      → a ≡ typed (lineOf line 0) (decimal client)
-      → b ≡ typed a (32 ∷ decimal ticket)
+      → a ≡ appended (lineOf line 0) (decimal client)
+      → b ≡ appended a (32 ∷ decimal ticket)
       → s ≡ pushed b 32
-      → c ≡ typed s (hexWord word)
-      → d ≡ typed c (32 ∷ decimal fault)
-      → f ≡ typed d (32 ∷ decimal offset)
+      → c ≡ appended s (hexWord word)
+      → d ≡ appended c (32 ∷ decimal fault)
+      → f ≡ appended d (32 ∷ decimal offset)
       → lineOf line′ written ≡ pushed f 10
       → Prints (completionLine client ticket v) line written line′
   completion-prints client ticket v word fault offset a b s c d f m n o p is-word is-fault is-offset ea eb es ec ed ef e =

@@ -7,19 +7,19 @@ use lib.ListN.{replicate}
 use Rattle.record.specs.declared.Window.{Window}
 use Rattle.record.specs.declared.Record.{Record}
 use Rattle.queue.specs.declared.Reply.{Reply}
-use Rattle.queue.specs.Answers.{numberOf}
-use Rattle.queue.specs.Calls.{setUp, openOf, submitOf, submitRing}
+use Rattle.queue.specs.Answers.{refusalNumberOf}
+use Rattle.queue.specs.Calls.{setUpResult, openResult, submitResult, submitRing}
 use Rattle.engine.specs.declared.Completion.{Completion}
 use Rattle.engine.specs.declared.Outcome.the-variants.{Refused, Completed}
 use Rattle.engine.specs.declared.Ran.{Ran}
-use Rattle.engine.specs.Outcome.{numberOf as refusalOf, valuesOf}
-use Rattle.engine.specs.Run.{oldest, oldestVerdict, runNumber, answered, runOf, runMemory}
+use Rattle.engine.specs.Outcome.{runRefusalOf as refusalOf, valuesOf}
+use Rattle.engine.specs.Run.{oldest, oldestVerdict, runNumber, outcomeUnlessRefused, runResult, runMemory}
 use Rattle.model.specs.Calls.{run, refused}
-use Rattle.claims.specs.Engine.{state, Called, told, completion, called, stateAfter}
+use Rattle.claims.specs.Engine.{mkState, CallResult, answerOrRefusal, completion, performCall, stateAfter}
 use Rattle.replay.specs.declared.Served.{Served}
 use Rattle.records.specs.Records.{Entry}
-use Rattle.replay.specs.Lines.{refusalLine, answerLine, served, started, starting}
-use Rattle.replay.specs.Calls.{Prints, Serves}
+use Rattle.replay.specs.Lines.{refusalLine, answerLine, submitAndRun, engineOpened, replayStart}
+use Rattle.replay.specs.Calls.{Prints, SubmitRunContract}
 
 -- ---- the start
 
@@ -28,48 +28,48 @@ windowFrom start = record { start = start; length = 12288 }
 
 abbrev opened : Record
 opened =
-    let none : Record = setUp 32768 65536 16384 .engine in
-    let one : Record = openOf none (windowFrom 16384) .engine in
-    let two : Record = openOf one (windowFrom 28672) .engine in
-    let three : Record = openOf two (windowFrom 40960) .engine in
-    openOf three (windowFrom 53248) .engine
+    let none : Record = setUpResult 32768 65536 16384 .engine in
+    let one : Record = openResult none (windowFrom 16384) .engine in
+    let two : Record = openResult one (windowFrom 28672) .engine in
+    let three : Record = openResult two (windowFrom 40960) .engine in
+    openResult three (windowFrom 53248) .engine
 
-pub started-engine : (ring memory : List ℕ) → started ring memory .engine ≡ opened
-unfolding started stateAfter called
+pub started-engine : (ring memory : List ℕ) → engineOpened ring memory .engine ≡ opened
+unfolding engineOpened stateAfter performCall
 started-engine ring memory = refl
 
-pub starting-engine : starting .engine ≡ opened
-unfolding starting
+pub starting-engine : replayStart .engine ≡ opened
+unfolding replayStart
 starting-engine = started-engine (replicate 32768 0) (replicate 65536 0)
 
 -- opening changes neither ring nor memory
-pub started-state : (ring memory : List ℕ) → state (started ring memory .engine) ring memory ≡ started ring memory
-unfolding started stateAfter called
+pub started-state : (ring memory : List ℕ) → mkState (engineOpened ring memory .engine) ring memory ≡ engineOpened ring memory
+unfolding engineOpened stateAfter performCall
 started-state ring memory = refl
 
-pub starting-state : state (starting .engine) (replicate 32768 0) (replicate 65536 0) ≡ starting
-unfolding starting
+pub starting-state : mkState (replayStart .engine) (replicate 32768 0) (replicate 65536 0) ≡ replayStart
+unfolding replayStart
 starting-state = started-state (replicate 32768 0) (replicate 65536 0)
 
 -- ---- what run answers
 
-answered-refused : (n : ℕ) (c : Completion) (m : ℕ) → answered n (Completed c) ≡ Refused m → 0 < m
-unfolding answered
+answered-refused : (n : ℕ) (c : Completion) (m : ℕ) → outcomeUnlessRefused n (Completed c) ≡ Refused m → 0 < m
+unfolding outcomeUnlessRefused
 answered-refused zero c m e = absurd (let z : _≡_ {A = ℕ} 0 1 = cc in omega arith)
 answered-refused (suc n) c m e =
     let same : suc n ≡ m = cc in
     omega arith
 
 -- a refusal has a number
-pub run-refused : (engine : Record) (ring memory : List ℕ) (m : ℕ) → runOf engine ring memory .outcome ≡ Refused m → 0 < m
-unfolding runOf
+pub run-refused : (engine : Record) (ring memory : List ℕ) (m : ℕ) → runResult engine ring memory .outcome ≡ Refused m → 0 < m
+unfolding runResult
 run-refused engine ring memory m e =
     answered-refused (runNumber engine ring memory) (record { client = oldest engine .client; ticket = oldest engine .ticket; verdict = oldestVerdict engine ring }) m e
 
 -- what is printed of it
 pub outcome-refused : (client number : ℕ) → 0 < number
-    → answerLine client (told (refusalOf (Refused number)) (completion (valuesOf (Refused number)))) ≡ refusalLine client number
-unfolding answerLine told
+    → answerLine client (answerOrRefusal (refusalOf (Refused number)) (completion (valuesOf (Refused number)))) ≡ refusalLine client number
+unfolding answerLine answerOrRefusal
 outcome-refused client zero h = absurd (omega arith)
 outcome-refused client (suc number) h = refl
 
@@ -77,43 +77,43 @@ outcome-refused client (suc number) h = refl
 
 module _ (engine : Record) (ring memory : List ℕ) (entry : Entry) where
   abbrev reply : Reply
-  reply = submitOf engine ring (entry .client) (entry .batch)
+  reply = submitResult engine ring (entry .client) (entry .batch)
 
   abbrev rung : List ℕ
   rung = submitRing engine ring (entry .client) (entry .batch)
 
   -- refused: nothing is run
-  served-refused : (k : ℕ) → numberOf (reply .answer) ≡ suc k
-      → served entry (state engine ring memory) ≡ record { answer = refused (suc k); after = state (reply .engine) rung memory }
-  unfolding served called told
+  served-refused : (k : ℕ) → refusalNumberOf (reply .answer) ≡ suc k
+      → submitAndRun entry (mkState engine ring memory) ≡ record { answer = refused (suc k); after = mkState (reply .engine) rung memory }
+  unfolding submitAndRun performCall answerOrRefusal
   served-refused k e = rw e
 
   -- accepted: then it is run
-  served-ran : numberOf (reply .answer) ≡ 0 → served entry (state engine ring memory) ≡ called run (state (reply .engine) rung memory)
-  unfolding served called told
+  served-ran : refusalNumberOf (reply .answer) ≡ 0 → submitAndRun entry (mkState engine ring memory) ≡ performCall run (mkState (reply .engine) rung memory)
+  unfolding submitAndRun performCall answerOrRefusal
   served-ran e = rw e
 
 module _ (engine : Record) (ring memory : List ℕ) (entry : Entry) (line : List ℕ) (s : Served) (r : Reply) (ring′ memory′ line′ : List ℕ)
-    (submitted : r ≡ submitOf engine ring (entry .client) (entry .batch)) (rung-is : ring′ ≡ submitRing engine ring (entry .client) (entry .batch)) where
-  pub serves-refused : (number : ℕ) → number ≡ numberOf (r .answer) → (number ≡ 0 → ⊥) → s .engine ≡ r .engine → memory′ ≡ memory
-      → Prints (refusalLine (entry .client) number) line (s .written) line′ → Serves engine ring memory entry line s ring′ memory′ line′
+    (submitted : r ≡ submitResult engine ring (entry .client) (entry .batch)) (rung-is : ring′ ≡ submitRing engine ring (entry .client) (entry .batch)) where
+  pub serves-refused : (number : ℕ) → number ≡ refusalNumberOf (r .answer) → (number ≡ 0 → ⊥) → s .engine ≡ r .engine → memory′ ≡ memory
+      → Prints (refusalLine (entry .client) number) line (s .written) line′ → SubmitRunContract engine ring memory entry line s ring′ memory′ line′
   unfolding answerLine
   serves-refused zero e some same kept prints = absurd (some refl)
   serves-refused (suc k) e some same kept prints =
-      let all = served-refused engine ring memory entry k (ap (λ (q : Reply). numberOf (q .answer)) (sym submitted) ∙ sym e) in
+      let all = served-refused engine ring memory entry k (ap (λ (q : Reply). refusalNumberOf (q .answer)) (sym submitted) ∙ sym e) in
       record {
-        engine-is = same ∙ ap (λ (q : Reply). q .engine) submitted ∙ ap (λ (q : Called). q .after .engine) (sym all);
-        ring-is = rung-is ∙ ap (λ (q : Called). q .after .ring) (sym all);
-        memory-is = kept ∙ ap (λ (q : Called). q .after .memory) (sym all);
+        engine-is = same ∙ ap (λ (q : Reply). q .engine) submitted ∙ ap (λ (q : CallResult). q .after .engine) (sym all);
+        ring-is = rung-is ∙ ap (λ (q : CallResult). q .after .ring) (sym all);
+        memory-is = kept ∙ ap (λ (q : CallResult). q .after .memory) (sym all);
         prints = rw all prints;
       }
 
-  pub serves-ran : (ran : Ran) → numberOf (r .answer) ≡ 0 → ran ≡ runOf (r .engine) ring′ memory → memory′ ≡ runMemory (r .engine) ring′ memory → s .engine ≡ ran .engine
-      → Prints (answerLine (entry .client) (told (refusalOf (ran .outcome)) (completion (valuesOf (ran .outcome))))) line (s .written) line′
-      → Serves engine ring memory entry line s ring′ memory′ line′
-  unfolding called
+  pub serves-ran : (ran : Ran) → refusalNumberOf (r .answer) ≡ 0 → ran ≡ runResult (r .engine) ring′ memory → memory′ ≡ runMemory (r .engine) ring′ memory → s .engine ≡ ran .engine
+      → Prints (answerLine (entry .client) (answerOrRefusal (refusalOf (ran .outcome)) (completion (valuesOf (ran .outcome))))) line (s .written) line′
+      → SubmitRunContract engine ring memory entry line s ring′ memory′ line′
+  unfolding performCall
   serves-ran ran e ran-is drawn same prints =
-      let all = served-ran engine ring memory entry (ap (λ (q : Reply). numberOf (q .answer)) (sym submitted) ∙ e) in
+      let all = served-ran engine ring memory entry (ap (λ (q : Reply). refusalNumberOf (q .answer)) (sym submitted) ∙ e) in
       record {
         engine-is = rw (all, ← submitted, ← rung-is, ← ran-is) same;
         ring-is = rw (all) rung-is;

@@ -1,6 +1,6 @@
 -- What is answered of each record of a replay file (01, "Writer and replay": the program "submits each record and, if accepted, runs it. Each
 -- prints one line"), whatever records went before it. Ring and memory at the start are any of the program's lengths; the program's are zero.
--- No run is refused, and of submit's refusals only 5 and 6 come: nothing waits when a record is submitted. proofs/Answered.antt proves `Promise`.
+-- No run is refused, and of submit's refusals only 5 and 6 come: nothing waits when a record is submitted. proofs/Answered.antt proves `ReplayAnswersHold`.
 use mathlib.Core.Path.{_≡_}
 use mathlib.Core.List.{List, [], _∷_, _++_}
 use mathlib.Core.Bool.{cond}
@@ -8,49 +8,49 @@ use Prim.Native.Nat.{ℕ, _+_, _*_, _%_}
 use lib.ListN.{length}
 use lib.Dec.{eqb, ltb}
 use Rattle.model.specs.Windows.{Window, window}
-use Rattle.model.specs.Calls.{submit, run, Verdict, Answer, accepted, completed}
+use Rattle.model.specs.Calls.{submit, run, CompletionStatus, Answer, accepted, completed}
 use Rattle.model.specs.Refusals.{badLength}
-use Rattle.claims.specs.OfModel.{real}
-use Rattle.claims.specs.Engine.{State, Called, told, called}
-use Rattle.records.specs.Records.{Entry, Ending, File}
-use Rattle.replay.specs.Lines.{setup, started, served, answerLine, entryLine, endingLine, lines}
+use Rattle.claims.specs.ModelProperties.{batchSemantics}
+use Rattle.claims.specs.Engine.{State, CallResult, answerOrRefusal, performCall}
+use Rattle.records.specs.Records.{Entry, FileEnd, File}
+use Rattle.replay.specs.Lines.{setup, engineOpened, submitAndRun, answerLine, entryLine, endingLine, lines}
 
 -- ---- a record by itself
 
 -- 01, the table: 5 "no such desk", of which there are 0 to 3; 6 "length 0, no multiple of 4, or over the ring length"; 0 for neither
-abbrev pub refusal : Entry → ℕ
-refusal entry = cond (ltb 3 (entry .client)) 5 (cond (badLength setup (length (entry .batch))) 6 0)
+abbrev pub recordRefusal : Entry → ℕ
+recordRefusal entry = cond (ltb 3 (entry .client)) 5 (cond (badLength setup (length (entry .batch))) 6 0)
 
 -- "four windows of 12,288", after the 16,384 bytes of common
-abbrev pub windowOf : (client : ℕ) → Window
-windowOf client = window (16384 + client * 12288) 12288
+abbrev pub replayWindow : (client : ℕ) → Window
+replayWindow client = window (16384 + client * 12288) 12288
 
 -- status, fault and offset of the record's own batch, judged in its own client's window
-abbrev pub verdict : Entry → Verdict
-verdict entry = real .verdict (windowOf (entry .client)) 16384 (entry .batch)
+abbrev pub verdict : Entry → CompletionStatus
+verdict entry = batchSemantics .verdict (replayWindow (entry .client)) 16384 (entry .batch)
 
 -- ---- after other records, of which so many were accepted
 
 -- 01, "Engine, desks, queue": "Accepted batches get tickets 0, 1, 2, ..; tickets go on from 4,294,967,295 to 0"
-abbrev pub ticketAfter : (count : ℕ) → ℕ
-ticketAfter count = count % 4294967296
+abbrev pub ticketOfCount : (count : ℕ) → ℕ
+ticketOfCount count = count % 4294967296
 
 -- submit's refusal, or else the completion
 abbrev pub answerAfter : (count : ℕ) → Entry → Answer
-answerAfter count entry = told (refusal entry) (completed (entry .client) (ticketAfter count) (verdict entry))
+answerAfter count entry = answerOrRefusal (recordRefusal entry) (completed (entry .client) (ticketOfCount count) (verdict entry))
 
 -- the count after it: a refused record takes no ticket
 abbrev pub countAfter : (count : ℕ) → Entry → ℕ
-countAfter count entry = count + cond (eqb (refusal entry) 0) 1 0
+countAfter count entry = count + cond (eqb (recordRefusal entry) 0) 1 0
 
 -- what is printed of these records and the file's end: no engine is asked
-unfoldable pub toldAfter : (count : ℕ) → List Entry → Ending → List ℕ
-toldAfter count [] ending = endingLine ending
-toldAfter count (entry ∷ entries) ending = answerLine (entry .client) (answerAfter count entry) ++ toldAfter (countAfter count entry) entries ending
+unfoldable pub linesAfter : (count : ℕ) → List Entry → FileEnd → List ℕ
+linesAfter count [] ending = endingLine ending
+linesAfter count (entry ∷ entries) ending = answerLine (entry .client) (answerAfter count entry) ++ linesAfter (countAfter count entry) entries ending
 
 -- memory after it: its own batch drawn in its own client's window; a refused record draws nothing
 abbrev pub drawnAfter : Entry → List ℕ → List ℕ
-drawnAfter entry memory = cond (eqb (refusal entry) 0) (real .draw (windowOf (entry .client)) 16384 (entry .batch) memory) memory
+drawnAfter entry memory = cond (eqb (recordRefusal entry) 0) (batchSemantics .draw (replayWindow (entry .client)) 16384 (entry .batch) memory) memory
 
 -- ---- lines
 
@@ -73,33 +73,33 @@ acceptedFrom count [] = count
 acceptedFrom count (entry ∷ entries) = acceptedFrom (countAfter count entry) entries
 
 -- record, ring and memory after them
-unfoldable pub servedAll : List Entry → State → State
-servedAll [] s = s
-servedAll (entry ∷ entries) s = servedAll entries (served entry s .after)
+unfoldable pub submitAndRunAll : List Entry → State → State
+submitAndRunAll [] s = s
+submitAndRunAll (entry ∷ entries) s = submitAndRunAll entries (submitAndRun entry s .after)
 
 module _ (ring memory : List ℕ) (before : List Entry) (entry : Entry) where
   abbrev pub count : ℕ
   count = acceptedFrom 0 before
 
   abbrev pub reached : State
-  reached = servedAll before (started ring memory)
+  reached = submitAndRunAll before (engineOpened ring memory)
 
-  abbrev pub submitted : Called
-  submitted = called (submit (entry .client) (entry .batch)) reached
+  abbrev pub submitted : CallResult
+  submitted = performCall (submit (entry .client) (entry .batch)) reached
 
-  pub record Answered : Type 0 where
+  pub record RecordAnswered : Type 0 where
     -- submit refuses the record for itself alone, or gives it the next ticket
-    pub submits : submitted .answer ≡ told (refusal entry) (accepted (ticketAfter count))
+    pub submits : submitted .answer ≡ answerOrRefusal (recordRefusal entry) (accepted (ticketOfCount count))
     -- "if accepted, runs it": run completes this record, for its own client, with the ticket that submit gave
-    pub runs : (ticket : ℕ) → submitted .answer ≡ accepted ticket → called run (submitted .after) .answer ≡ completed (entry .client) ticket (verdict entry)
-    -- so this is what its line tells
-    pub answers : served entry reached .answer ≡ answerAfter count entry
+    pub runs : (ticket : ℕ) → submitted .answer ≡ accepted ticket → performCall run (submitted .after) .answer ≡ completed (entry .client) ticket (verdict entry)
+    -- so this is what its line says
+    pub answers : submitAndRun entry reached .answer ≡ answerAfter count entry
     pub one-line : OneLine (entryLine entry reached)
     -- and this is what it does to memory
-    pub draws : served entry reached .after .memory ≡ drawnAfter entry (reached .memory)
+    pub draws : submitAndRun entry reached .after .memory ≡ drawnAfter entry (reached .memory)
 
-pub record Promise : Type 0 where
-  pub each : (ring memory : List ℕ) → length ring ≡ 32768 → length memory ≡ 65536 → (before : List Entry) (entry : Entry) → Answered ring memory before entry
+pub record ReplayAnswersHold : Type 0 where
+  pub each : (ring memory : List ℕ) → length ring ≡ 32768 → length memory ≡ 65536 → (before : List Entry) (entry : Entry) → RecordAnswered ring memory before entry
   -- the program's text, from the first record to the end of the file; and how many lines it has
-  pub text : (file : File) → lines file ≡ toldAfter 0 (file .entries) (file .ending)
+  pub text : (file : File) → lines file ≡ linesAfter 0 (file .entries) (file .ending)
   pub line-count : (file : File) → lineFeeds (lines file) ≡ length (file .entries) + lineFeeds (endingLine (file .ending))

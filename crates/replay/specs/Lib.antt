@@ -3,4 +3,4 @@ pub mod Lines
 pub mod Answered
 pub mod Step
 pub mod Calls
-pub mod Cutting
+pub mod Chunking

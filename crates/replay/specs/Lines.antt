@@ -3,11 +3,11 @@ use mathlib.Core.List.{List, [], _∷_, _++_}
 use mathlib.Core.Bool.{Bool, true, false, cond}
 use Prim.Native.Nat.{ℕ}
 use lib.ListN.{replicate}
-use Rattle.model.specs.Calls.{Setup, Call, opens, submit, run, Verdict, Answer, opened, accepted, completed, ready, refused}
-use Rattle.claims.specs.Engine.{State, Called, called, stateAfter, begin}
+use Rattle.model.specs.Calls.{Setup, Call, opens, submit, run, CompletionStatus, Answer, opened, accepted, completed, ready, refused}
+use Rattle.claims.specs.Engine.{State, CallResult, performCall, stateAfter, initialState}
 use Rattle.text.specs.Hex.{hexWord}
 use Rattle.text.specs.Decimal.{decimal}
-use Rattle.records.specs.Records.{Entry, Ending, whole, badVersion, badRecord, cutRecord, File}
+use Rattle.records.specs.Records.{Entry, FileEnd, whole, badVersion, badRecord, cutRecord, File}
 
 -- ---- one line
 
@@ -16,7 +16,7 @@ abbrev pub spaced : List ℕ → List ℕ
 spaced text = 32 ∷ text
 
 -- "desk, ticket, status in eight upper-case hex digits, fault, place", "ended by a line feed"
-unfoldable pub completionLine : (client ticket : ℕ) → Verdict → List ℕ
+unfoldable pub completionLine : (client ticket : ℕ) → CompletionStatus → List ℕ
 completionLine client ticket v =
     decimal client
     ++ (spaced (decimal ticket)
@@ -30,7 +30,7 @@ unfoldable pub refusalLine : (client number : ℕ) → List ℕ
 refusalLine client number = decimal client ++ ((32 ∷ 45 ∷ 32 ∷ 45 ∷ 32 ∷ []) ++ (decimal number ++ (32 ∷ 48 ∷ 10 ∷ [])))
 
 -- the line of what was answered last of a client's record: by run, or by a submit that was refused. Where run is refused, as it is with a
--- memory of another length, its number is told as submit's is. Neither answers otherwise
+-- memory of another length, its number is reported as submit's is. Neither answers otherwise
 unfoldable pub answerLine : (client : ℕ) → Answer → List ℕ
 answerLine client (completed own ticket v) = completionLine own ticket v
 answerLine client (refused number) = refusalLine client number
@@ -38,8 +38,8 @@ answerLine client (opened id) = []
 answerLine client (accepted ticket) = []
 answerLine client (ready count) = []
 
--- what is told of a file's end: nothing, `bad version`, `bad record`, `cut record`
-unfoldable pub endingLine : Ending → List ℕ
+-- what is reported of a file's end: nothing, `bad version`, `bad record`, `cut record`
+unfoldable pub endingLine : FileEnd → List ℕ
 endingLine whole = []
 endingLine badVersion = 98 ∷ 97 ∷ 100 ∷ 32 ∷ 118 ∷ 101 ∷ 114 ∷ 115 ∷ 105 ∷ 111 ∷ 110 ∷ 10 ∷ []
 endingLine badRecord = 98 ∷ 97 ∷ 100 ∷ 32 ∷ 114 ∷ 101 ∷ 99 ∷ 111 ∷ 114 ∷ 100 ∷ 10 ∷ []
@@ -55,18 +55,18 @@ isAccepted (opened id) = false
 isAccepted (ready count) = false
 
 -- "submits each record and, if accepted, runs it": what is answered last, and what is left
-unfoldable pub served : Entry → State → Called
-served entry s =
-    let submitted : Called = called (submit (entry .client) (entry .batch)) s in
-    cond (isAccepted (submitted .answer)) (called run (submitted .after)) submitted
+unfoldable pub submitAndRun : Entry → State → CallResult
+submitAndRun entry s =
+    let submitted : CallResult = performCall (submit (entry .client) (entry .batch)) s in
+    cond (isAccepted (submitted .answer)) (performCall run (submitted .after)) submitted
 
 -- "Each prints one line"
 abbrev pub entryLine : Entry → State → List ℕ
-entryLine entry s = answerLine (entry .client) (served entry s .answer)
+entryLine entry s = answerLine (entry .client) (submitAndRun entry s .answer)
 
-unfoldable pub printedFrom : State → List Entry → Ending → List ℕ
+unfoldable pub printedFrom : State → List Entry → FileEnd → List ℕ
 printedFrom s [] ending = endingLine ending
-printedFrom s (entry ∷ entries) ending = entryLine entry s ++ printedFrom (served entry s .after) entries ending
+printedFrom s (entry ∷ entries) ending = entryLine entry s ++ printedFrom (submitAndRun entry s .after) entries ending
 
 -- what a file prints from a state of the engine on
 abbrev pub linesFrom : State → File → List ℕ
@@ -88,13 +88,13 @@ opening =
     ∷ []
 
 -- set up and opened, with this ring and memory
-unfoldable pub started : (ring memory : List ℕ) → State
-started ring memory = stateAfter opening (begin setup ring memory)
+unfoldable pub engineOpened : (ring memory : List ℕ) → State
+engineOpened ring memory = stateAfter opening (initialState setup ring memory)
 
 -- the program's: all of both zero
-unfoldable pub starting : State
-starting = started (replicate 32768 0) (replicate 65536 0)
+unfoldable pub replayStart : State
+replayStart = engineOpened (replicate 32768 0) (replicate 65536 0)
 
 -- what a file prints
 unfoldable pub lines : File → List ℕ
-lines file = linesFrom starting file
+lines file = linesFrom replayStart file

@@ -6,16 +6,16 @@ ghost use mathlib.Core.Bool.{cond};
 ghost use mathlib.Core.List.{[], _∷_};
 ghost use lib.ListN.{length, take};
 ghost use lib.Dec.{eqb};
-ghost use Rattle.batch.specs.Batch.{statusOf, numberOf as faultOf, offsetOf};
-ghost use Rattle.queue.specs.Answers.{numberOf};
-ghost use Rattle.engine.specs.Outcome.{numberOf as refusalOf, valuesOf};
-ghost use Rattle.claims.specs.Engine.{state, told, completion};
-ghost use Rattle.text.specs.Line.{lineOf, typed};
+ghost use Rattle.batch.specs.Batch.{statusWordOf, faultNumberOf as faultOf, faultOffsetOf};
+ghost use Rattle.queue.specs.Answers.{refusalNumberOf};
+ghost use Rattle.engine.specs.Outcome.{runRefusalOf as refusalOf, valuesOf};
+ghost use Rattle.claims.specs.Engine.{mkState, answerOrRefusal, completion};
+ghost use Rattle.text.specs.Line.{lineOf, appended};
 ghost use Rattle.text.specs.Decimal.{decimal};
 ghost use Rattle.records.specs.Records.{badSize, badVersion};
 ghost use Rattle.replay.specs.Lines.{completionLine, refusalLine, answerLine, endingLine};
-ghost use Rattle.replay.specs.Step.{position, atStart, missing, stepIn};
-ghost use Rattle.replay.specs.Calls.{replayAt, Prints, Serves, Decides, Steps, Feeds, finishedText};
+ghost use Rattle.replay.specs.Step.{readerState, atStart, bytesWanted, stepIn};
+ghost use Rattle.replay.specs.Calls.{replayAt, Prints, SubmitRunContract, DecideContract, FeedRecordContract, FeedContract, finishedText};
 use batch::Verdict;
 use engine::Outcome;
 use queue::Answer;
@@ -79,7 +79,7 @@ pub fn start() -> Replay
 
 // A space and a number.
 fn field(line: &mut [u8], n: usize, value: u64) -> usize
-    ensures { λ r. ⌜ (lineOf (now (line .exit)) r ≡ typed (lineOf (now (line .entry)) n) (32 ∷ decimal value)) × (length (decimal value) ≤ 20) ⌝ }
+    ensures { λ r. ⌜ (lineOf (now (line .exit)) r ≡ appended (lineOf (now (line .entry)) n) (32 ∷ decimal value)) × (length (decimal value) ≤ 20) ⌝ }
 {
     let end = line::push(line, n, b' ');
     line::decimal(line, end, value)
@@ -87,7 +87,7 @@ fn field(line: &mut [u8], n: usize, value: u64) -> usize
 
 fn completion_line(line: &mut [u8], client: u32, ticket: u32, verdict: Verdict) -> usize
     requires { ⌜ 128 ≤ length (now line) ⌝ }
-    ensures { λ r. ⌜ Prints (completionLine client ticket (record { status = statusOf verdict; fault = faultOf verdict; offset = offsetOf verdict }))
+    ensures { λ r. ⌜ Prints (completionLine client ticket (record { status = statusWordOf verdict; fault = faultOf verdict; offset = faultOffsetOf verdict }))
         (now (line .entry)) r (now (line .exit)) ⌝ }
 {
     let a = line::decimal(line, 0, client as u64);
@@ -112,7 +112,7 @@ fn refusal_line(line: &mut [u8], client: u32, number: u32) -> usize
 // What run answered of a client's record, or that it was refused.
 fn outcome_line(line: &mut [u8], client: u32, outcome: Outcome) -> usize
     requires { ⌜ (128 ≤ length (now line)) × ((number : ℕ) → outcome ≡ Outcome.Refused number → 0 < number) ⌝ }
-    ensures { λ r. ⌜ Prints (answerLine client (told (refusalOf outcome) (completion (valuesOf outcome)))) (now (line .entry)) r (now (line .exit)) ⌝ }
+    ensures { λ r. ⌜ Prints (answerLine client (answerOrRefusal (refusalOf outcome) (completion (valuesOf outcome)))) (now (line .entry)) r (now (line .exit)) ⌝ }
 {
     match outcome {
         Outcome::Refused(number) => refusal_line(line, client, number),
@@ -125,7 +125,7 @@ fn outcome_line(line: &mut [u8], client: u32, outcome: Outcome) -> usize
 
 // The refusal's number, 0 if the call was not refused.
 fn number_of(answer: Answer) -> u32
-    ensures { λ r. ⌜ r ≡ numberOf answer ⌝ }
+    ensures { λ r. ⌜ r ≡ refusalNumberOf answer ⌝ }
 {
     match answer {
         Answer::Refused(number) => number,
@@ -147,7 +147,7 @@ fn serve(
     slow: bool,
 ) -> Served
     requires { ⌜ 128 ≤ length (now line) ⌝ }
-    ensures { λ r. ⌜ Serves engine (now (ring .entry)) (now (memory .entry)) (record { client = client; batch = now (batch .entry) }) (now (line .entry))
+    ensures { λ r. ⌜ SubmitRunContract engine (now (ring .entry)) (now (memory .entry)) (record { client = client; batch = now (batch .entry) }) (now (line .entry))
         r (now (ring .exit)) (now (memory .exit)) (now (line .exit)) ⌝ }
 {
     let submitted = engine::submit(engine, ring, client, batch);
@@ -179,7 +179,7 @@ fn bad_size(size: usize) -> bool
 // How many bytes of a record are missing to the next thing to decide, of which the first `have` bytes of `held` are there.
 fn bytes_missing(held: &[u8], have: usize) -> usize
     requires { ⌜ (32773 ≤ length (now held)) × (have < 32773) ⌝ }
-    ensures { λ r. ⌜ (r ≡ missing (take have (now (held .entry)))) × (have + r ≤ 32773) ⌝ }
+    ensures { λ r. ⌜ (r ≡ bytesWanted (take have (now (held .entry)))) × (have + r ≤ 32773) ⌝ }
 {
     if have < 4 {
         return 4 - have;
@@ -231,7 +231,7 @@ fn decide(
     slow: bool,
 ) -> Decided
     requires { ⌜ (32773 ≤ length (now held)) × (have ≤ length (now held)) × (128 ≤ length (now line)) ⌝ }
-    ensures { λ r. ⌜ Decides engine (take have (now (held .entry))) (now (ring .entry)) (now (memory .entry)) (now (line .entry))
+    ensures { λ r. ⌜ DecideContract engine (take have (now (held .entry))) (now (ring .entry)) (now (memory .entry)) (now (line .entry))
         r (now (ring .exit)) (now (memory .exit)) (now (line .exit)) ⌝ }
 {
     if have < 4 {
@@ -270,7 +270,7 @@ fn feed_record(
     slow: bool,
 ) -> Fed
     requires { ⌜ (32773 ≤ length (now held)) × (have < 32773) × (128 ≤ length (now line)) ⌝ }
-    ensures { λ r. ⌜ Steps (stepIn Stage.Records (position Stage.Records (take have (now (held .entry))) (state engine (now (ring .entry)) (now (memory .entry)))) (now (input .entry)))
+    ensures { λ r. ⌜ FeedRecordContract (stepIn Stage.Records (readerState Stage.Records (take have (now (held .entry))) (mkState engine (now (ring .entry)) (now (memory .entry)))) (now (input .entry)))
         have (now (held .entry)) (now (line .entry)) r (now (held .exit)) (now (ring .exit)) (now (memory .exit)) (now (line .exit)) ⌝ }
 {
     let wanted = bytes_missing(held, have);
@@ -320,7 +320,7 @@ pub fn feed(
     line: &mut [u8],
     slow: bool,
 ) -> Fed
-    ensures { λ r. ⌜ Feeds replay (now (held .entry)) (now (ring .entry)) (now (memory .entry)) (now (input .entry)) (now (line .entry))
+    ensures { λ r. ⌜ FeedContract replay (now (held .entry)) (now (ring .entry)) (now (memory .entry)) (now (input .entry)) (now (line .entry))
         r (now (held .exit)) (now (ring .exit)) (now (memory .exit)) (now (line .exit)) ⌝ }
 {
     let have = replay.held;

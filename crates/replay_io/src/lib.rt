@@ -2,11 +2,11 @@
 // which bytes are read or written; that the memory is what some bytes make of it is proved.
 ghost use mathlib.Core.List.{[]};
 ghost use Rattle.replay.specs.declared.Stage.the-variants.{Version};
-ghost use Rattle.replay.specs.Lines.{started};
-ghost use Rattle.replay.specs.Step.{position};
+ghost use Rattle.replay.specs.Lines.{engineOpened};
+ghost use Rattle.replay.specs.Step.{readerState};
 ghost use Rattle.replay.specs.Calls.{positionOf};
-ghost use Rattle.replay_io.specs.Gather.{Gathers};
-ghost use Rattle.replay_io.specs.Reached.{Reaches, Replayed};
+ghost use Rattle.replay_io.specs.Gather.{FeedLinesContract};
+ghost use Rattle.replay_io.specs.Reached.{Reachable, Replayed};
 use replay::Fed;
 use replay::Replay;
 
@@ -30,7 +30,7 @@ fn feed_lines(
     out: &mut [u8],
     slow: bool,
 ) -> Fed
-    ensures { λ r. ⌜ Gathers (positionOf replay (now (held .entry)) (now (ring .entry)) (now (memory .entry))) (now (input .entry)) (now (out .entry))
+    ensures { λ r. ⌜ FeedLinesContract (positionOf replay (now (held .entry)) (now (ring .entry)) (now (memory .entry))) (now (input .entry)) (now (out .entry))
         (r .used) (r .written) (positionOf (r .replay) (now (held .exit)) (now (ring .exit)) (now (memory .exit))) (now (out .exit)) ⌝ }
 {
     let mut now = replay;
@@ -81,7 +81,7 @@ fn feed_piece(
     shows: bool,
     slow: bool,
 ) -> Progress
-    ensures { λ r. ⌜ Reaches (positionOf replay (now (held .entry)) (now (ring .entry)) (now (memory .entry)))
+    ensures { λ r. ⌜ Reachable (positionOf replay (now (held .entry)) (now (ring .entry)) (now (memory .entry)))
         (positionOf (r .replay) (now (held .exit)) (now (ring .exit)) (now (memory .exit))) ⌝ }
 {
     let mut out = io::large_buffer();
@@ -119,7 +119,7 @@ fn read_some(
     shows: bool,
     slow: bool,
 ) -> Progress
-    ensures { λ r. ⌜ Reaches (positionOf replay (now (held .entry)) (now (ring .entry)) (now (memory .entry)))
+    ensures { λ r. ⌜ Reachable (positionOf replay (now (held .entry)) (now (ring .entry)) (now (memory .entry)))
         (positionOf (r .replay) (now (held .exit)) (now (ring .exit)) (now (memory .exit))) ⌝ }
 {
     let mut piece = io::large_buffer();
@@ -144,7 +144,7 @@ fn read_all(
     shows: bool,
     slow: bool,
 ) -> Progress
-    ensures { λ r. ⌜ Reaches (position Version [] (started (now (ring .entry)) (now (memory .entry))))
+    ensures { λ r. ⌜ Reachable (readerState Version [] (engineOpened (now (ring .entry)) (now (memory .entry))))
         (positionOf (r .replay) (now (held .exit)) (now (ring .exit)) (now (memory .exit))) ⌝ }
 {
     let mut progress = Progress {
@@ -172,7 +172,7 @@ fn finish(replay: Replay, shows: bool) -> bool {
 
 // Replays what a descriptor reads, to its end, in memory, which is to be 65,536 zero bytes. Shows the lines or not, by the
 // slow engine or by the fast one. Answers
-// whether nothing failed; what did fail is told on standard error.
+// whether nothing failed; what did fail is reported on standard error.
 pub fn replay_from(fd: i32, name: &[u8], memory: &mut [u8], shows: bool, slow: bool) -> bool
     ensures { λ _. ⌜ Replayed (now (memory .entry)) (now (memory .exit)) ⌝ }
 {

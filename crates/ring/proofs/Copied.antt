@@ -11,8 +11,8 @@ use borrow.Rule.Slice.PartMut.{putMid}
 use Rattle.word.specs.Splice.{spliced}
 use Rattle.word.proofs.Splice.{length-spliced, spliced-before, spliced-in, spliced-past}
 use Rattle.word.proofs.Tests.{split}
-use Rattle.ring.specs.Segment.{Lies, segment, wrapped}
-use Rattle.ring.specs.Copied.{copied}
+use Rattle.ring.specs.Segment.{LiesInRing, segment, wrapOffset}
+use Rattle.ring.specs.Copied.{copiedIn}
 use Rattle.ring.proofs.Wrapped.{wrapped-in, wrapped-over}
 use Rattle.ring.proofs.Segment.{length-segment, segment-byte}
 
@@ -36,11 +36,11 @@ put-spliced at ys xs =
     ap (λ (n : ℕ). putMid at n xs ys) e ∙ ap (λ (l : List ℕ). take at xs ++ (ys ++ l)) (drop-drop (length ys) at xs)
 
 -- a batch that ends before the ring does is copied in one part
-pub copied-one : (ring : List ℕ) (offset : ℕ) (batch : List ℕ) → length batch ≤ length ring - offset → copied ring offset batch ≡ spliced offset batch ring
-unfolding copied spliced
+pub copied-one : (ring : List ℕ) (offset : ℕ) (batch : List ℕ) → length batch ≤ length ring - offset → copiedIn ring offset batch ≡ spliced offset batch ring
+unfolding copiedIn spliced
 copied-one ring offset batch h = rw (take-all (length ring - offset) batch h, drop-of-length-le batch h)
 
-module _ (ring : List ℕ) (offset : ℕ) (batch : List ℕ) (at : Lies ring offset (length batch)) where
+module _ (ring : List ℕ) (offset : ℕ) (batch : List ℕ) (at : LiesInRing ring offset (length batch)) where
   -- the two parts, and the ring with the first of them
   abbrev first : List ℕ
   first = take (length ring - offset) batch
@@ -60,21 +60,21 @@ module _ (ring : List ℕ) (offset : ℕ) (batch : List ℕ) (at : Lies ring off
   second-fits : 0 + length second ≤ length half
   second-fits = rw (length-half, length-drop) (omega arith)
 
-  pub length-copied : length (copied ring offset batch) ≡ length ring
-  unfolding copied
+  pub length-copied : length (copiedIn ring offset batch) ≡ length ring
+  unfolding copiedIn
   length-copied = length-spliced 0 second half second-fits ∙ length-half
 
   -- what lies in the ring still does
-  pub lies-copied : (o size : ℕ) → Lies ring o size → Lies (copied ring offset batch) o size
+  pub lies-copied : (o size : ℕ) → LiesInRing ring o size → LiesInRing (copiedIn ring offset batch) o size
   lies-copied o size l = record { starts = rw length-copied (l .starts); fits = rw length-copied (l .fits) }
 
   -- past the second part
-  past-second : (j : ℕ) → length batch ≤ length ring - offset + j → getD (copied ring offset batch) j 0 ≡ getD half j 0
-  unfolding copied
+  past-second : (j : ℕ) → length batch ≤ length ring - offset + j → getD (copiedIn ring offset batch) j 0 ≡ getD half j 0
+  unfolding copiedIn
   past-second j h = spliced-past 0 second half second-fits j (simp length-drop (omega arith))
 
   -- a byte of the first part
-  pub copied-front : (i : ℕ) → i < length batch → offset + i < length ring → getD (copied ring offset batch) (offset + i) 0 ≡ getD batch i 0
+  pub copied-front : (i : ℕ) → i < length batch → offset + i < length ring → getD (copiedIn ring offset batch) (offset + i) 0 ≡ getD batch i 0
   copied-front i h k =
       let e : offset + i - offset ≡ i = omega arith in
       past-second (offset + i) (omega arith)
@@ -83,8 +83,8 @@ module _ (ring : List ℕ) (offset : ℕ) (batch : List ℕ) (at : Lies ring off
       ∙ getD-take (length ring - offset) batch i 0 (omega arith)
 
   -- a byte of the second part
-  pub copied-back : (i : ℕ) → i < length batch → length ring ≤ offset + i → getD (copied ring offset batch) (offset + i - length ring) 0 ≡ getD batch i 0
-  unfolding copied
+  pub copied-back : (i : ℕ) → i < length batch → length ring ≤ offset + i → getD (copiedIn ring offset batch) (offset + i - length ring) 0 ≡ getD batch i 0
+  unfolding copiedIn
   copied-back i h k =
       let e : length ring - offset + (offset + i - length ring - 0) ≡ i = omega arith in
       spliced-in 0 second half second-fits (offset + i - length ring) (omega arith) (simp length-drop (omega arith))
@@ -92,38 +92,38 @@ module _ (ring : List ℕ) (offset : ℕ) (batch : List ℕ) (at : Lies ring off
       ∙ ap (λ (m : ℕ). getD batch m 0) e
 
   -- any other byte is as before: it lies past the second part, and before the first part or past it
-  pub copied-before : (j : ℕ) → length batch ≤ length ring - offset + j → j < offset → getD (copied ring offset batch) j 0 ≡ getD ring j 0
+  pub copied-before : (j : ℕ) → length batch ≤ length ring - offset + j → j < offset → getD (copiedIn ring offset batch) j 0 ≡ getD ring j 0
   copied-before j h k = past-second j h ∙ spliced-before offset first ring first-fits j k
 
-  pub copied-past : (j : ℕ) → offset + length batch ≤ j → getD (copied ring offset batch) j 0 ≡ getD ring j 0
+  pub copied-past : (j : ℕ) → offset + length batch ≤ j → getD (copiedIn ring offset batch) j 0 ≡ getD ring j 0
   copied-past j h = past-second j (omega arith) ∙ spliced-past offset first ring first-fits j (simp length-take (omega arith))
 
   -- byte i of the batch, counted from `offset` on
-  pub copied-in : (i : ℕ) → i < length batch → getD (copied ring offset batch) (wrapped (length ring) (offset + i)) 0 ≡ getD batch i 0
+  pub copied-in : (i : ℕ) → i < length batch → getD (copiedIn ring offset batch) (wrapOffset (length ring) (offset + i)) 0 ≡ getD batch i 0
   copied-in i h = ⊎-elim inside over (split (offset + i) (length ring))
     where
-      inside : offset + i < length ring → getD (copied ring offset batch) (wrapped (length ring) (offset + i)) 0 ≡ getD batch i 0
+      inside : offset + i < length ring → getD (copiedIn ring offset batch) (wrapOffset (length ring) (offset + i)) 0 ≡ getD batch i 0
       inside p = rw (wrapped-in (length ring) (offset + i) p) (copied-front i h p)
 
-      over : length ring ≤ offset + i → getD (copied ring offset batch) (wrapped (length ring) (offset + i)) 0 ≡ getD batch i 0
+      over : length ring ≤ offset + i → getD (copiedIn ring offset batch) (wrapOffset (length ring) (offset + i)) 0 ≡ getD batch i 0
       over p = rw (wrapped-over (length ring) (offset + i) p) (copied-back i h p)
 
   -- a byte past the batch, counted from `offset` on
-  pub copied-out : (i : ℕ) → length batch ≤ i → i < length ring → getD (copied ring offset batch) (wrapped (length ring) (offset + i)) 0 ≡ getD ring (wrapped (length ring) (offset + i)) 0
+  pub copied-out : (i : ℕ) → length batch ≤ i → i < length ring → getD (copiedIn ring offset batch) (wrapOffset (length ring) (offset + i)) 0 ≡ getD ring (wrapOffset (length ring) (offset + i)) 0
   copied-out i h k = ⊎-elim inside over (split (offset + i) (length ring))
     where
-      inside : offset + i < length ring → getD (copied ring offset batch) (wrapped (length ring) (offset + i)) 0 ≡ getD ring (wrapped (length ring) (offset + i)) 0
+      inside : offset + i < length ring → getD (copiedIn ring offset batch) (wrapOffset (length ring) (offset + i)) 0 ≡ getD ring (wrapOffset (length ring) (offset + i)) 0
       inside p = rw (wrapped-in (length ring) (offset + i) p) (copied-past (offset + i) (omega arith))
 
-      over : length ring ≤ offset + i → getD (copied ring offset batch) (wrapped (length ring) (offset + i)) 0 ≡ getD ring (wrapped (length ring) (offset + i)) 0
+      over : length ring ≤ offset + i → getD (copiedIn ring offset batch) (wrapOffset (length ring) (offset + i)) 0 ≡ getD ring (wrapOffset (length ring) (offset + i)) 0
       over p = rw (wrapped-over (length ring) (offset + i) p) (copied-before (offset + i - length ring) (omega arith) (omega arith))
 
   -- what was copied in is read back
-  pub segment-copied : segment (copied ring offset batch) offset (length batch) ≡ batch
+  pub segment-copied : segment (copiedIn ring offset batch) offset (length batch) ≡ batch
   segment-copied =
       let lies = lies-copied offset (length batch) at in
-      let long = length-segment (copied ring offset batch) offset (length batch) lies in
-      ext-getD 0 (segment (copied ring offset batch) offset (length batch)) batch long
+      let long = length-segment (copiedIn ring offset batch) offset (length batch) lies in
+      ext-getD 0 (segment (copiedIn ring offset batch) offset (length batch)) batch long
       (λ i l.
       let h : i < length batch = rw long at l in
-      rw length-copied at (segment-byte (copied ring offset batch) offset (length batch) lies i h) ∙ copied-in i h)
+      rw length-copied at (segment-byte (copiedIn ring offset batch) offset (length batch) lies i h) ∙ copied-in i h)

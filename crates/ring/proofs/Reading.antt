@@ -6,7 +6,7 @@ use lib.ListN.{length, getD}
 use borrow.Author.Tests.{lt-ltb, le-ltb}
 use Rattle.word.specs.Word.{le32At}
 use Rattle.ring.specs.declared.Read.the-variants.{Word, Past}
-use Rattle.ring.specs.Segment.{segment, Lies, batchWords}
+use Rattle.ring.specs.Segment.{segment, LiesInRing, batchWords}
 use Rattle.ring.specs.Read.{wordAt}
 use Rattle.ring.proofs.Segment.{count-words, getD-batch}
 
@@ -18,7 +18,7 @@ pub read-in : (words : List ℕ) (k : ℕ) → k < length words → wordAt words
 read-in words k h = rw (lt-ltb k (length words) h)
 
 -- word k of a batch stands at its byte 4 * k
-pub read-batch : (ring : List ℕ) (offset size k : ℕ) → Lies ring offset size → k < size / 4
+pub read-batch : (ring : List ℕ) (offset size k : ℕ) → LiesInRing ring offset size → k < size / 4
     → wordAt (batchWords ring offset size) k ≡ Word (le32At (segment ring offset size) (4 * k))
 read-batch ring offset size k at h =
     read-in (batchWords ring offset size) k (rw (count-words ring offset size at) h) ∙ ap Word (getD-batch ring offset size at k h)

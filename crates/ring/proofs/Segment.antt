@@ -13,19 +13,19 @@ use Rattle.word.specs.Word.{words, le32At}
 use Rattle.word.proofs.Words.{length-words, getD-words}
 use Rattle.word.proofs.Splice.{getD-right}
 use Rattle.word.proofs.Tests.{split, and-true}
-use Rattle.ring.specs.Segment.{segment, Lies, lies, batchWords, wrapped}
+use Rattle.ring.specs.Segment.{segment, LiesInRing, liesInRing, batchWords, wrapOffset}
 use Rattle.ring.proofs.Wrapped.{wrapped-in, wrapped-over, wrapped-below}
 
 -- a batch that starts u bytes on from `read`
-pub lies-wrapped : (ring : List ℕ) (read u size : ℕ) → read < length ring → u + size ≤ length ring → Lies ring (wrapped (length ring) (read + u)) size
+pub lies-wrapped : (ring : List ℕ) (read u size : ℕ) → read < length ring → u + size ≤ length ring → LiesInRing ring (wrapOffset (length ring) (read + u)) size
 lies-wrapped ring read u size below h =
     record { starts = wrapped-below (length ring) (read + u) (omega arith); fits = omega arith }
 
-pub length-segment : (ring : List ℕ) (offset size : ℕ) → Lies ring offset size → length (segment ring offset size) ≡ size
+pub length-segment : (ring : List ℕ) (offset size : ℕ) → LiesInRing ring offset size → length (segment ring offset size) ≡ size
 unfolding segment
 length-segment ring offset size at = simp (length-take, length-append, length-drop) (omega arith)
 
-module _ (ring : List ℕ) (offset size : ℕ) (at : Lies ring offset size) where
+module _ (ring : List ℕ) (offset size : ℕ) (at : LiesInRing ring offset size) where
   -- a byte before the ring's end
   pub segment-front : (i : ℕ) → i < size → offset + i < length ring → getD (segment ring offset size) i 0 ≡ getD ring (offset + i) 0
   unfolding segment
@@ -45,13 +45,13 @@ module _ (ring : List ℕ) (offset size : ℕ) (at : Lies ring offset size) wher
       ∙ ap (λ (m : ℕ). getD ring m 0) j
 
   -- any byte
-  pub segment-byte : (i : ℕ) → i < size → getD (segment ring offset size) i 0 ≡ getD ring (wrapped (length ring) (offset + i)) 0
+  pub segment-byte : (i : ℕ) → i < size → getD (segment ring offset size) i 0 ≡ getD ring (wrapOffset (length ring) (offset + i)) 0
   segment-byte i h = ⊎-elim inside over (split (offset + i) (length ring))
     where
-      inside : offset + i < length ring → getD (segment ring offset size) i 0 ≡ getD ring (wrapped (length ring) (offset + i)) 0
+      inside : offset + i < length ring → getD (segment ring offset size) i 0 ≡ getD ring (wrapOffset (length ring) (offset + i)) 0
       inside p = rw (wrapped-in (length ring) (offset + i) p) (segment-front i h p)
 
-      over : length ring ≤ offset + i → getD (segment ring offset size) i 0 ≡ getD ring (wrapped (length ring) (offset + i)) 0
+      over : length ring ≤ offset + i → getD (segment ring offset size) i 0 ≡ getD ring (wrapOffset (length ring) (offset + i)) 0
       over p = rw (wrapped-over (length ring) (offset + i) p) (segment-back i h p)
 
   -- the same as seen in a batch as long as the ring
@@ -100,7 +100,7 @@ module _ (ring : List ℕ) (offset size : ℕ) (at : Lies ring offset size) wher
       )
 
   -- the test holds, so the batch has its words
-  pub lies-true : lies ring offset size ≡ true
+  pub lies-true : liesInRing ring offset size ≡ true
   lies-true = rw (lt-ltb offset (length ring) (at .starts), le-leb size (length ring) (at .fits))
 
   pub batch-words : batchWords ring offset size ≡ words (segment ring offset size)
@@ -119,20 +119,20 @@ module _ (ring : List ℕ) (offset size : ℕ) (at : Lies ring offset size) wher
       ∙ getD-words k (segment ring offset size) (rw (length-segment ring offset size at) h)
 
 -- the test says what the record says
-pub lies-in : (ring : List ℕ) (offset size : ℕ) → lies ring offset size ≡ true → Lies ring offset size
+pub lies-in : (ring : List ℕ) (offset size : ℕ) → liesInRing ring offset size ≡ true → LiesInRing ring offset size
 lies-in ring offset size e =
     let both = and-true (ltb offset (length ring)) (leb size (length ring)) e in
     record { starts = ltb-true offset (length ring) (both .0); fits = leb-true size (length ring) (both .1) }
 
 -- what does not lie in the ring has no words
-pub no-words : (ring : List ℕ) (offset size : ℕ) → lies ring offset size ≡ false → batchWords ring offset size ≡ []
+pub no-words : (ring : List ℕ) (offset size : ℕ) → liesInRing ring offset size ≡ false → batchWords ring offset size ≡ []
 unfolding batchWords
 no-words ring offset size e = rw e
 
 -- so what has a word lies in the ring
-pub lies-word : (ring : List ℕ) (offset size k : ℕ) → k < length (batchWords ring offset size) → Lies ring offset size
-lies-word ring offset size k h = go (lies ring offset size) refl
+pub lies-word : (ring : List ℕ) (offset size k : ℕ) → k < length (batchWords ring offset size) → LiesInRing ring offset size
+lies-word ring offset size k h = go (liesInRing ring offset size) refl
   where
-    go : (t : Bool) → lies ring offset size ≡ t → Lies ring offset size
+    go : (t : Bool) → liesInRing ring offset size ≡ t → LiesInRing ring offset size
     go true e = lies-in ring offset size e
     go false e = absurd (omega (arith, ap length (no-words ring offset size e)))

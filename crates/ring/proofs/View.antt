@@ -10,8 +10,8 @@ use lib.Seq.{ext-getD, getD-take, getD-drop, take-append-le, drop-append-le, len
 use Rattle.word.specs.Splice.{spliced}
 use Rattle.word.proofs.Splice.{getD-right, length-spliced, spliced-before, spliced-in, spliced-past}
 use Rattle.word.proofs.Tests.{split}
-use Rattle.ring.specs.Segment.{segment, Lies, wrapped}
-use Rattle.ring.specs.Copied.{copied}
+use Rattle.ring.specs.Segment.{segment, LiesInRing, wrapOffset}
+use Rattle.ring.specs.Copied.{copiedIn}
 use Rattle.ring.proofs.Wrapped.{wrapped-in, wrapped-below, wrapped-add, wrapped-round}
 use Rattle.ring.proofs.Segment.{lies-wrapped, length-segment, segment-byte}
 use Rattle.ring.proofs.Copied.{length-copied, copied-in, copied-out}
@@ -21,26 +21,26 @@ abbrev pub view : List ℕ → ℕ → List ℕ
 view ring read = segment ring read (length ring)
 
 module _ (ring : List ℕ) (read : ℕ) (below : read < length ring) where
-  whole : Lies ring read (length ring)
+  whole : LiesInRing ring read (length ring)
   whole = record { starts = below; fits = omega arith }
 
   pub length-view : length (view ring read) ≡ length ring
   length-view = length-segment ring read (length ring) whole
 
-  pub view-byte : (i : ℕ) → i < length ring → getD (view ring read) i 0 ≡ getD ring (wrapped (length ring) (read + i)) 0
+  pub view-byte : (i : ℕ) → i < length ring → getD (view ring read) i 0 ≡ getD ring (wrapOffset (length ring) (read + i)) 0
   view-byte i h = segment-byte ring read (length ring) whole i h
 
   -- a batch u bytes on is the part of the view from u on
-  pub segment-view : (u size : ℕ) → u + size ≤ length ring → segment ring (wrapped (length ring) (read + u)) size ≡ take size (drop u (view ring read))
+  pub segment-view : (u size : ℕ) → u + size ≤ length ring → segment ring (wrapOffset (length ring) (read + u)) size ≡ take size (drop u (view ring read))
   segment-view u size h =
       ext-getD 0 (segment ring offset size) (take size (drop u (view ring read)))
       (length-segment ring offset size lies ∙ sym long)
       (λ i l. at i (rw (length-segment ring offset size lies) at l))
     where
       offset : ℕ
-      offset = wrapped (length ring) (read + u)
+      offset = wrapOffset (length ring) (read + u)
 
-      lies : Lies ring offset size
+      lies : LiesInRing ring offset size
       lies = lies-wrapped ring read u size below h
 
       long : length (take size (drop u (view ring read))) ≡ size
@@ -53,16 +53,16 @@ module _ (ring : List ℕ) (read : ℕ) (below : read < length ring) where
           ∙ sym (getD-take size (drop u (view ring read)) i 0 l ∙ getD-drop u (view ring read) i 0 ∙ view-byte (u + i) (omega arith))
 
   -- the view from u bytes on
-  pub view-on : (u : ℕ) → u ≤ length ring → view ring (wrapped (length ring) (read + u)) ≡ drop u (view ring read) ++ take u (view ring read)
+  pub view-on : (u : ℕ) → u ≤ length ring → view ring (wrapOffset (length ring) (read + u)) ≡ drop u (view ring read) ++ take u (view ring read)
   view-on u h =
       ext-getD 0 (view ring offset) (drop u (view ring read) ++ take u (view ring read))
       (length-segment ring offset (length ring) lies ∙ sym long)
       (λ i l. at i (rw (length-segment ring offset (length ring) lies) at l))
     where
       offset : ℕ
-      offset = wrapped (length ring) (read + u)
+      offset = wrapOffset (length ring) (read + u)
 
-      lies : Lies ring offset (length ring)
+      lies : LiesInRing ring offset (length ring)
       lies = record { starts = wrapped-below (length ring) (read + u) (omega arith); fits = omega arith }
 
       long : length (drop u (view ring read) ++ take u (view ring read)) ≡ length ring
@@ -74,18 +74,18 @@ module _ (ring : List ℕ) (read : ℕ) (below : read < length ring) where
       at : (i : ℕ) → i < length ring → getD (view ring offset) i 0 ≡ getD (drop u (view ring read) ++ take u (view ring read)) i 0
       at i l = segment-byte ring offset (length ring) lies i l ∙ ⊎-elim before past (split i (length ring - u))
         where
-          before : i < length ring - u → getD ring (wrapped (length ring) (offset + i)) 0 ≡ getD (drop u (view ring read) ++ take u (view ring read)) i 0
+          before : i < length ring - u → getD ring (wrapOffset (length ring) (offset + i)) 0 ≡ getD (drop u (view ring read) ++ take u (view ring read)) i 0
           before p =
               ap (λ (m : ℕ). getD ring m 0) (wrapped-add (length ring) read u i below (omega arith))
               ∙ sym (List·getD-append (drop u (view ring read)) (take u (view ring read)) 0 i (rw cut p)
               ∙ getD-drop u (view ring read) i 0
               ∙ view-byte (u + i) (omega arith))
 
-          past : length ring - u ≤ i → getD ring (wrapped (length ring) (offset + i)) 0 ≡ getD (drop u (view ring read) ++ take u (view ring read)) i 0
+          past : length ring - u ≤ i → getD ring (wrapOffset (length ring) (offset + i)) 0 ≡ getD (drop u (view ring read) ++ take u (view ring read)) i 0
           past p =
               let j : ℕ = i - (length ring - u) in
               let e : i ≡ length ring - u + j = omega arith in
-              ap (λ (m : ℕ). getD ring (wrapped (length ring) (offset + m)) 0) e
+              ap (λ (m : ℕ). getD ring (wrapOffset (length ring) (offset + m)) 0) e
               ∙ ap (λ (m : ℕ). getD ring m 0) (wrapped-round (length ring) read u j below h (omega arith))
               ∙ sym (getD-right (drop u (view ring read)) (take u (view ring read)) (length ring - u) i cut p
               ∙ getD-take u (view ring read) j 0 (omega arith)
@@ -94,18 +94,18 @@ module _ (ring : List ℕ) (read : ℕ) (below : read < length ring) where
 -- a batch copied in u bytes on lies in the view from u on, and the view is otherwise as before
 module _ (ring : List ℕ) (read : ℕ) (below : read < length ring) (u : ℕ) (batch : List ℕ) (fits : u + length batch ≤ length ring) where
   abbrev to : ℕ
-  to = wrapped (length ring) (read + u)
+  to = wrapOffset (length ring) (read + u)
 
   abbrev new : List ℕ
-  new = copied ring to batch
+  new = copiedIn ring to batch
 
-  lies : Lies ring to (length batch)
+  lies : LiesInRing ring to (length batch)
   lies = lies-wrapped ring read u (length batch) below fits
 
   -- byte i of the new view, by where it lies
   module _ (i : ℕ) (h : i < length ring) where
     abbrev Spliced : Type 0
-    Spliced = getD new (wrapped (length ring) (read + i)) 0 ≡ getD (spliced u batch (view ring read)) i 0
+    Spliced = getD new (wrapOffset (length ring) (read + i)) 0 ≡ getD (spliced u batch (view ring read)) i 0
 
     room : u + length batch ≤ length (view ring read)
     room = rw (length-view ring read below) fits
@@ -116,8 +116,8 @@ module _ (ring : List ℕ) (read : ℕ) (below : read < length ring) (u : ℕ) (
         rw same at (copied-out ring to batch lies (length ring - u + i) (omega arith) (omega arith))
         ∙ sym (spliced-before u batch (view ring read) room i l ∙ view-byte ring read below i h)
 
-    on : u ≤ i → wrapped (length ring) (to + (i - u)) ≡ wrapped (length ring) (read + i)
-    on l = wrapped-add (length ring) read u (i - u) below (omega arith) ∙ ap (λ (m : ℕ). wrapped (length ring) (read + m)) (omega arith)
+    on : u ≤ i → wrapOffset (length ring) (to + (i - u)) ≡ wrapOffset (length ring) (read + i)
+    on l = wrapped-add (length ring) read u (i - u) below (omega arith) ∙ ap (λ (m : ℕ). wrapOffset (length ring) (read + m)) (omega arith)
 
     within : u ≤ i → i < u + length batch → Spliced
     within l m =
@@ -135,7 +135,7 @@ module _ (ring : List ℕ) (read : ℕ) (below : read < length ring) (u : ℕ) (
   kept : length new ≡ length ring
   kept = length-copied ring to batch lies
 
-  pub view-copied : view (copied ring (wrapped (length ring) (read + u)) batch) read ≡ spliced u batch (view ring read)
+  pub view-copied : view (copiedIn ring (wrapOffset (length ring) (read + u)) batch) read ≡ spliced u batch (view ring read)
   view-copied =
       let room : u + length batch ≤ length (view ring read) = rw (length-view ring read below) fits in
       let inside : read < length new = rw kept below in
@@ -145,7 +145,7 @@ module _ (ring : List ℕ) (read : ℕ) (below : read < length ring) (u : ℕ) (
       (λ i l.
       let h : i < length ring = rw long at l in
       view-byte new read inside i (rw kept h)
-      ∙ ap (λ (n : ℕ). getD new (wrapped n (read + i)) 0) kept
+      ∙ ap (λ (n : ℕ). getD new (wrapOffset n (read + i)) 0) kept
       ∙ each i h)
 
 -- what stands before a run that is put in
@@ -163,14 +163,14 @@ take-spliced u size v ys xs h k =
 
 -- a batch u bytes on is not changed by one that is copied in past its end
 pub segment-kept-on : (ring : List ℕ) (read u size v : ℕ) (batch : List ℕ) → read < length ring → u + size ≤ v → v + length batch ≤ length ring
-    → segment (copied ring (wrapped (length ring) (read + v)) batch) (wrapped (length ring) (read + u)) size
-    ≡ segment ring (wrapped (length ring) (read + u)) size
+    → segment (copiedIn ring (wrapOffset (length ring) (read + v)) batch) (wrapOffset (length ring) (read + u)) size
+    ≡ segment ring (wrapOffset (length ring) (read + u)) size
 segment-kept-on ring read u size v batch below h k =
-    let new : List ℕ = copied ring (wrapped (length ring) (read + v)) batch in
-    let kept : length new ≡ length ring = length-copied ring (wrapped (length ring) (read + v)) batch (lies-wrapped ring read v (length batch) below k) in
+    let new : List ℕ = copiedIn ring (wrapOffset (length ring) (read + v)) batch in
+    let kept : length new ≡ length ring = length-copied ring (wrapOffset (length ring) (read + v)) batch (lies-wrapped ring read v (length batch) below k) in
     let inside : read < length new = rw kept below in
     let fits : u + size ≤ length new = rw kept (omega arith) in
-    ap (λ (n : ℕ). segment new (wrapped n (read + u)) size) (sym kept)
+    ap (λ (n : ℕ). segment new (wrapOffset n (read + u)) size) (sym kept)
     ∙ segment-view new read inside u size fits
     ∙ ap (λ (l : List ℕ). take size (drop u l)) (view-copied ring read below v batch k)
     ∙ take-spliced u size v batch (view ring read) h (rw (length-view ring read below) (omega arith))
@@ -178,7 +178,7 @@ segment-kept-on ring read u size v batch below h k =
 
 -- the same of a batch at `offset`
 pub segment-kept : (ring : List ℕ) (offset size v : ℕ) (batch : List ℕ) → offset < length ring → size ≤ v → v + length batch ≤ length ring
-    → segment (copied ring (wrapped (length ring) (offset + v)) batch) offset size ≡ segment ring offset size
+    → segment (copiedIn ring (wrapOffset (length ring) (offset + v)) batch) offset size ≡ segment ring offset size
 segment-kept ring offset size v batch below h k =
-    let e : wrapped (length ring) (offset + 0) ≡ offset = rw add-zero (wrapped-in (length ring) offset below) in
+    let e : wrapOffset (length ring) (offset + 0) ≡ offset = rw add-zero (wrapped-in (length ring) offset below) in
     rw e at (segment-kept-on ring offset 0 size v batch below (omega arith) k)

@@ -6,7 +6,7 @@ use lib.ListN.{length, take, drop}
 use Rattle.word.specs.Splice.{spliced}
 
 -- the ring after the batch was copied in from `offset` on: what fits before the ring's end there, the rest from byte 0 on
-unfoldable pub copied : List ℕ → ℕ → List ℕ → List ℕ
-copied ring offset batch =
+unfoldable pub copiedIn : List ℕ → ℕ → List ℕ → List ℕ
+copiedIn ring offset batch =
     let tail : ℕ = length ring - offset in
     spliced 0 (drop tail batch) (spliced offset (take tail batch) ring)

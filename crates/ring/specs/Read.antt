@@ -1,4 +1,4 @@
--- A word of a batch, or that there is none (01: a reader "never reads past its valid length").
+-- Internal: a word of a batch, or that there is none (01: a reader "never reads past its valid length").
 use Prim.Native.Nat.{ℕ}
 use mathlib.Core.List.{List}
 use mathlib.Core.Bool.{cond}

@@ -10,19 +10,19 @@ use Rattle.word.specs.Word.{words}
 unfoldable pub segment : List ℕ → ℕ → ℕ → List ℕ
 segment ring offset size = take size (drop offset ring ++ take offset ring)
 
--- such a batch lies in the ring: it starts at one of the ring's bytes and is no longer than the ring
-pub record Lies (ring : List ℕ) (offset size : ℕ) : Type 0 where
+-- Internal: such a batch lies in the ring: it starts at one of the ring's bytes and is no longer than the ring
+pub record LiesInRing (ring : List ℕ) (offset size : ℕ) : Type 0 where
   pub starts : offset < length ring
   pub fits : size ≤ length ring
 
 -- the same as a test
-abbrev pub lies : List ℕ → ℕ → ℕ → Bool
-lies ring offset size = ltb offset (length ring) && leb size (length ring)
+abbrev pub liesInRing : List ℕ → ℕ → ℕ → Bool
+liesInRing ring offset size = ltb offset (length ring) && leb size (length ring)
 
 -- its words, in order; what does not lie in the ring has none
 unfoldable pub batchWords : List ℕ → ℕ → ℕ → List ℕ
-batchWords ring offset size = cond (lies ring offset size) (words (segment ring offset size)) []
+batchWords ring offset size = cond (liesInRing ring offset size) (words (segment ring offset size)) []
 
 -- an offset that may have run over the end of a ring of n bytes by less than n: it goes on at byte 0 after the last byte
-unfoldable pub wrapped : ℕ → ℕ → ℕ
-wrapped n x = cond (ltb x n) x (x - n)
+unfoldable pub wrapOffset : ℕ → ℕ → ℕ
+wrapOffset n x = cond (ltb x n) x (x - n)

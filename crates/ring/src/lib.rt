@@ -5,9 +5,9 @@ ghost use mathlib.Core.Bool.{_&&_};
 ghost use lib.ListN.{length, getD};
 ghost use lib.Dec.{ltb, leb};
 ghost use Rattle.word.specs.Splice.{spliced};
-ghost use Rattle.ring.specs.Segment.{Lies, segment, batchWords};
+ghost use Rattle.ring.specs.Segment.{LiesInRing, segment, batchWords};
 ghost use Rattle.ring.specs.Read.{wordAt};
-ghost use Rattle.ring.specs.Copied.{copied};
+ghost use Rattle.ring.specs.Copied.{copiedIn};
 
 // A word of a batch, or that the batch has no such word.
 pub enum Read {
@@ -120,8 +120,8 @@ fn copy_at(to: &mut [u8], at: usize, from: &[u8])
 
 // Copies a batch into the ring from `offset` on, in one part or two.
 pub fn copy_in(ring: &mut [u8], offset: usize, batch: &[u8])
-    requires { ⌜ Lies (now ring) offset (length (now batch)) ⌝ }
-    ensures { λ _. ⌜ now (ring .exit) ≡ copied (now (ring .entry)) offset (now (batch .entry)) ⌝ }
+    requires { ⌜ LiesInRing (now ring) offset (length (now batch)) ⌝ }
+    ensures { λ _. ⌜ now (ring .exit) ≡ copiedIn (now (ring .entry)) offset (now (batch .entry)) ⌝ }
 {
     let tail = ring.len() - offset;
     if batch.len() <= tail {

@@ -4,41 +4,41 @@ use mathlib.Core.Bool.{Bool, true, false, false≢true}
 use Prim.Native.Nat.{ℕ, _+_, _*_, _≤_, _<_}
 use native.Mathlib.Nat.{mul-le-mul-right}
 use native.Mathlib.Omega.{arith}
-use Rattle.pixel.specs.Formats.{bytesOf}
-use Rattle.transform.specs.Transform.{sourceOf, mirrored}
+use Rattle.pixel.specs.Formats.{bytesPerPixel}
+use Rattle.transform.specs.Transform.{sourcePixel, mirrored}
 use Rattle.transform.specs.declared.Rotation.{Rotation}
-use Rattle.transform.specs.declared.Rotation.the-variants.{Upright, Clockwise, Half, CounterClockwise}
+use Rattle.transform.specs.declared.Rotation.the-variants.{Rotate0, Rotate90, Rotate180, Rotate270}
 use Rattle.transform.specs.declared.Transform.{Transform}
 use Rattle.transform.proofs.Inside.{mirrored-below}
 use Rattle.surface.specs.Surface.{pixelStart, span}
 use Rattle.surface.specs.declared.Surface.{Surface}
 use Rattle.surface.proofs.Outside.{row-in-span}
-use Rattle.rows.specs.Row.{originOf}
+use Rattle.rows.specs.Row.{sourcePixelOf}
 use Rattle.rows.specs.Step.{isStraight}
 
 -- not turned, and not flipped from left to right
-module _ (s : Surface) (t : Transform) (upright : t .rotation ≡ Upright) (kept : t .flip .horizontal ≡ false) where
+module _ (s : Surface) (t : Transform) (upright : t .rotation ≡ Rotate0) (kept : t .flip .horizontal ≡ false) where
   -- the pixels of output row y lie side by side
   pub side-by-side : (x y : ℕ) →
-      pixelStart s (originOf s t x y .x) (originOf s t x y .y) ≡ pixelStart s (originOf s t 0 y .x) (originOf s t 0 y .y) + x * bytesOf (s .format)
-  unfolding originOf sourceOf
+      pixelStart s (sourcePixelOf s t x y .x) (sourcePixelOf s t x y .y) ≡ pixelStart s (sourcePixelOf s t 0 y .x) (sourcePixelOf s t 0 y .y) + x * bytesPerPixel (s .format)
+  unfolding sourcePixelOf sourcePixel
   side-by-side x y = rw (upright, kept) (omega arith)
 
   -- and in the surface
   pub side-by-side-in : (y width n : ℕ) → y < s .height → width ≤ s .width → span s .end ≤ n →
-      pixelStart s (originOf s t 0 y .x) (originOf s t 0 y .y) + width * bytesOf (s .format) ≤ n
-  unfolding originOf sourceOf
+      pixelStart s (sourcePixelOf s t 0 y .x) (sourcePixelOf s t 0 y .y) + width * bytesPerPixel (s .format) ≤ n
+  unfolding sourcePixelOf sourcePixel
   side-by-side-in y width n u w l =
       let z : ℕ = mirrored (t .flip .vertical) (s .height) y in
       rw (upright, kept)
-      (omega (arith, row-in-span s z (mirrored-below (t .flip .vertical) (s .height) y u), mul-le-mul-right (bytesOf (s .format)) w))
+      (omega (arith, row-in-span s z (mirrored-below (t .flip .vertical) (s .height) y u), mul-le-mul-right (bytesPerPixel (s .format)) w))
 
-pub straight : (t : Transform) → isStraight (t .rotation) (t .flip) ≡ true → (t .rotation ≡ Upright) × (t .flip .horizontal ≡ false)
+pub straight : (t : Transform) → isStraight (t .rotation) (t .flip) ≡ true → (t .rotation ≡ Rotate0) × (t .flip .horizontal ≡ false)
 straight t e = go (t .rotation) (t .flip .horizontal) e
   where
-    go : (r : Rotation) (h : Bool) → isStraight r (record { horizontal = h; vertical = t .flip .vertical }) ≡ true → (r ≡ Upright) × (h ≡ false)
-    go Upright false e = (refl, refl)
-    go Upright true e = absurd (false≢true e)
-    go Clockwise h e = absurd (false≢true e)
-    go Half h e = absurd (false≢true e)
-    go CounterClockwise h e = absurd (false≢true e)
+    go : (r : Rotation) (h : Bool) → isStraight r (record { horizontal = h; vertical = t .flip .vertical }) ≡ true → (r ≡ Rotate0) × (h ≡ false)
+    go Rotate0 false e = (refl, refl)
+    go Rotate0 true e = absurd (false≢true e)
+    go Rotate90 h e = absurd (false≢true e)
+    go Rotate180 h e = absurd (false≢true e)
+    go Rotate270 h e = absurd (false≢true e)

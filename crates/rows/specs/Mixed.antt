@@ -5,15 +5,15 @@ use Rattle.pixel.specs.declared.colour.Colour.{Colour}
 use Rattle.register.specs.declared.task.Alpha.{Alpha}
 use Rattle.register.specs.declared.task.Blending.{Blending}
 
--- the colour with which a source pixel goes into blending, before its alpha mode: its own. This is where 02's request 12, premultiplied
--- scans, would speak
-abbrev pub prepared : Blending → Colour → Colour
-prepared blending c = c
+-- the colour with which a source pixel goes into blending, before its alpha mode. Hook for 02's request 12, premultiplied scans; today the
+-- identity
+abbrev pub sourceForBlending : Blending → Colour → Colour
+sourceForBlending blending c = c
 
 -- a colour with its alpha by a surface's alpha mode
-abbrev pub alphaed : Alpha → Colour → Colour
-alphaed a c = withAlpha (a .mode) (a .global) c
+abbrev pub withSurfaceAlpha : Alpha → Colour → Colour
+withSurfaceAlpha a c = withAlpha (a .mode) (a .global) c
 
 -- both colours have their alphas by their surfaces' modes, and are blended by the rule
-unfoldable pub mixed : Blending → Alpha → Alpha → Colour → Colour → Colour
-mixed blending source destination s d = blended (blending .rule) (alphaed source (prepared blending s)) (alphaed destination d)
+unfoldable pub composite : Blending → Alpha → Alpha → Colour → Colour → Colour
+composite blending source destination s d = blended (blending .rule) (withSurfaceAlpha source (sourceForBlending blending s)) (withSurfaceAlpha destination d)

@@ -1,20 +1,20 @@
 // A source colour blended with a destination colour.
 ghost use mathlib.Core.Path.{_≡_};
-ghost use Rattle.rows.specs.Mixed.{prepared, alphaed, mixed};
+ghost use Rattle.rows.specs.Mixed.{sourceForBlending, withSurfaceAlpha, composite};
 use pixel::Colour;
 use register::Alpha;
 use register::Blending;
 
 // The colour with which a source pixel goes into blending.
 fn prepare(blending: Blending, c: Colour) -> Colour
-    ensures { λ r. ⌜ r ≡ prepared blending c ⌝ }
+    ensures { λ r. ⌜ r ≡ sourceForBlending blending c ⌝ }
 {
     c
 }
 
 // A colour with its alpha by a surface's alpha mode.
 fn with_alpha(a: Alpha, c: Colour) -> Colour
-    ensures { λ r. ⌜ r ≡ alphaed a c ⌝ }
+    ensures { λ r. ⌜ r ≡ withSurfaceAlpha a c ⌝ }
 {
     let mode = a.mode;
     mode.apply(a.global, c)
@@ -22,7 +22,7 @@ fn with_alpha(a: Alpha, c: Colour) -> Colour
 
 // A source colour blended with a destination colour.
 pub fn mix(blending: Blending, source: Alpha, destination: Alpha, s: Colour, d: Colour) -> Colour
-    ensures { λ r. ⌜ r ≡ mixed blending source destination s d ⌝ }
+    ensures { λ r. ⌜ r ≡ composite blending source destination s d ⌝ }
 {
     let rule = blending.rule;
     rule.blend(

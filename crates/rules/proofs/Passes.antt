@@ -8,16 +8,16 @@ use mathlib.Core.Logic.{_⊎_, inl, inr, ⊎-elim}
 use lib.Dec.{eqb, ltb}
 use borrow.Author.Tests.{ltb-false, eqb-true, eqb-false, not-false}
 use Rattle.word.proofs.Tests.{and-true, and-false, or-false}
-use Rattle.range.specs.Range.{inside}
+use Rattle.range.specs.Range.{containedIn}
 use Rattle.range.proofs.Laws.{inside-ends}
-use Rattle.pixel.specs.Formats.{bytesOf}
+use Rattle.pixel.specs.Formats.{bytesPerPixel}
 use Rattle.pixel.specs.declared.format.Format.{Format}
 use Rattle.pixel.specs.declared.format.Format.the-variants.{Argb8888, Rgb888, Rgb565}
 use Rattle.transform.specs.declared.Rotation.{Rotation}
-use Rattle.transform.specs.declared.Rotation.the-variants.{Upright, Clockwise, Half, CounterClockwise}
+use Rattle.transform.specs.declared.Rotation.the-variants.{Rotate0, Rotate90, Rotate180, Rotate270}
 use Rattle.transform.specs.declared.Size.{Size}
-use Rattle.surface.specs.Surface.{rowLength, span, Separate}
-use Rattle.surface.specs.Meet.{meet}
+use Rattle.surface.specs.Surface.{rowLength, span, DisjointRows}
+use Rattle.surface.specs.Meet.{surfacesOverlap}
 use Rattle.surface.specs.declared.Surface.{Surface}
 use Rattle.surface.proofs.Sizes.{bytes-some}
 use Rattle.surface.proofs.Meet.{separate}
@@ -27,12 +27,12 @@ use Rattle.rules.specs.declared.fault.Fault.{Fault}
 use Rattle.rules.specs.declared.fault.Fault.the-variants.{BadSurface, SizeMismatch, OutOfBounds, Overlap}
 use Rattle.rules.specs.declared.task.Bounds.{Bounds}
 use Rattle.rules.specs.declared.task.Check.{Check}
-use Rattle.rules.specs.declared.task.Check.the-variants.{Fine, Wrong}
-use Rattle.rules.specs.Rules.{reads, badSide, badSides, badStride, badSource, badOutput, badDestination, badSurface, isUpright, turnedColour, turnedSize, sameSize, sizeMismatch, commonOf, inWindow, inReach, outOfBounds, sameFormat, samePlace, overlap, taskFault}
+use Rattle.rules.specs.declared.task.Check.the-variants.{Valid, Invalid}
+use Rattle.rules.specs.Rules.{isBufferSource, badSide, badSides, badStride, badSource, badOutput, badDestination, badSurface, isUnrotated, rotatedFill, rotatedSourceSize, sameSize, sizeMismatch, commonOf, isWritableSpan, isReadable, outOfBounds, sameFormat, aliases, outputOverlaps, checkTask}
 use Rattle.rules.proofs.Sound.{Sides, Rows, InReach, SoundSource, SoundDestination, Sound}
 
 -- a rule that is not broken, and those after it
-passed : (b : Bool) (f : Fault) (rest : Check) → cond b (Wrong f) rest ≡ Fine → (b ≡ false) × (rest ≡ Fine)
+passed : (b : Bool) (f : Fault) (rest : Check) → cond b (Invalid f) rest ≡ Valid → (b ≡ false) × (rest ≡ Valid)
 passed true f rest e = absurd (let z : _≡_ {A = ℕ} 0 1 = cc in omega arith)
 passed false f rest e = (refl, e)
 
@@ -69,16 +69,16 @@ rows s e f =
     let two = or-false (ltb 0 (s .stride % 8)) (ltb (s .stride) (rowLength s)) f in
     let all = sides s e in
     let row : rowLength s ≤ s .stride = ltb-false (s .stride) (rowLength s) (two .1) in
-    let least : 1 * 1 ≤ s .width * bytesOf (s .format) = mul-le-mul (all .wide) (bytes-some (s .format)) in
+    let least : 1 * 1 ≤ s .width * bytesPerPixel (s .format) = mul-le-mul (all .wide) (bytes-some (s .format)) in
     record { sides = all; eights = omega (arith, ltb-false 0 (s .stride % 8) (two .0)); roomy = row; some = omega arith }
 
 -- ---- 26
 
-upright : (r : Rotation) → isUpright r ≡ true → r ≡ Upright
-upright Upright e = refl
-upright Clockwise e = absurd (false≢true e)
-upright Half e = absurd (false≢true e)
-upright CounterClockwise e = absurd (false≢true e)
+upright : (r : Rotation) → isUnrotated r ≡ true → r ≡ Rotate0
+upright Rotate0 e = refl
+upright Rotate90 e = absurd (false≢true e)
+upright Rotate180 e = absurd (false≢true e)
+upright Rotate270 e = absurd (false≢true e)
 
 size-by : {w h w′ h′ : ℕ} → w ≡ w′ → h ≡ h′ → _≡_ {A = Size} record { width = w; height = h } record { width = w′; height = h′ }
 size-by p q = cc
@@ -90,12 +90,12 @@ same-size a b e =
 
 -- ---- 27
 
-in-reach : (bounds : Bounds) (s : Surface) → inReach bounds s ≡ true → InReach bounds (span s)
-in-reach bounds s e = go (inWindow bounds s) refl
+is-readable : (bounds : Bounds) (s : Surface) → isReadable bounds s ≡ true → InReach bounds (span s)
+is-readable bounds s e = go (isWritableSpan bounds s) refl
   where
-    go : (b : Bool) → inWindow bounds s ≡ b → InReach bounds (span s)
+    go : (b : Bool) → isWritableSpan bounds s ≡ b → InReach bounds (span s)
     go true w = inl (inside-ends (span s) (bounds .window) w)
-    go false w = inr (inside-ends (span s) (commonOf bounds) (ap (λ (b : Bool). b || inside (span s) (commonOf bounds)) (sym w) ∙ e))
+    go false w = inr (inside-ends (span s) (commonOf bounds) (ap (λ (b : Bool). b || containedIn (span s) (commonOf bounds)) (sym w) ∙ e))
 
 -- ---- 28
 
@@ -115,8 +115,8 @@ surface-by : {p s w h p′ s′ w′ h′ : ℕ} {f f′ : Format} → p ≡ p�
 surface-by p s w h f = cc
 
 -- surfaces of one size at the same place are the same
-same-surface : (a b : Surface) → samePlace a b ≡ true → sizeOf a ≡ sizeOf b → a ≡ b
-unfolding samePlace
+same-surface : (a b : Surface) → aliases a b ≡ true → sizeOf a ≡ sizeOf b → a ≡ b
+unfolding aliases
 same-surface a b e z =
     let first = and-true (eqb (a .address) (b .address) && eqb (a .stride) (b .stride)) (sameFormat (a .format) (b .format)) e in
     let two = and-true (eqb (a .address) (b .address)) (eqb (a .stride) (b .stride)) (first .0) in
@@ -127,11 +127,11 @@ same-surface a b e z =
     (ap (λ (z : Size). z .height) z)
     (same-format (a .format) (b .format) (first .1))
 
-separate-or-same : (a b : Surface) → meet a b && not (samePlace a b) ≡ false → sizeOf a ≡ sizeOf b → Separate a b ⊎ (a ≡ b)
-separate-or-same a b e z = go (meet a b) refl
+separate-or-same : (a b : Surface) → surfacesOverlap a b && not (aliases a b) ≡ false → sizeOf a ≡ sizeOf b → DisjointRows a b ⊎ (a ≡ b)
+separate-or-same a b e z = go (surfacesOverlap a b) refl
   where
-    go : (t : Bool) → meet a b ≡ t → Separate a b ⊎ (a ≡ b)
-    go true s = inr (same-surface a b (not-false (samePlace a b) (and-false (meet a b) (not (samePlace a b)) s e)) z)
+    go : (t : Bool) → surfacesOverlap a b ≡ t → DisjointRows a b ⊎ (a ≡ b)
+    go true s = inr (same-surface a b (not-false (aliases a b) (and-false (surfacesOverlap a b) (not (aliases a b)) s e)) z)
     go false s = inl (separate a b s)
 
 -- ---- all of them
@@ -141,75 +141,75 @@ pub record Kept (bounds : Bounds) (t : Task) : Type 0 where
   pub surfaces : badSurface t ≡ false
   pub sizes : sizeMismatch t ≡ false
   pub bounded : outOfBounds bounds t ≡ false
-  pub separate : overlap t ≡ false
+  pub separate : outputOverlaps t ≡ false
 
-kept : (bounds : Bounds) (t : Task) → taskFault bounds t ≡ Fine → Kept bounds t
-unfolding taskFault
+kept : (bounds : Bounds) (t : Task) → checkTask bounds t ≡ Valid → Kept bounds t
+unfolding checkTask
 kept bounds t e =
     let r25 = passed (badSurface t) BadSurface _ e in
     let r26 = passed (sizeMismatch t) SizeMismatch _ (r25 .1) in
     let r27 = passed (outOfBounds bounds t) OutOfBounds _ (r26 .1) in
-    let r28 = passed (overlap t) Overlap _ (r27 .1) in
+    let r28 = passed (outputOverlaps t) Overlap _ (r27 .1) in
     record { surfaces = r25 .0; sizes = r26 .0; bounded = r27 .0; separate = r28 .0 }
 
 -- the source, read from memory
-sound-source : (bounds : Bounds) (t : Task) → Kept bounds t → reads (t .source) ≡ true → SoundSource bounds (t .source) (t .output)
-unfolding badSurface badSource outOfBounds overlap
+sound-source : (bounds : Bounds) (t : Task) → Kept bounds t → isBufferSource (t .source) ≡ true → SoundSource bounds (t .source) (t .output)
+unfolding badSurface badSource outOfBounds outputOverlaps
 sound-source bounds t k on =
     let s = t .source .surface in
     let r25 = or-false3 (badSource (t .source)) (badOutput (t .output)) (t .blending .on && badDestination (t .destination)) (k .surfaces) in
-    let own = or-false3 (badSides s) (reads (t .source) && badStride s) (not (t .source .enabled)) (r25 .0) in
-    let r27 = or-false3 (reads (t .source) && not (inReach bounds s)) (not (inWindow bounds (t .output))) (t .blending .on && not (inReach bounds (t .destination .surface))) (k .bounded) in
-    let r28 = or-false (reads (t .source) && meet s (t .output)) _ (k .separate) in
+    let own = or-false3 (badSides s) (isBufferSource (t .source) && badStride s) (not (t .source .enabled)) (r25 .0) in
+    let r27 = or-false3 (isBufferSource (t .source) && not (isReadable bounds s)) (not (isWritableSpan bounds (t .output))) (t .blending .on && not (isReadable bounds (t .destination .surface))) (k .bounded) in
+    let r28 = or-false (isBufferSource (t .source) && surfacesOverlap s (t .output)) _ (k .separate) in
     record {
-      rows = rows s (own .0) (and-false (reads (t .source)) (badStride s) on (own .1));
-      reach = in-reach bounds s (not-false (inReach bounds s) (and-false (reads (t .source)) (not (inReach bounds s)) on (r27 .0)));
-      separate = separate s (t .output) (and-false (reads (t .source)) (meet s (t .output)) on (r28 .0));
+      rows = rows s (own .0) (and-false (isBufferSource (t .source)) (badStride s) on (own .1));
+      reach = is-readable bounds s (not-false (isReadable bounds s) (and-false (isBufferSource (t .source)) (not (isReadable bounds s)) on (r27 .0)));
+      separate = separate s (t .output) (and-false (isBufferSource (t .source)) (surfacesOverlap s (t .output)) on (r28 .0));
     }
 
 -- the destination, while blending
 sound-destination : (bounds : Bounds) (t : Task) → Kept bounds t → t .blending .on ≡ true → SoundDestination bounds (t .destination) (t .output)
-unfolding badSurface badDestination sizeMismatch outOfBounds overlap
+unfolding badSurface badDestination sizeMismatch outOfBounds outputOverlaps
 sound-destination bounds t k on =
     let d = t .destination .surface in
     let b = t .blending .on in
     let r25 = or-false3 (badSource (t .source)) (badOutput (t .output)) (b && badDestination (t .destination)) (k .surfaces) in
     let own = or-false3 (badSides d) (badStride d) (not (t .destination .enabled)) (and-false b (badDestination (t .destination)) on (r25 .2)) in
-    let r26 = or-false3 (turnedColour (t .source)) (not (sameSize (sizeOf (t .output)) (turnedSize (t .source)))) (b && not (sameSize (sizeOf d) (sizeOf (t .output)))) (k .sizes) in
-    let r27 = or-false3 (reads (t .source) && not (inReach bounds (t .source .surface))) (not (inWindow bounds (t .output))) (b && not (inReach bounds d)) (k .bounded) in
-    let r28 = or-false (reads (t .source) && meet (t .source .surface) (t .output)) _ (k .separate) in
+    let r26 = or-false3 (rotatedFill (t .source)) (not (sameSize (sizeOf (t .output)) (rotatedSourceSize (t .source)))) (b && not (sameSize (sizeOf d) (sizeOf (t .output)))) (k .sizes) in
+    let r27 = or-false3 (isBufferSource (t .source) && not (isReadable bounds (t .source .surface))) (not (isWritableSpan bounds (t .output))) (b && not (isReadable bounds d)) (k .bounded) in
+    let r28 = or-false (isBufferSource (t .source) && surfacesOverlap (t .source .surface) (t .output)) _ (k .separate) in
     let z = same-size (sizeOf d) (sizeOf (t .output)) (not-false (sameSize (sizeOf d) (sizeOf (t .output))) (and-false b (not (sameSize (sizeOf d) (sizeOf (t .output)))) on (r26 .2))) in
     record {
       rows = rows d (own .0) (own .1);
       enabled = not-false (t .destination .enabled) (own .2);
       size = z;
-      reach = in-reach bounds d (not-false (inReach bounds d) (and-false b (not (inReach bounds d)) on (r27 .2)));
-      separate = separate-or-same d (t .output) (and-last b (meet d (t .output)) (not (samePlace d (t .output))) on (r28 .1)) z;
+      reach = is-readable bounds d (not-false (isReadable bounds d) (and-false b (not (isReadable bounds d)) on (r27 .2)));
+      separate = separate-or-same d (t .output) (and-last b (surfacesOverlap d (t .output)) (not (aliases d (t .output))) on (r28 .1)) z;
     }
   where
     and-last : (a b c : Bool) → a ≡ true → a && b && c ≡ false → b && c ≡ false
     and-last true b c h e = e
     and-last false b c h e = absurd (false≢true h)
 
-pub passes : (bounds : Bounds) (t : Task) → taskFault bounds t ≡ Fine → Sound bounds t
+pub passes : (bounds : Bounds) (t : Task) → checkTask bounds t ≡ Valid → Sound bounds t
 unfolding badSurface badSource badOutput sizeMismatch outOfBounds
 passes bounds t e =
     let k = kept bounds t e in
     let s = t .source .surface in
     let r25 = or-false3 (badSource (t .source)) (badOutput (t .output)) (t .blending .on && badDestination (t .destination)) (k .surfaces) in
-    let source = or-false3 (badSides s) (reads (t .source) && badStride s) (not (t .source .enabled)) (r25 .0) in
+    let source = or-false3 (badSides s) (isBufferSource (t .source) && badStride s) (not (t .source .enabled)) (r25 .0) in
     let output = or-false (badSides (t .output)) (badStride (t .output)) (r25 .1) in
-    let turned = sameSize (sizeOf (t .output)) (turnedSize (t .source)) in
-    let r26 = or-false3 (turnedColour (t .source)) (not turned) (t .blending .on && not (sameSize (sizeOf (t .destination .surface)) (sizeOf (t .output)))) (k .sizes) in
-    let r27 = or-false3 (reads (t .source) && not (inReach bounds s)) (not (inWindow bounds (t .output))) (t .blending .on && not (inReach bounds (t .destination .surface))) (k .bounded) in
+    let turned = sameSize (sizeOf (t .output)) (rotatedSourceSize (t .source)) in
+    let r26 = or-false3 (rotatedFill (t .source)) (not turned) (t .blending .on && not (sameSize (sizeOf (t .destination .surface)) (sizeOf (t .output)))) (k .sizes) in
+    let r27 = or-false3 (isBufferSource (t .source) && not (isReadable bounds s)) (not (isWritableSpan bounds (t .output))) (t .blending .on && not (isReadable bounds (t .destination .surface))) (k .bounded) in
     record {
       sides = sides s (source .0);
       enabled = not-false (t .source .enabled) (source .2);
       upright = λ off. upright (t .source .transform .rotation)
-          (not-false (isUpright (t .source .transform .rotation)) (and-false (not (reads (t .source))) (not (isUpright (t .source .transform .rotation))) (ap not off) (r26 .0)));
+          (not-false (isUnrotated (t .source .transform .rotation)) (and-false (not (isBufferSource (t .source))) (not (isUnrotated (t .source .transform .rotation))) (ap not off) (r26 .0)));
       source = sound-source bounds t k;
       rows = rows (t .output) (output .0) (output .1);
-      size = same-size (sizeOf (t .output)) (turnedSize (t .source)) (not-false turned (r26 .1));
-      within = inside-ends (span (t .output)) (bounds .window) (not-false (inWindow bounds (t .output)) (r27 .1));
+      size = same-size (sizeOf (t .output)) (rotatedSourceSize (t .source)) (not-false turned (r26 .1));
+      within = inside-ends (span (t .output)) (bounds .window) (not-false (isWritableSpan bounds (t .output)) (r27 .1));
       destination = sound-destination bounds t k;
     }

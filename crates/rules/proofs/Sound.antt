@@ -6,15 +6,15 @@ use mathlib.Core.Bool.{true, false}
 use mathlib.Core.Logic.{_⊎_}
 use mathlib.Core.List.{List, [], _∷_}
 use Rattle.range.specs.declared.Range.{Range}
-use Rattle.transform.specs.declared.Rotation.the-variants.{Upright}
-use Rattle.surface.specs.Surface.{rowLength, span, Separate}
+use Rattle.transform.specs.declared.Rotation.the-variants.{Rotate0}
+use Rattle.surface.specs.Surface.{rowLength, span, DisjointRows}
 use Rattle.surface.specs.declared.Surface.{Surface}
 use Rattle.register.specs.declared.task.Source.{Source}
 use Rattle.register.specs.declared.task.Destination.{Destination}
 use Rattle.register.specs.declared.task.Task.{Task}
 use Rattle.register.specs.Size.{sizeOf}
 use Rattle.rules.specs.declared.task.Bounds.{Bounds}
-use Rattle.rules.specs.Rules.{reads, turnedSize, commonOf}
+use Rattle.rules.specs.Rules.{isBufferSource, rotatedSourceSize, commonOf}
 
 pub record Sides (s : Surface) : Type 0 where
   pub wide : 0 < s .width
@@ -41,7 +41,7 @@ InReach bounds r = Within r (bounds .window) ⊎ Within r (commonOf bounds)
 pub record SoundSource (bounds : Bounds) (s : Source) (output : Surface) : Type 0 where
   pub rows : Rows (s .surface)
   pub reach : InReach bounds (span (s .surface))
-  pub separate : Separate (s .surface) output
+  pub separate : DisjointRows (s .surface) output
 
 -- what the destination is, while blending: separate from the output, or the output itself, pixel by pixel
 pub record SoundDestination (bounds : Bounds) (d : Destination) (output : Surface) : Type 0 where
@@ -49,15 +49,15 @@ pub record SoundDestination (bounds : Bounds) (d : Destination) (output : Surfac
   pub enabled : d .enabled ≡ true
   pub size : sizeOf (d .surface) ≡ sizeOf output
   pub reach : InReach bounds (span (d .surface))
-  pub separate : Separate (d .surface) output ⊎ (d .surface ≡ output)
+  pub separate : DisjointRows (d .surface) output ⊎ (d .surface ≡ output)
 
 pub record Sound (bounds : Bounds) (t : Task) : Type 0 where
   pub sides : Sides (t .source .surface)
   pub enabled : t .source .enabled ≡ true
-  pub upright : reads (t .source) ≡ false → t .source .transform .rotation ≡ Upright
-  pub source : reads (t .source) ≡ true → SoundSource bounds (t .source) (t .output)
+  pub upright : isBufferSource (t .source) ≡ false → t .source .transform .rotation ≡ Rotate0
+  pub source : isBufferSource (t .source) ≡ true → SoundSource bounds (t .source) (t .output)
   pub rows : Rows (t .output)
-  pub size : sizeOf (t .output) ≡ turnedSize (t .source)
+  pub size : sizeOf (t .output) ≡ rotatedSourceSize (t .source)
   pub within : Within (span (t .output)) (bounds .window)
   pub destination : t .blending .on ≡ true → SoundDestination bounds (t .destination) (t .output)
 

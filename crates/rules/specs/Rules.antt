@@ -3,16 +3,16 @@
 use Prim.Native.Nat.{ℕ, _%_}
 use mathlib.Core.Bool.{Bool, true, false, cond, not, _&&_, _||_}
 use lib.Dec.{eqb, ltb}
-use Rattle.range.specs.Range.{inside}
+use Rattle.range.specs.Range.{containedIn}
 use Rattle.range.specs.declared.Range.{Range}
 use Rattle.pixel.specs.Formats.{layoutOf}
 use Rattle.pixel.specs.declared.format.Format.{Format}
 use Rattle.transform.specs.Transform.{rotatedSize}
 use Rattle.transform.specs.declared.Rotation.{Rotation}
-use Rattle.transform.specs.declared.Rotation.the-variants.{Upright, Clockwise, Half, CounterClockwise}
+use Rattle.transform.specs.declared.Rotation.the-variants.{Rotate0, Rotate90, Rotate180, Rotate270}
 use Rattle.transform.specs.declared.Size.{Size}
 use Rattle.surface.specs.Surface.{rowLength, span}
-use Rattle.surface.specs.Meet.{meet}
+use Rattle.surface.specs.Meet.{surfacesOverlap}
 use Rattle.surface.specs.declared.Surface.{Surface}
 use Rattle.register.specs.Task.{isBuffer}
 use Rattle.register.specs.declared.task.Source.{Source}
@@ -21,12 +21,12 @@ use Rattle.register.specs.declared.task.Task.{Task}
 use Rattle.register.specs.Size.{sizeOf}
 use Rattle.rules.specs.declared.task.Bounds.{Bounds}
 use Rattle.rules.specs.declared.task.Check.{Check}
-use Rattle.rules.specs.declared.task.Check.the-variants.{Fine, Wrong}
+use Rattle.rules.specs.declared.task.Check.the-variants.{Valid, Invalid}
 use Rattle.rules.specs.declared.fault.Fault.the-variants.{BadSurface, SizeMismatch, OutOfBounds, Overlap}
 
 -- the source is read from memory
-abbrev pub reads : Source → Bool
-reads s = isBuffer (s .mode)
+abbrev pub isBufferSource : Source → Bool
+isBufferSource s = isBuffer (s .mode)
 
 -- ---- 25
 
@@ -43,7 +43,7 @@ badStride s = ltb 0 (s .stride % 8) || ltb (s .stride) (rowLength s)
 
 -- source disabled, too
 unfoldable pub badSource : Source → Bool
-badSource s = badSides (s .surface) || (reads s && badStride (s .surface)) || not (s .enabled)
+badSource s = badSides (s .surface) || (isBufferSource s && badStride (s .surface)) || not (s .enabled)
 
 unfoldable pub badOutput : Surface → Bool
 badOutput s = badSides s || badStride s
@@ -58,19 +58,19 @@ badSurface t = badSource (t .source) || badOutput (t .output) || (t .blending .o
 
 -- ---- 26
 
-abbrev pub isUpright : Rotation → Bool
-isUpright Upright = true
-isUpright Clockwise = false
-isUpright Half = false
-isUpright CounterClockwise = false
+abbrev pub isUnrotated : Rotation → Bool
+isUnrotated Rotate0 = true
+isUnrotated Rotate90 = false
+isUnrotated Rotate180 = false
+isUnrotated Rotate270 = false
 
 -- a turn in colour mode
-abbrev pub turnedColour : Source → Bool
-turnedColour s = not (reads s) && not (isUpright (s .transform .rotation))
+abbrev pub rotatedFill : Source → Bool
+rotatedFill s = not (isBufferSource s) && not (isUnrotated (s .transform .rotation))
 
 -- the turned source size
-abbrev pub turnedSize : Source → Size
-turnedSize s = rotatedSize (s .transform .rotation) (sizeOf (s .surface))
+abbrev pub rotatedSourceSize : Source → Size
+rotatedSourceSize s = rotatedSize (s .transform .rotation) (sizeOf (s .surface))
 
 abbrev pub sameSize : Size → Size → Bool
 sameSize a b = eqb (a .width) (b .width) && eqb (a .height) (b .height)
@@ -78,29 +78,29 @@ sameSize a b = eqb (a .width) (b .width) && eqb (a .height) (b .height)
 -- a turn in colour mode; output size not the turned source size; blending, destination size not output size
 unfoldable pub sizeMismatch : Task → Bool
 sizeMismatch t =
-    turnedColour (t .source)
-    || not (sameSize (sizeOf (t .output)) (turnedSize (t .source)))
+    rotatedFill (t .source)
+    || not (sameSize (sizeOf (t .output)) (rotatedSourceSize (t .source)))
     || (t .blending .on && not (sameSize (sizeOf (t .destination .surface)) (sizeOf (t .output))))
 
 -- ---- 27
 
 -- a span wholly in the client's window
-abbrev pub inWindow : Bounds → Surface → Bool
-inWindow bounds s = inside (span s) (bounds .window)
+abbrev pub isWritableSpan : Bounds → Surface → Bool
+isWritableSpan bounds s = containedIn (span s) (bounds .window)
 
 -- common is the first part of memory
 abbrev pub commonOf : Bounds → Range
 commonOf bounds = record { start = 0; end = bounds .common }
 
 -- or, for what is read, wholly in common
-abbrev pub inReach : Bounds → Surface → Bool
-inReach bounds s = inWindow bounds s || inside (span s) (commonOf bounds)
+abbrev pub isReadable : Bounds → Surface → Bool
+isReadable bounds s = isWritableSpan bounds s || containedIn (span s) (commonOf bounds)
 
 unfoldable pub outOfBounds : Bounds → Task → Bool
 outOfBounds bounds t =
-    (reads (t .source) && not (inReach bounds (t .source .surface)))
-    || not (inWindow bounds (t .output))
-    || (t .blending .on && not (inReach bounds (t .destination .surface)))
+    (isBufferSource (t .source) && not (isReadable bounds (t .source .surface)))
+    || not (isWritableSpan bounds (t .output))
+    || (t .blending .on && not (isReadable bounds (t .destination .surface)))
 
 -- ---- 28 (02, request 7)
 
@@ -108,21 +108,21 @@ abbrev pub sameFormat : Format → Format → Bool
 sameFormat a b = eqb (layoutOf a .code) (layoutOf b .code)
 
 -- address, stride and format are equal
-unfoldable pub samePlace : Surface → Surface → Bool
-samePlace a b = eqb (a .address) (b .address) && eqb (a .stride) (b .stride) && sameFormat (a .format) (b .format)
+unfoldable pub aliases : Surface → Surface → Bool
+aliases a b = eqb (a .address) (b .address) && eqb (a .stride) (b .stride) && sameFormat (a .format) (b .format)
 
 -- source and output meet: with equal strides in rows, else in spans; blending, destination and output meet, unless they are at the same place
-unfoldable pub overlap : Task → Bool
-overlap t =
-    (reads (t .source) && meet (t .source .surface) (t .output))
-    || (t .blending .on && meet (t .destination .surface) (t .output) && not (samePlace (t .destination .surface) (t .output)))
+unfoldable pub outputOverlaps : Task → Bool
+outputOverlaps t =
+    (isBufferSource (t .source) && surfacesOverlap (t .source .surface) (t .output))
+    || (t .blending .on && surfacesOverlap (t .destination .surface) (t .output) && not (aliases (t .destination .surface) (t .output)))
 
 -- ---- the lowest number first, over all surfaces
 
-unfoldable pub taskFault : Bounds → Task → Check
-taskFault bounds t =
-    cond (badSurface t) (Wrong BadSurface)
-    (cond (sizeMismatch t) (Wrong SizeMismatch)
-    (cond (outOfBounds bounds t) (Wrong OutOfBounds)
-    (cond (overlap t) (Wrong Overlap)
-    Fine)))
+unfoldable pub checkTask : Bounds → Task → Check
+checkTask bounds t =
+    cond (badSurface t) (Invalid BadSurface)
+    (cond (sizeMismatch t) (Invalid SizeMismatch)
+    (cond (outOfBounds bounds t) (Invalid OutOfBounds)
+    (cond (outputOverlaps t) (Invalid Overlap)
+    Valid)))

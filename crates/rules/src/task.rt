@@ -1,6 +1,6 @@
 // The rules of a task. Each test is true where the task breaks the rule.
 ghost use mathlib.Core.Path.{_≡_};
-ghost use Rattle.rules.specs.Rules.{badSide, badSides, badStride, badSource, badOutput, badDestination, badSurface, isUpright, turnedColour, turnedSize, sameSize, sizeMismatch, inWindow, inReach, outOfBounds, sameFormat, samePlace, overlap, taskFault};
+ghost use Rattle.rules.specs.Rules.{badSide, badSides, badStride, badSource, badOutput, badDestination, badSurface, isUnrotated, rotatedFill, rotatedSourceSize, sameSize, sizeMismatch, isWritableSpan, isReadable, outOfBounds, sameFormat, aliases, outputOverlaps, checkTask};
 use crate::fault::Fault;
 use pixel::Format;
 use range::Range;
@@ -20,8 +20,8 @@ pub struct Bounds {
 
 // What is wrong with a task.
 pub enum Check {
-    Fine,
-    Wrong(Fault),
+    Valid,
+    Invalid(Fault),
 }
 
 fn bad_side(side: u16) -> bool
@@ -67,25 +67,25 @@ fn bad_surface(t: Task) -> bool
     bad_source(t.source) | bad_output(t.output) | (t.blending.on & bad_destination(t.destination))
 }
 
-fn is_upright(rotation: Rotation) -> bool
-    ensures { λ r. ⌜ r ≡ isUpright rotation ⌝ }
+fn is_unrotated(rotation: Rotation) -> bool
+    ensures { λ r. ⌜ r ≡ isUnrotated rotation ⌝ }
 {
     match rotation {
-        Rotation::Upright => true,
-        Rotation::Clockwise => false,
-        Rotation::Half => false,
-        Rotation::CounterClockwise => false,
+        Rotation::Rotate0 => true,
+        Rotation::Rotate90 => false,
+        Rotation::Rotate180 => false,
+        Rotation::Rotate270 => false,
     }
 }
 
 // A colour has no direction, so nothing can be turned.
-fn turned_colour(s: Source) -> bool
-    ensures { λ r. ⌜ r ≡ turnedColour s ⌝ }
+fn rotated_fill(s: Source) -> bool
+    ensures { λ r. ⌜ r ≡ rotatedFill s ⌝ }
 {
     let mode = s.mode;
     let transform = s.transform;
     let rotation = transform.rotation;
-    !mode.is_buffer() & !is_upright(rotation)
+    !mode.is_buffer() & !is_unrotated(rotation)
 }
 
 fn size_of(s: Surface) -> Size
@@ -97,8 +97,8 @@ fn size_of(s: Surface) -> Size
     }
 }
 
-fn turned_size(s: Source) -> Size
-    ensures { λ r. ⌜ r ≡ turnedSize s ⌝ }
+fn rotated_source_size(s: Source) -> Size
+    ensures { λ r. ⌜ r ≡ rotatedSourceSize s ⌝ }
 {
     let transform = s.transform;
     let rotation = transform.rotation;
@@ -114,21 +114,21 @@ fn same_size(a: Size, b: Size) -> bool
 fn size_mismatch(t: Task) -> bool
     ensures { λ r. ⌜ r ≡ sizeMismatch t ⌝ }
 {
-    turned_colour(t.source)
-        | !same_size(size_of(t.output), turned_size(t.source))
+    rotated_fill(t.source)
+        | !same_size(size_of(t.output), rotated_source_size(t.source))
         | (t.blending.on & !same_size(size_of(t.destination.surface), size_of(t.output)))
 }
 
-fn in_window(bounds: Bounds, s: Surface) -> bool
-    ensures { λ r. ⌜ r ≡ inWindow bounds s ⌝ }
+fn is_writable_span(bounds: Bounds, s: Surface) -> bool
+    ensures { λ r. ⌜ r ≡ isWritableSpan bounds s ⌝ }
 {
     s.is_inside(bounds.window)
 }
 
-fn in_reach(bounds: Bounds, s: Surface) -> bool
-    ensures { λ r. ⌜ r ≡ inReach bounds s ⌝ }
+fn is_readable(bounds: Bounds, s: Surface) -> bool
+    ensures { λ r. ⌜ r ≡ isReadable bounds s ⌝ }
 {
-    in_window(bounds, s)
+    is_writable_span(bounds, s)
         | s.is_inside(Range {
             start: 0,
             end: bounds.common,
@@ -140,9 +140,9 @@ fn out_of_bounds(bounds: Bounds, t: Task) -> bool
 {
     let source = t.source;
     let mode = source.mode;
-    (mode.is_buffer() & !in_reach(bounds, source.surface))
-        | !in_window(bounds, t.output)
-        | (t.blending.on & !in_reach(bounds, t.destination.surface))
+    (mode.is_buffer() & !is_readable(bounds, source.surface))
+        | !is_writable_span(bounds, t.output)
+        | (t.blending.on & !is_readable(bounds, t.destination.surface))
 }
 
 fn same_format(a: Format, b: Format) -> bool
@@ -151,8 +151,8 @@ fn same_format(a: Format, b: Format) -> bool
     a.layout().code == b.layout().code
 }
 
-fn same_place(a: Surface, b: Surface) -> bool
-    ensures { λ r. ⌜ r ≡ samePlace a b ⌝ }
+fn is_alias(a: Surface, b: Surface) -> bool
+    ensures { λ r. ⌜ r ≡ aliases a b ⌝ }
 {
     let f = a.format;
     let g = b.format;
@@ -160,30 +160,30 @@ fn same_place(a: Surface, b: Surface) -> bool
 }
 
 fn overlaps(t: Task) -> bool
-    ensures { λ r. ⌜ r ≡ overlap t ⌝ }
+    ensures { λ r. ⌜ r ≡ outputOverlaps t ⌝ }
 {
     let source = t.source;
     let mode = source.mode;
     let d = t.destination.surface;
     (mode.is_buffer() & source.surface.meets(t.output))
-        | (t.blending.on & d.meets(t.output) & !same_place(d, t.output))
+        | (t.blending.on & d.meets(t.output) & !is_alias(d, t.output))
 }
 
 // The first rule, in the order of their numbers, that a task breaks.
 pub fn check_task(bounds: Bounds, t: Task) -> Check
-    ensures { λ r. ⌜ r ≡ taskFault bounds t ⌝ }
+    ensures { λ r. ⌜ r ≡ checkTask bounds t ⌝ }
 {
     if bad_surface(t) {
-        return Check::Wrong(Fault::BadSurface);
+        return Check::Invalid(Fault::BadSurface);
     }
     if size_mismatch(t) {
-        return Check::Wrong(Fault::SizeMismatch);
+        return Check::Invalid(Fault::SizeMismatch);
     }
     if out_of_bounds(bounds, t) {
-        return Check::Wrong(Fault::OutOfBounds);
+        return Check::Invalid(Fault::OutOfBounds);
     }
     if overlaps(t) {
-        return Check::Wrong(Fault::Overlap);
+        return Check::Invalid(Fault::Overlap);
     }
-    Check::Fine
+    Check::Valid
 }

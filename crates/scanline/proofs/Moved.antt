@@ -12,8 +12,8 @@ use Rattle.pixel.specs.Formats.{layoutOf}
 use Rattle.pixel.specs.Colours.{packed, unpacked}
 use Rattle.pixel.specs.declared.format.Format.the-variants.{Argb8888}
 use Rattle.pixel.proofs.Stored.{stored-same}
-use Rattle.surface.specs.Memory.{within, number, pixelAt}
-use Rattle.surface.specs.Drawn.{loaded, stored}
+use Rattle.surface.specs.Memory.{overwriteRange, littleEndian, pixelAt}
+use Rattle.surface.specs.Drawn.{loadPixel, storePixel}
 use Rattle.surface.proofs.Mapi.{is-mapi}
 use Rattle.surface.proofs.Parts.{Side, before, inside, past, side, within-before, within-in, within-past}
 use Rattle.rows.specs.Row.{wordColour}
@@ -35,10 +35,10 @@ four-first xs i h =
 
 pixel-word : (memory : List ℕ) (i : ℕ) → i + 4 ≤ length memory → pixelAt 4 memory i ≡ le32At memory i
 unfolding pixelAt le32At
-pixel-word memory i h = ap (λ (xs : List ℕ). number (take 4 xs)) (four-first memory i h) ∙ omega arith
+pixel-word memory i h = ap (λ (xs : List ℕ). littleEndian (take 4 xs)) (four-first memory i h) ∙ omega arith
 
-pub word-loaded : (memory : List ℕ) (i : ℕ) → i + 4 ≤ length memory → wordColour (le32At memory i) ≡ loaded Argb8888 memory i
-unfolding loaded
+pub word-loaded : (memory : List ℕ) (i : ℕ) → i + 4 ≤ length memory → wordColour (le32At memory i) ≡ loadPixel Argb8888 memory i
+unfolding loadPixel
 word-loaded memory i h = ap (unpacked (layoutOf Argb8888)) (sym (pixel-word memory i h))
 
 -- ---- stored
@@ -56,8 +56,8 @@ unfolding leBytes
 four-bytes word = refl
 
 pub word-stored : (row : List ℕ) (at word : ℕ) → at + 4 ≤ length row → word < 2 ^ 32 →
-    spliced at (leBytes word) row ≡ stored Argb8888 row at (wordColour word)
-unfolding stored
+    spliced at (leBytes word) row ≡ storePixel Argb8888 row at (wordColour word)
+unfolding storePixel
 word-stored row at word h small = is-mapi _ row (spliced at bytes row) (length-spliced at bytes row fits) (λ i l. byte i (side at 4 i))
   where
     bytes : List ℕ
@@ -72,7 +72,7 @@ word-stored row at word h small = is-mapi _ row (spliced at bytes row) (length-s
     p : ℕ → ℕ → ℕ
     p k old = byteOf (packed (layoutOf Argb8888) (wordColour word)) k
 
-    byte : (i : ℕ) → Side at 4 i → getD (spliced at bytes row) i 0 ≡ within at 4 p i (getD row i 0)
+    byte : (i : ℕ) → Side at 4 i → getD (spliced at bytes row) i 0 ≡ overwriteRange at 4 p i (getD row i 0)
     byte i (before u) = spliced-before at bytes row fits i u ∙ sym (within-before at 4 p i (getD row i 0) u)
     byte i (inside u v) =
         spliced-in at bytes row fits i u (omega (arith, four))

@@ -2,8 +2,8 @@
 ghost use mathlib.Core.Path.{_≡_};
 ghost use Prim.Native.Nat.{_+_, _*_, _≤_};
 ghost use lib.ListN.{length};
-ghost use Rattle.surface.specs.Drawn.{loaded, stored};
-ghost use Rattle.rows.specs.Row.{wordColour, rowOf, Wide};
+ghost use Rattle.surface.specs.Drawn.{loadPixel, storePixel};
+ghost use Rattle.rows.specs.Row.{wordColour, rowStored, RowIsWide};
 use pixel::Colour;
 use pixel::Format;
 use word::read_le32;
@@ -19,7 +19,7 @@ pub fn word_of(c: Colour) -> u32
 // The word of the pixel at an address.
 pub fn load_word(memory: &[u8], at: usize) -> u32
     requires { ⌜ at + 4 ≤ length (now memory) ⌝ }
-    ensures { λ r. ⌜ wordColour r ≡ loaded Format.Argb8888 (now (memory .entry)) at ⌝ }
+    ensures { λ r. ⌜ wordColour r ≡ loadPixel Format.Argb8888 (now (memory .entry)) at ⌝ }
 {
     read_le32(memory, at)
 }
@@ -27,15 +27,15 @@ pub fn load_word(memory: &[u8], at: usize) -> u32
 // Stores a word as the pixel at an address.
 pub fn store_word(row: &mut [u8], at: usize, word: u32)
     requires { ⌜ at + 4 ≤ length (now row) ⌝ }
-    ensures { λ _. ⌜ now (row .exit) ≡ stored Format.Argb8888 (now (row .entry)) at (wordColour word) ⌝ }
+    ensures { λ _. ⌜ now (row .exit) ≡ storePixel Format.Argb8888 (now (row .entry)) at (wordColour word) ⌝ }
 {
     write_le32(row, at, word);
 }
 
 // Stores one word in all of a row.
 pub fn fill_words(row: &mut [u8], width: usize, word: u32)
-    requires { ⌜ Wide (now row) width Format.Argb8888 ⌝ }
-    ensures { λ _. ⌜ now (row .exit) ≡ rowOf Format.Argb8888 (λ x. wordColour word) (now (row .entry)) ⌝ }
+    requires { ⌜ RowIsWide (now row) width Format.Argb8888 ⌝ }
+    ensures { λ _. ⌜ now (row .exit) ≡ rowStored Format.Argb8888 (λ x. wordColour word) (now (row .entry)) ⌝ }
 {
     let mut x = 0;
     let mut at = 0;

@@ -3,9 +3,9 @@ ghost use mathlib.Core.Path.{_≡_};
 ghost use mathlib.Core.Bool.{false};
 ghost use Prim.Native.Nat.{_+_, _*_, _≤_};
 ghost use lib.ListN.{length};
-ghost use Rattle.pixel.specs.Formats.{bytesOf};
-ghost use Rattle.surface.specs.Drawn.{loaded};
-ghost use Rattle.rows.specs.Row.{Spells, colourAt, originOf, Along, rowOf, Wide};
+ghost use Rattle.pixel.specs.Formats.{bytesPerPixel};
+ghost use Rattle.surface.specs.Drawn.{loadPixel};
+ghost use Rattle.rows.specs.Row.{HoldsColours, colourAt, sourcePixelOf, FetchInBounds, rowStored, RowIsWide};
 use crate::argb::fill_words;
 use crate::argb::word_of;
 use crate::steps::fetch_steps;
@@ -25,7 +25,7 @@ use transform::Transform;
 // Puts a colour in the first pixels of a buffer.
 pub fn spread(buffer: &mut [u8], width: usize, c: Colour)
     requires { ⌜ width * 4 ≤ length (now buffer) ⌝ }
-    ensures { λ _. ⌜ Spells (now (buffer .exit)) width (λ x. c) ⌝ }
+    ensures { λ _. ⌜ HoldsColours (now (buffer .exit)) width (λ x. c) ⌝ }
 {
     let n = width * 4;
     fill_words(&mut buffer[0..n], width, word_of(c));
@@ -33,8 +33,8 @@ pub fn spread(buffer: &mut [u8], width: usize, c: Colour)
 
 // Makes all of a buffer of a row of any format.
 fn widen(buffer: &mut [u8], row: &[u8], width: usize, format: Format)
-    requires { ⌜ (Wide (now buffer) width Format.Argb8888) × (width * bytesOf format ≤ length (now row)) ⌝ }
-    ensures { λ _. ⌜ now (buffer .exit) ≡ rowOf Format.Argb8888 (λ x. loaded format (now (row .entry)) (x * bytesOf format)) (now (buffer .entry)) ⌝ }
+    requires { ⌜ (RowIsWide (now buffer) width Format.Argb8888) × (width * bytesPerPixel format ≤ length (now row)) ⌝ }
+    ensures { λ _. ⌜ now (buffer .exit) ≡ rowStored Format.Argb8888 (λ x. loadPixel format (now (row .entry)) (x * bytesPerPixel format)) (now (buffer .entry)) ⌝ }
 {
     match format {
         Format::Argb8888 => {
@@ -54,8 +54,8 @@ fn widen(buffer: &mut [u8], row: &[u8], width: usize, format: Format)
 
 // Fetches pixels that lie side by side, the first of them at an address.
 pub fn fetch_row(buffer: &mut [u8], width: usize, memory: &[u8], start: usize, format: Format)
-    requires { ⌜ (start + width * bytesOf format ≤ length (now memory)) × (width * 4 ≤ length (now buffer)) ⌝ }
-    ensures { λ _. ⌜ Spells (now (buffer .exit)) width (λ x. loaded format (now (memory .entry)) (start + x * bytesOf format)) ⌝ }
+    requires { ⌜ (start + width * bytesPerPixel format ≤ length (now memory)) × (width * 4 ≤ length (now buffer)) ⌝ }
+    ensures { λ _. ⌜ HoldsColours (now (buffer .exit)) width (λ x. loadPixel format (now (memory .entry)) (start + x * bytesPerPixel format)) ⌝ }
 {
     let n = width * 4;
     let end = start + width * format.bytes();
@@ -71,8 +71,8 @@ fn fetch_straight(
     transform: Transform,
     y: usize,
 )
-    requires { ⌜ (Along (now memory) (now buffer) s (transform .rotation) y width) × (transform .rotation ≡ Rotation.Upright) × (transform .flip .horizontal ≡ false) ⌝ }
-    ensures { λ _. ⌜ Spells (now (buffer .exit)) width (λ x. colourAt s (now (memory .entry)) (originOf s transform x y)) ⌝ }
+    requires { ⌜ (FetchInBounds (now memory) (now buffer) s (transform .rotation) y width) × (transform .rotation ≡ Rotation.Rotate0) × (transform .flip .horizontal ≡ false) ⌝ }
+    ensures { λ _. ⌜ HoldsColours (now (buffer .exit)) width (λ x. colourAt s (now (memory .entry)) (sourcePixelOf s transform x y)) ⌝ }
 {
     // a row of no pixels has no first one
     if width == 0 {
@@ -91,8 +91,8 @@ fn fetch_turned(
     transform: Transform,
     y: usize,
 )
-    requires { ⌜ Along (now memory) (now buffer) s (transform .rotation) y width ⌝ }
-    ensures { λ _. ⌜ Spells (now (buffer .exit)) width (λ x. colourAt s (now (memory .entry)) (originOf s transform x y)) ⌝ }
+    requires { ⌜ FetchInBounds (now memory) (now buffer) s (transform .rotation) y width ⌝ }
+    ensures { λ _. ⌜ HoldsColours (now (buffer .exit)) width (λ x. colourAt s (now (memory .entry)) (sourcePixelOf s transform x y)) ⌝ }
 {
     if width == 0 {
         return;
@@ -114,8 +114,8 @@ pub fn fetch_along(
     transform: Transform,
     y: usize,
 )
-    requires { ⌜ Along (now memory) (now buffer) s (transform .rotation) y width ⌝ }
-    ensures { λ _. ⌜ Spells (now (buffer .exit)) width (λ x. colourAt s (now (memory .entry)) (originOf s transform x y)) ⌝ }
+    requires { ⌜ FetchInBounds (now memory) (now buffer) s (transform .rotation) y width ⌝ }
+    ensures { λ _. ⌜ HoldsColours (now (buffer .exit)) width (λ x. colourAt s (now (memory .entry)) (sourcePixelOf s transform x y)) ⌝ }
 {
     if is_straight(transform) {
         fetch_straight(buffer, width, memory, s, transform, y);

@@ -2,8 +2,8 @@
 ghost use mathlib.Core.Path.{_≡_};
 ghost use Prim.Native.Nat.{_*_, _≤_};
 ghost use lib.ListN.{length};
-ghost use Rattle.rows.specs.Row.{colourIn, Spells, rowOf, Wide};
-ghost use Rattle.rows.specs.Mixed.{mixed};
+ghost use Rattle.rows.specs.Row.{colourIn, HoldsColours, rowStored, RowIsWide};
+ghost use Rattle.rows.specs.Mixed.{composite};
 use crate::argb::fill_words;
 use crate::argb::word_of;
 use combine::plan_of;
@@ -19,8 +19,8 @@ use surface::store;
 
 // Stores one colour in all of a row.
 fn fill_pixels(row: &mut [u8], width: usize, format: Format, c: Colour)
-    requires { ⌜ Wide (now row) width format ⌝ }
-    ensures { λ _. ⌜ now (row .exit) ≡ rowOf format (λ x. c) (now (row .entry)) ⌝ }
+    requires { ⌜ RowIsWide (now row) width format ⌝ }
+    ensures { λ _. ⌜ now (row .exit) ≡ rowStored format (λ x. c) (now (row .entry)) ⌝ }
 {
     let bytes = format.bytes();
     let mut x = 0;
@@ -34,8 +34,8 @@ fn fill_pixels(row: &mut [u8], width: usize, format: Format, c: Colour)
 
 // The same, with a loop for each format: in each of them the format is a constant.
 pub fn fill_row(row: &mut [u8], width: usize, format: Format, c: Colour)
-    requires { ⌜ Wide (now row) width format ⌝ }
-    ensures { λ _. ⌜ now (row .exit) ≡ rowOf format (λ x. c) (now (row .entry)) ⌝ }
+    requires { ⌜ RowIsWide (now row) width format ⌝ }
+    ensures { λ _. ⌜ now (row .exit) ≡ rowStored format (λ x. c) (now (row .entry)) ⌝ }
 {
     match format {
         Format::Argb8888 => {
@@ -55,8 +55,8 @@ pub fn fill_row(row: &mut [u8], width: usize, format: Format, c: Colour)
 
 // Stores the colours of a buffer in all of a row.
 pub fn blit_row(row: &mut [u8], width: usize, format: Format, source: &[u8])
-    requires { ⌜ (Wide (now row) width format) × (width * 4 ≤ length (now source)) ⌝ }
-    ensures { λ _. ⌜ now (row .exit) ≡ rowOf format (λ x. colourIn (now (source .entry)) x) (now (row .entry)) ⌝ }
+    requires { ⌜ (RowIsWide (now row) width format) × (width * 4 ≤ length (now source)) ⌝ }
+    ensures { λ _. ⌜ now (row .exit) ≡ rowStored format (λ x. colourIn (now (source .entry)) x) (now (row .entry)) ⌝ }
 {
     match format {
         Format::Argb8888 => {
@@ -84,7 +84,7 @@ pub fn blend_row(
     destination_alpha: Alpha,
 )
     requires { ⌜ (width * 4 ≤ length (now source)) × (width * 4 ≤ length (now destination)) ⌝ }
-    ensures { λ _. ⌜ Spells (now (destination .exit)) width (λ x. mixed blending «source_alpha» «destination_alpha» (colourIn (now (source .entry)) x) (colourIn (now (destination .entry)) x)) ⌝ }
+    ensures { λ _. ⌜ HoldsColours (now (destination .exit)) width (λ x. composite blending «source_alpha» «destination_alpha» (colourIn (now (source .entry)) x) (colourIn (now (destination .entry)) x)) ⌝ }
 {
     let n = width * 4;
     let rule = blending.rule;

@@ -2,10 +2,10 @@
 ghost use mathlib.Core.Path.{_≡_};
 ghost use Prim.Native.Nat.{_+_, _≤_};
 ghost use lib.ListN.{length};
-ghost use Rattle.pixel.specs.Formats.{bytesOf};
-ghost use Rattle.surface.specs.Drawn.{loaded};
-ghost use Rattle.rows.specs.Row.{wordColour, Spells};
-ghost use Rattle.rows.specs.Step.{stepped, Steps};
+ghost use Rattle.pixel.specs.Formats.{bytesPerPixel};
+ghost use Rattle.surface.specs.Drawn.{loadPixel};
+ghost use Rattle.rows.specs.Row.{wordColour, HoldsColours};
+ghost use Rattle.rows.specs.Step.{stridedAddress, StridedFetchInBounds};
 use crate::argb::load_word;
 use crate::argb::store_word;
 use crate::argb::word_of;
@@ -15,8 +15,8 @@ use surface::load;
 
 // The word of the pixel at an address.
 fn load_as_word(memory: &[u8], at: usize, format: Format) -> u32
-    requires { ⌜ at + bytesOf format ≤ length (now memory) ⌝ }
-    ensures { λ r. ⌜ wordColour r ≡ loaded format (now (memory .entry)) at ⌝ }
+    requires { ⌜ at + bytesPerPixel format ≤ length (now memory) ⌝ }
+    ensures { λ r. ⌜ wordColour r ≡ loadPixel format (now (memory .entry)) at ⌝ }
 {
     match format {
         Format::Argb8888 => load_word(memory, at),
@@ -35,8 +35,8 @@ fn fetch_each(
     back: bool,
     format: Format,
 )
-    requires { ⌜ Steps (now memory) (now buffer) start step back width format ⌝ }
-    ensures { λ _. ⌜ Spells (now (buffer .exit)) width (λ x. loaded format (now (memory .entry)) (stepped start step back x)) ⌝ }
+    requires { ⌜ StridedFetchInBounds (now memory) (now buffer) start step back width format ⌝ }
+    ensures { λ _. ⌜ HoldsColours (now (buffer .exit)) width (λ x. loadPixel format (now (memory .entry)) (stridedAddress start step back x)) ⌝ }
 {
     let mut x = 0;
     while x < width {
@@ -59,8 +59,8 @@ pub fn fetch_steps(
     back: bool,
     format: Format,
 )
-    requires { ⌜ Steps (now memory) (now buffer) start step back width format ⌝ }
-    ensures { λ _. ⌜ Spells (now (buffer .exit)) width (λ x. loaded format (now (memory .entry)) (stepped start step back x)) ⌝ }
+    requires { ⌜ StridedFetchInBounds (now memory) (now buffer) start step back width format ⌝ }
+    ensures { λ _. ⌜ HoldsColours (now (buffer .exit)) width (λ x. loadPixel format (now (memory .entry)) (stridedAddress start step back x)) ⌝ }
 {
     match format {
         Format::Argb8888 => {

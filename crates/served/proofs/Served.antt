@@ -11,17 +11,17 @@ use Rattle.record.specs.declared.Window.{Window as Place}
 use Rattle.record.specs.declared.Record.{Record}
 use Rattle.record.specs.Rules.{valid}
 use Rattle.queue.specs.declared.Reply.{Reply}
-use Rattle.queue.specs.Answers.{numberOf, valueOf}
-use Rattle.queue.specs.Refusals.{firstOf, openTable, setUpTable}
-use Rattle.queue.specs.Calls.{unless, fresh, withClient, newBatch, withBatch, setUp, openOf, submitOf, submitNumber, submitRing, pendingOf}
+use Rattle.queue.specs.Answers.{refusalNumberOf, valueOf}
+use Rattle.queue.specs.Refusals.{firstRefusal, openTable, setUpTable}
+use Rattle.queue.specs.Calls.{unlessRefused, initialRecord, withClient, newBatch, withBatch, setUpResult, openResult, submitResult, submitNumber, submitRing, pendingAnswer}
 use Rattle.queue.proofs.Stays.{unless-keeps, set-up-number, open-number, submit-number, set-up-stays, open-stays, submit-stays}
 use Rattle.engine.specs.declared.Ran.{Ran}
-use Rattle.engine.specs.Outcome.{numberOf as refusalOf, valuesOf}
-use Rattle.engine.specs.Run.{runNumber, withoutOldest, runOf, runMemory}
+use Rattle.engine.specs.Outcome.{runRefusalOf as refusalOf, valuesOf}
+use Rattle.engine.specs.Run.{runNumber, withoutOldest, runResult, runMemory}
 use Rattle.engine.proofs.Stays.{run-number, run-stays}
 use Rattle.model.specs.Windows.{Window}
 use Rattle.model.specs.Calls.{Setup, Call, opens, submit, run, pending, Answer}
-use Rattle.claims.specs.Engine.{State, state, called, answersOf, stateAfter, told, begin, Accepted}
+use Rattle.claims.specs.Engine.{State, mkState, performCall, answersOf, stateAfter, answerOrRefusal, initialState, SetUpAccepted}
 use Rattle.claims.proofs.Follows.{like-model}
 use Rattle.record_bytes.specs.Read.{recordOf}
 use Rattle.record_bytes.specs.Written.{bytesOf}
@@ -43,8 +43,8 @@ stands : {bytes : List ℕ} {e : Record} → Holds bytes e → recordOf bytes �
 stands {e = e} h = ap recordOf (h .are) ∙ back e (h .right) (fits e (h .right) (h .ok))
 
 -- a refused call leaves the bytes and the record
-keeps : (n : ℕ) (bytes : List ℕ) (e x : Record) → bytes ≡ bytesOf e → unless n bytes (bytesOf (unless n e x)) ≡ bytesOf (unless n e x)
-unfolding unless
+keeps : (n : ℕ) (bytes : List ℕ) (e x : Record) → bytes ≡ bytesOf e → unlessRefused n bytes (bytesOf (unlessRefused n e x)) ≡ bytesOf (unlessRefused n e x)
+unfolding unlessRefused
 keeps zero bytes e x h = refl
 keeps (suc n) bytes e x h = h
 
@@ -55,8 +55,8 @@ record Agrees (s : Lent) (x : State) : Type 0 where
   memories : s .memory ≡ x .memory
 
 record Steps (c : Call) (x : State) (a : Answer) (t : Lent) : Type 0 where
-  says : a ≡ called c x .answer
-  after : Agrees t (called c x .after)
+  says : a ≡ performCall c x .answer
+  after : Agrees t (performCall c x .after)
 
 -- ---- each call
 
@@ -68,11 +68,11 @@ module _ (s : Lent) (x : State) (g : Agrees s x) where
   z = stands (g .holds)
 
   open-step : (w : Window) (a : Answer) (t : Lent) → Plain (opens w) → ServesOpen w s a t → Steps (opens w) x a t
-  unfolding called Opens openOf
+  unfolding performCall Opens openResult
   open-step w a t p q =
       let place : Place = record { start = w .start; length = w .length } in
-      let k : Told (s .bytes) (bytesOf (openOf e place .engine)) (openOf e place .answer) (q .number) (q .value) (t .bytes) =
-      subst (λ (y : Record). Told (s .bytes) (bytesOf (openOf y place .engine)) (openOf y place .answer) (q .number) (q .value) (t .bytes)) z (q .says)
+      let k : Told (s .bytes) (bytesOf (openResult e place .engine)) (openResult e place .answer) (q .number) (q .value) (t .bytes) =
+      subst (λ (y : Record). Told (s .bytes) (bytesOf (openResult y place .engine)) (openResult y place .answer) (q .number) (q .value) (t .bytes)) z (q .says)
       in
       record {
         says = q .answer ∙ rw (k .number-is, k .value-is);
@@ -80,8 +80,8 @@ module _ (s : Lent) (x : State) (g : Agrees s x) where
           holds = record {
             are =
                 k .record-is
-                ∙ ap (λ (n : ℕ). unless n (s .bytes) (bytesOf (openOf e place .engine))) (open-number e place)
-                ∙ keeps (firstOf (openTable e place)) (s .bytes) e (withClient e place) (g .holds .are);
+                ∙ ap (λ (n : ℕ). unlessRefused n (s .bytes) (bytesOf (openResult e place .engine))) (open-number e place)
+                ∙ keeps (firstRefusal (openTable e place)) (s .bytes) e (withClient e place) (g .holds .are);
             ok = open-stays e (sized (g .holds .right)) (g .holds .ok) place .0;
             right = open-typed e (g .holds .right) place p;
           };
@@ -91,13 +91,13 @@ module _ (s : Lent) (x : State) (g : Agrees s x) where
       }
 
   submit-step : (client : ℕ) (batch : List ℕ) (a : Answer) (t : Lent) → client < 2 ^ 32 → ServesSubmit client batch s a t → Steps (submit client batch) x a t
-  unfolding called submitOf
+  unfolding performCall submitResult
   submit-step client batch a t p q =
       let b : Submits (s .bytes) (x .ring) client batch (q .number) (q .value) (t .bytes) (t .ring) =
       subst (λ (l : List ℕ). Submits (s .bytes) l client batch (q .number) (q .value) (t .bytes) (t .ring)) (g .rings) (q .says)
       in
-      let k : Told (s .bytes) (bytesOf (submitOf e (x .ring) client batch .engine)) (submitOf e (x .ring) client batch .answer) (q .number) (q .value) (t .bytes) =
-      subst (λ (y : Record). Told (s .bytes) (bytesOf (submitOf y (x .ring) client batch .engine)) (submitOf y (x .ring) client batch .answer) (q .number) (q .value) (t .bytes)) z (b .told)
+      let k : Told (s .bytes) (bytesOf (submitResult e (x .ring) client batch .engine)) (submitResult e (x .ring) client batch .answer) (q .number) (q .value) (t .bytes) =
+      subst (λ (y : Record). Told (s .bytes) (bytesOf (submitResult y (x .ring) client batch .engine)) (submitResult y (x .ring) client batch .answer) (q .number) (q .value) (t .bytes)) z (b .told)
       in
       record {
         says = q .answer ∙ rw (k .number-is, k .value-is);
@@ -105,7 +105,7 @@ module _ (s : Lent) (x : State) (g : Agrees s x) where
           holds = record {
             are =
                 k .record-is
-                ∙ ap (λ (n : ℕ). unless n (s .bytes) (bytesOf (submitOf e (x .ring) client batch .engine))) (submit-number e (x .ring) client batch)
+                ∙ ap (λ (n : ℕ). unlessRefused n (s .bytes) (bytesOf (submitResult e (x .ring) client batch .engine))) (submit-number e (x .ring) client batch)
                 ∙ keeps (submitNumber e (x .ring) client batch) (s .bytes) e (withBatch e (newBatch e client (length batch))) (g .holds .are);
             ok = submit-stays e (sized (g .holds .right)) (g .holds .ok) (x .ring) client batch .0;
             right = submit-typed e (g .holds .right) (x .ring) client batch p;
@@ -116,15 +116,15 @@ module _ (s : Lent) (x : State) (g : Agrees s x) where
       }
 
   run-step : (a : Answer) (t : Lent) → ServesRun s a t → Steps run x a t
-  unfolding called runOf
+  unfolding performCall runResult
   run-step a t q =
       let five : List ℕ = q .client ∷ q .ticket ∷ q .status ∷ q .fault ∷ q .place ∷ [] in
       let b : Runs (s .bytes) (x .ring) (x .memory) (q .number) five (t .bytes) (t .memory) =
       subst (λ (m : List ℕ). Runs (s .bytes) (x .ring) m (q .number) five (t .bytes) (t .memory)) (g .memories)
       (subst (λ (l : List ℕ). Runs (s .bytes) l (s .memory) (q .number) five (t .bytes) (t .memory)) (g .rings) (q .says))
       in
-      let k : Reports (s .bytes) (bytesOf (runOf e (x .ring) (x .memory) .engine)) (runOf e (x .ring) (x .memory) .outcome) (q .number) five (t .bytes) =
-      subst (λ (y : Record). Reports (s .bytes) (bytesOf (runOf y (x .ring) (x .memory) .engine)) (runOf y (x .ring) (x .memory) .outcome) (q .number) five (t .bytes)) z (b .reports)
+      let k : Reports (s .bytes) (bytesOf (runResult e (x .ring) (x .memory) .engine)) (runResult e (x .ring) (x .memory) .outcome) (q .number) five (t .bytes) =
+      subst (λ (y : Record). Reports (s .bytes) (bytesOf (runResult y (x .ring) (x .memory) .engine)) (runResult y (x .ring) (x .memory) .outcome) (q .number) five (t .bytes)) z (b .reports)
       in
       let e0 = ap (λ (l : List ℕ). getD l 0 0) (k .five-are) in
       let e1 = ap (λ (l : List ℕ). getD l 1 0) (k .five-are) in
@@ -137,7 +137,7 @@ module _ (s : Lent) (x : State) (g : Agrees s x) where
           holds = record {
             are =
                 k .record-is
-                ∙ ap (λ (n : ℕ). unless n (s .bytes) (bytesOf (runOf e (x .ring) (x .memory) .engine))) (run-number e (x .ring) (x .memory))
+                ∙ ap (λ (n : ℕ). unlessRefused n (s .bytes) (bytesOf (runResult e (x .ring) (x .memory) .engine))) (run-number e (x .ring) (x .memory))
                 ∙ keeps (runNumber e (x .ring) (x .memory)) (s .bytes) e (withoutOldest e) (g .holds .are);
             ok = run-stays e (sized (g .holds .right)) (g .holds .ok) (x .ring) (x .memory) .0;
             right = run-typed e (g .holds .right) (x .ring) (x .memory);
@@ -148,7 +148,7 @@ module _ (s : Lent) (x : State) (g : Agrees s x) where
       }
 
   pending-step : (client : ℕ) (a : Answer) (t : Lent) → ServesPending client s a t → Steps (pending client) x a t
-  unfolding called
+  unfolding performCall
   pending-step client a t q = record {
     says = q .answer ∙ rw (q .says .number-is, q .says .value-is, z);
     after = subst (λ (l : Lent). Agrees l x) (sym (q .same)) g;
@@ -171,7 +171,7 @@ unfolding answersOf stateAfter
 list [] s x said last p g none = record { all = refl; end = g }
 list (c ∷ cs) s x said last p g (first {t = t} {a = a} {said = rest} q qs) =
     let one = step s x g c a t (p .0) q in
-    let more = list cs t (called c x .after) rest last (p .1) (one .after) qs in
+    let more = list cs t (performCall c x .after) rest last (p .1) (one .after) qs in
     record { all = rw (one .says, more .all); end = more .end }
 
 -- ---- from an accepted set up
@@ -183,21 +183,21 @@ both-zero false n e = absurd (omega arith)
 
 module _ (setup : Setup) (before bytes ring memory : List ℕ) (u : SetsUp before (setup .ring) (setup .memory) (setup .common) 0 bytes) where
   abbrev made : Record
-  made = setUp (setup .ring) (setup .memory) (setup .common) .engine
+  made = setUpResult (setup .ring) (setup .memory) (setup .common) .engine
 
   abbrev numbers : Numbers
   numbers = record { ring = setup .ring; memory = setup .memory; common = setup .common }
 
-  taken : Accepted setup
-  taken = both-zero (eqb (length before) 272) (numberOf (setUp (setup .ring) (setup .memory) (setup .common) .answer)) (u .number-is)
+  taken : SetUpAccepted setup
+  taken = both-zero (eqb (length before) 272) (refusalNumberOf (setUpResult (setup .ring) (setup .memory) (setup .common) .answer)) (u .number-is)
 
   typed-made : Typed made
-  unfolding setUp
+  unfolding setUpResult
   typed-made =
-      unless-keeps Typed (firstOf (setUpTable numbers)) (fresh (record { ring = 0; memory = 0; common = 0 })) (fresh numbers)
+      unless-keeps Typed (firstRefusal (setUpTable numbers)) (initialRecord (record { ring = 0; memory = 0; common = 0 })) (initialRecord numbers)
       (fresh-typed (record { ring = 0; memory = 0; common = 0 })) (λ q. fresh-typed numbers)
 
-  begins : Agrees (record { bytes = bytes; ring = ring; memory = memory }) (begin setup ring memory)
+  begins : Agrees (record { bytes = bytes; ring = ring; memory = memory }) (initialState setup ring memory)
   begins = record {
     holds = record {
       are = u .record-is ∙ unless-zero before (bytesOf made) (setUpNumber before (setup .ring) (setup .memory) (setup .common)) (sym (u .number-is));
@@ -210,7 +210,7 @@ module _ (setup : Setup) (before bytes ring memory : List ℕ) (u : SetsUp befor
 
 pub promise : Promise
 promise setup before bytes ring memory calls said last u p q =
-    let e = list calls (record { bytes = bytes; ring = ring; memory = memory }) (begin setup ring memory) said last p (begins setup before bytes ring memory u) q in
+    let e = list calls (record { bytes = bytes; ring = ring; memory = memory }) (initialState setup ring memory) said last p (begins setup before bytes ring memory u) q in
     let m = like-model setup ring (taken setup before bytes ring memory u) calls memory in
     record {
       every-answer = e .all ∙ m .every-answer;

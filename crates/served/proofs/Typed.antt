@@ -17,14 +17,14 @@ use Rattle.record.specs.Slots.{free}
 use Rattle.record.specs.Clients.{noClient, clientAt}
 use Rattle.record.specs.Queue.{takenSlots}
 use Rattle.record.specs.Rules.{valid}
-use Rattle.queue.specs.Refusals.{firstOf, openTable}
-use Rattle.queue.specs.Calls.{fresh, withClient, openOf, newBatch, withBatch, submitNumber, submitOf}
+use Rattle.queue.specs.Refusals.{firstRefusal, openTable}
+use Rattle.queue.specs.Calls.{initialRecord, withClient, openResult, newBatch, withBatch, submitNumber, submitResult}
 use Rattle.queue.proofs.Refusals.{SubmitAllowed, submit-allowed}
 use Rattle.queue.proofs.Kept.{Sized, few-taken, fresh-sized, open-sized}
 use Rattle.queue.proofs.Room.{pending-small}
 use Rattle.queue.proofs.Submitted.{submit-sized}
 use Rattle.queue.proofs.Stays.{unless-keeps}
-use Rattle.engine.specs.Run.{runNumber, oldest, withoutOldest, runOf}
+use Rattle.engine.specs.Run.{runNumber, oldest, withoutOldest, runResult}
 use Rattle.engine.proofs.Stays.{run-sized}
 use Rattle.record_bytes.specs.RoundTrip.{AllClients, AllSlots, ClientTyped, StateTyped, Typed}
 use Rattle.record_bytes.proofs.Words.{client-at}
@@ -54,19 +54,19 @@ counted e t client n h =
     let c = client-at ClientTyped none-typed (e .clients) (t .clients) client in
     (c .0, c .1, h)
 
-pub fresh-typed : (setup : Setup) → Typed (fresh setup)
-unfolding fresh
-fresh-typed setup = typed (fresh setup) (fresh-sized setup) (none-typed, (none-typed, (none-typed, (none-typed, tt)))) (tt, (tt, (tt, (tt, (tt, (tt, (tt, (tt, tt))))))))
+pub fresh-typed : (setup : Setup) → Typed (initialRecord setup)
+unfolding initialRecord
+fresh-typed setup = typed (initialRecord setup) (fresh-sized setup) (none-typed, (none-typed, (none-typed, (none-typed, tt)))) (tt, (tt, (tt, (tt, (tt, (tt, (tt, (tt, tt))))))))
 
 module _ (e : Record) (t : Typed e) where
-  pub open-typed : (w : Window) → (w .start < 2 ^ 32) × (w .length < 2 ^ 32) → Typed (openOf e w .engine)
-  unfolding openOf withClient
+  pub open-typed : (w : Window) → (w .start < 2 ^ 32) × (w .length < 2 ^ 32) → Typed (openResult e w .engine)
+  unfolding openResult withClient
   open-typed w h =
-      unless-keeps Typed (firstOf (openTable e w)) e (withClient e w) t
+      unless-keeps Typed (firstRefusal (openTable e w)) e (withClient e w) t
       (λ z. typed (withClient e w) (open-sized e w (sized t)) (clients-set ClientTyped (e .clients) (e .opened) (record { window = w; pending = 0 }) (t .clients) (h .0, h .1, omega arith)) (t .slots))
 
-  pub submit-typed : (ring : List ℕ) (client : ℕ) (batch : List ℕ) → client < 2 ^ 32 → Typed (submitOf e ring client batch .engine)
-  unfolding submitOf withBatch
+  pub submit-typed : (ring : List ℕ) (client : ℕ) (batch : List ℕ) → client < 2 ^ 32 → Typed (submitResult e ring client batch .engine)
+  unfolding submitResult withBatch
   submit-typed ring client batch h =
       unless-keeps Typed (submitNumber e ring client batch) e (withBatch e (newBatch e client (length batch))) t
       (λ z.
@@ -77,8 +77,8 @@ module _ (e : Record) (t : Typed e) where
       (clients-set ClientTyped (e .clients) client _ (t .clients) (counted e t client (getD (e .clients) client noClient .pending + 1) (omega arith)))
       (slots-set StateTyped (e .slots) _ _ (t .slots) (h, t .next)))
 
-  pub run-typed : (ring memory : List ℕ) → Typed (runOf e ring memory .engine)
-  unfolding runOf withoutOldest
+  pub run-typed : (ring memory : List ℕ) → Typed (runResult e ring memory .engine)
+  unfolding runResult withoutOldest
   run-typed ring memory =
       let client = oldest e .client in
       let before = client-at ClientTyped none-typed (e .clients) (t .clients) client in

@@ -6,10 +6,10 @@ use Prim.Native.Nat.{ℕ, _<_, _^_}
 use lib.ListN.{length}
 use Rattle.model.specs.Windows.{Window}
 use Rattle.model.specs.Calls.{Setup, Call, opens, submit, run, pending, Answer, opened, accepted, completed, ready}
-use Rattle.model.specs.State.{fresh}
-use Rattle.model.specs.Model.{answers, end}
-use Rattle.claims.specs.OfModel.{real}
-use Rattle.claims.specs.Engine.{told, stateAfter, begin}
+use Rattle.model.specs.State.{initialModel}
+use Rattle.model.specs.Model.{answers, modelAfterAll}
+use Rattle.claims.specs.ModelProperties.{batchSemantics}
+use Rattle.claims.specs.Engine.{answerOrRefusal, stateAfter, initialState}
 use Rattle.calls.specs.Calls.{SetsUp, Opens, Submits, Pends, Runs}
 
 -- what the caller lends
@@ -24,7 +24,7 @@ pub record ServesOpen (w : Window) (s : Lent) (a : Answer) (t : Lent) : Type 0 w
   pub number : ℕ
   pub value : ℕ
   pub says : Opens (s .bytes) (record { start = w .start; length = w .length }) number value (t .bytes)
-  pub answer : a ≡ told number (opened value)
+  pub answer : a ≡ answerOrRefusal number (opened value)
   pub ring : t .ring ≡ s .ring
   pub memory : t .memory ≡ s .memory
 
@@ -32,7 +32,7 @@ pub record ServesSubmit (client : ℕ) (batch : List ℕ) (s : Lent) (a : Answer
   pub number : ℕ
   pub value : ℕ
   pub says : Submits (s .bytes) (s .ring) client batch number value (t .bytes) (t .ring)
-  pub answer : a ≡ told number (accepted value)
+  pub answer : a ≡ answerOrRefusal number (accepted value)
   pub memory : t .memory ≡ s .memory
 
 pub record ServesRun (s : Lent) (a : Answer) (t : Lent) : Type 0 where
@@ -43,14 +43,14 @@ pub record ServesRun (s : Lent) (a : Answer) (t : Lent) : Type 0 where
   pub fault : ℕ
   pub place : ℕ
   pub says : Runs (s .bytes) (s .ring) (s .memory) number (client ∷ ticket ∷ status ∷ fault ∷ place ∷ []) (t .bytes) (t .memory)
-  pub answer : a ≡ told number (completed client ticket (record { status = status; fault = fault; offset = place }))
+  pub answer : a ≡ answerOrRefusal number (completed client ticket (record { status = status; fault = fault; offset = place }))
   pub ring : t .ring ≡ s .ring
 
 pub record ServesPending (client : ℕ) (s : Lent) (a : Answer) (t : Lent) : Type 0 where
   pub number : ℕ
   pub value : ℕ
   pub says : Pends (s .bytes) client number value
-  pub answer : a ≡ told number (ready value)
+  pub answer : a ≡ answerOrRefusal number (ready value)
   pub same : t ≡ s
 
 abbrev pub Serves : Call → Lent → Answer → Lent → Type 0
@@ -79,9 +79,9 @@ AllPlain (c ∷ cs) = Plain c × AllPlain cs
 -- ---- the promise: every answer and every byte of memory is the reference model's, every byte of the ring the engine's
 
 pub record Served (setup : Setup) (ring memory : List ℕ) (calls : List Call) (said : List Answer) (last : Lent) : Type 0 where
-  pub every-answer : said ≡ answers real setup (length ring) calls (fresh memory)
-  pub every-byte : last .memory ≡ end real setup (length ring) calls memory .memory
-  pub ring-end : last .ring ≡ stateAfter calls (begin setup ring memory) .ring
+  pub every-answer : said ≡ answers batchSemantics setup (length ring) calls (initialModel memory)
+  pub every-byte : last .memory ≡ modelAfterAll batchSemantics setup (length ring) calls memory .memory
+  pub ring-end : last .ring ≡ stateAfter calls (initialState setup ring memory) .ring
 
 abbrev pub Promise : Type 0
 Promise = (setup : Setup) (before bytes ring memory : List ℕ) (calls : List Call) (said : List Answer) (last : Lent) →

@@ -3,24 +3,24 @@ use mathlib.Core.Path.{_≡_, refl}
 use mathlib.Core.List.{[], _∷_}
 use Rattle.word.specs.Word.{byteOf, le32At, leBytes, wordsBytes}
 use Rattle.model.specs.Calls.{opens, submit, run, pending, completed, refused}
-use Rattle.session.specs.Script.{next, decode}
-use Rattle.session.specs.Answers.{wordsOf, answerBytes}
+use Rattle.session.specs.Script.{parseCall, decode}
+use Rattle.session.specs.Answers.{answerWords, answerBytes}
 
 -- a call of each kind, and an opcode that there is not; a run after it is not played
 every-call :
     decode 9 (0 ∷ 64 ∷ 0 ∷ 0 ∷ 0 ∷ 0 ∷ 1 ∷ 0 ∷ 0 ∷ 1 ∷ 2 ∷ 4 ∷ 0 ∷ 0 ∷ 0 ∷ 10 ∷ 20 ∷ 30 ∷ 40 ∷ 2 ∷ 3 ∷ 2 ∷ 4 ∷ 2 ∷ [])
     ≡ opens (record { start = 64; length = 256 }) ∷ submit 2 (10 ∷ 20 ∷ 30 ∷ 40 ∷ []) ∷ run ∷ pending 2 ∷ []
-unfolding decode next le32At
+unfolding decode parseCall le32At
 every-call = refl
 
 -- a batch that is a byte short ends the list
 cut-short : decode 9 (2 ∷ 1 ∷ 2 ∷ 4 ∷ 0 ∷ 0 ∷ 0 ∷ 10 ∷ 20 ∷ 30 ∷ []) ≡ run ∷ []
-unfolding decode next le32At
+unfolding decode parseCall le32At
 cut-short = refl
 
 -- two at most
 two : decode 2 (2 ∷ 2 ∷ 2 ∷ []) ≡ run ∷ run ∷ []
-unfolding decode next
+unfolding decode parseCall
 two = refl
 
 -- a completion, and a refusal
@@ -28,5 +28,5 @@ answered :
     answerBytes (completed 3 258 (record { status = 65537; fault = 0; offset = 0 }) ∷ refused 9 ∷ [])
     ≡ 0 ∷ 0 ∷ 0 ∷ 0 ∷ 3 ∷ 0 ∷ 0 ∷ 0 ∷ 2 ∷ 1 ∷ 0 ∷ 0 ∷ 1 ∷ 0 ∷ 1 ∷ 0 ∷ 0 ∷ 0 ∷ 0 ∷ 0 ∷ 0 ∷ 0 ∷ 0 ∷ 0
     ∷ 9 ∷ 0 ∷ 0 ∷ 0 ∷ 0 ∷ 0 ∷ 0 ∷ 0 ∷ 0 ∷ 0 ∷ 0 ∷ 0 ∷ 0 ∷ 0 ∷ 0 ∷ 0 ∷ 0 ∷ 0 ∷ 0 ∷ 0 ∷ 0 ∷ 0 ∷ 0 ∷ 0 ∷ []
-unfolding answerBytes wordsOf wordsBytes leBytes byteOf
+unfolding answerBytes answerWords wordsBytes leBytes byteOf
 answered = refl

@@ -10,19 +10,19 @@ use Rattle.word.specs.Splice.{spliced}
 use Rattle.word.proofs.Splice.{take-spliced, drop-spliced}
 use Rattle.word.proofs.Written.{length-bytes}
 use Rattle.model.specs.Calls.{Call, Answer, opened, accepted, completed, ready, refused}
-use Rattle.claims.specs.Engine.{State, called, answersOf, stateAfter}
+use Rattle.claims.specs.Engine.{State, performCall, answersOf, stateAfter}
 use Rattle.session.specs.declared.script.Found.{Found}
 use Rattle.session.specs.declared.script.Next.{Next}
 use Rattle.session.specs.declared.script.Next.the-variants.{End, Call as Begins}
-use Rattle.session.specs.Script.{parsed, next, decode}
-use Rattle.session.specs.Requests.{callOf, Reads}
-use Rattle.session.specs.Answers.{wordsOf, answerBytes}
-use Rattle.session.specs.Called.{Plays, PlaysAll}
+use Rattle.session.specs.Script.{parsed, parseCall, decode}
+use Rattle.session.specs.Parsing.{callOf, ParsesAs}
+use Rattle.session.specs.Answers.{answerWords, answerBytes}
+use Rattle.session.specs.Contracts.{CallMatches, CallsMatch}
 
 -- ---- an answer has six words
 
-pub six-words : (a : Answer) → length (wordsOf a) ≡ 6
-unfolding wordsOf
+pub six-words : (a : Answer) → length (answerWords a) ≡ 6
+unfolding answerWords
 six-words (opened c) = refl
 six-words (accepted t) = refl
 six-words (completed c t v) = refl
@@ -35,12 +35,12 @@ rest-is l at h = take-all (length l - at) (drop at l) (simp length-drop (omega a
 
 -- ---- the next call
 
-decode-more : (n : ℕ) (bytes rest : List ℕ) (call : Call) → 0 < n → next bytes ≡ parsed call rest → decode n bytes ≡ call ∷ decode (n - 1) rest
+decode-more : (n : ℕ) (bytes rest : List ℕ) (call : Call) → 0 < n → parseCall bytes ≡ parsed call rest → decode n bytes ≡ call ∷ decode (n - 1) rest
 unfolding decode
 decode-more zero bytes rest call h e = absurd (omega arith)
 decode-more (suc n) bytes rest call h e = let less : suc n - 1 ≡ n = omega arith in rw (e, less)
 
-pub decode-end : (n : ℕ) (bytes : List ℕ) (r : Next) → Reads bytes (next bytes) r → r ≡ End → decode n bytes ≡ []
+pub decode-end : (n : ℕ) (bytes : List ℕ) (r : Next) → ParsesAs bytes (parseCall bytes) r → r ≡ End → decode n bytes ≡ []
 unfolding decode
 decode-end zero bytes r q e = refl
 decode-end (suc n) bytes r q e = rw (← q .means, e)
@@ -60,14 +60,14 @@ module _ (n : ℕ) (script : List ℕ) (s₀ : State) (answers₀ : List ℕ) wh
 
   -- a call is played and its answer is written
   pub going-next : (at count left : ℕ) (s after : State) (answers words : List ℕ) (call : Call) (size : ℕ) → Going at count left s answers → 0 < left →
-      count + 24 ≤ length answers → next (drop at script) ≡ parsed call (drop size (drop at script)) → Plays call s after words →
+      count + 24 ≤ length answers → parseCall (drop at script) ≡ parsed call (drop size (drop at script)) → CallMatches call s after words →
       Going (at + size) (count + 24) (left - 1) after (spliced count (wordsBytes words) answers)
   unfolding answersOf stateAfter answerBytes
   going-next at count left s after answers words call size G some fits e P =
       let calls : decode left (drop at script) ≡ call ∷ decode (left - 1) (drop (at + size) script) =
       decode-more left (drop at script) (drop size (drop at script)) call some e ∙ rw (drop-drop size at script)
       in
-      let long : length (wordsBytes words) ≡ 24 = length-bytes words ∙ ap (λ (ws : List ℕ). 4 * length ws) (P .says) ∙ ap (λ (k : ℕ). 4 * k) (six-words (called call s .answer)) in
+      let long : length (wordsBytes words) ≡ 24 = length-bytes words ∙ ap (λ (ws : List ℕ). 4 * length ws) (P .says) ∙ ap (λ (k : ℕ). 4 * k) (six-words (performCall call s .answer)) in
       let front : take (count + 24) (spliced count (wordsBytes words) answers) ≡ take count answers ++ wordsBytes words =
       rw (← long) (take-spliced count (wordsBytes words) answers (omega arith))
       in
@@ -82,7 +82,7 @@ module _ (n : ℕ) (script : List ℕ) (s₀ : State) (answers₀ : List ℕ) wh
 
   -- no call is left, or no room
   pub going-end : (at count left : ℕ) (s : State) (answers : List ℕ) → Going at count left s answers → count ≤ length answers → decode left (drop at script) ≡ [] →
-      PlaysAll (decode n script) s₀ answers₀ count (s .ring) (s .memory) answers
+      CallsMatch (decode n script) s₀ answers₀ count (s .ring) (s .memory) answers
   unfolding answersOf stateAfter answerBytes
   going-end at count left s answers G fits e =
       let bytes : answerBytes (answersOf (decode n script) s₀) ≡ take count answers = G .told ∙ rw e (append-nil (take count answers)) in
@@ -95,8 +95,8 @@ module _ (n : ℕ) (script : List ℕ) (s₀ : State) (answers₀ : List ℕ) wh
       }
 
 -- the same in the code's values: the lent part of the script, and what `next_call` found in it
-pub found-next : (script : List ℕ) (at : ℕ) (bytes : List ℕ) (r : Next) (f : Found) → at ≤ length script → bytes ≡ drop at script → Reads bytes (next bytes) r → r ≡ Begins f →
-    (next (drop at script) ≡ parsed (callOf bytes (f .request)) (drop (f .size) (drop at script))) × (at + f .size ≤ length script)
+pub found-next : (script : List ℕ) (at : ℕ) (bytes : List ℕ) (r : Next) (f : Found) → at ≤ length script → bytes ≡ drop at script → ParsesAs bytes (parseCall bytes) r → r ≡ Begins f →
+    (parseCall (drop at script) ≡ parsed (callOf bytes (f .request)) (drop (f .size) (drop at script))) × (at + f .size ≤ length script)
 found-next script at bytes r f low e q b =
     let p = rw b at q in
     let within : f .size ≤ length (drop at script) = rw (← e) (p .within .0) in

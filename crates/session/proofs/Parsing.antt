@@ -9,75 +9,75 @@ use Rattle.word.specs.Word.{le32At}
 use Rattle.session.specs.declared.script.Request.the-variants.{Open, Submit, Run, Pending}
 use Rattle.session.specs.declared.script.Next.the-variants.{End, Call as Begins}
 use Rattle.model.specs.Calls.{opens, submit, pending}
-use Rattle.session.specs.Script.{parsed, openIn, submitIn, runIn, pendingIn, next}
-use Rattle.session.specs.Requests.{Reads}
+use Rattle.session.specs.Script.{parsed, parseOpen, parseSubmit, parseRun, parsePending, parseCall}
+use Rattle.session.specs.Parsing.{ParsesAs}
 
 module _ (bytes : List ℕ) where
-  pub open-short : length bytes < 9 → Reads bytes (openIn bytes) End
+  pub open-short : length bytes < 9 → ParsesAs bytes (parseOpen bytes) End
   open-short h = record { means = rw (lt-ltb (length bytes) 9 h); within = tt }
 
-  pub open-long : 9 ≤ length bytes → openIn bytes ≡ parsed (opens (record { start = le32At bytes 1; length = le32At bytes 5 })) (drop 9 bytes)
+  pub open-long : 9 ≤ length bytes → parseOpen bytes ≡ parsed (opens (record { start = le32At bytes 1; length = le32At bytes 5 })) (drop 9 bytes)
   open-long h = rw (le-ltb (length bytes) 9 h)
 
   pub open-read : (start size : ℕ) → 9 ≤ length bytes → start ≡ le32At bytes 1 → size ≡ le32At bytes 5 →
-      Reads bytes (openIn bytes) (Begins (record { request = Open start size; size = 9 }))
+      ParsesAs bytes (parseOpen bytes) (Begins (record { request = Open start size; size = 9 }))
   open-read start size h e f = record { means = rw (open-long h, e, f); within = (h, tt) }
 
-  pub submit-short : length bytes < 6 + le32At bytes 2 → Reads bytes (submitIn bytes) End
+  pub submit-short : length bytes < 6 + le32At bytes 2 → ParsesAs bytes (parseSubmit bytes) End
   submit-short h = record { means = rw (lt-ltb (length bytes) (6 + le32At bytes 2) h); within = tt }
 
   pub submit-long : 6 + le32At bytes 2 ≤ length bytes →
-      submitIn bytes ≡ parsed (submit (getD bytes 1 0) (take (le32At bytes 2) (drop 6 bytes))) (drop (6 + le32At bytes 2) bytes)
+      parseSubmit bytes ≡ parsed (submit (getD bytes 1 0) (take (le32At bytes 2) (drop 6 bytes))) (drop (6 + le32At bytes 2) bytes)
   submit-long h = rw (le-ltb (length bytes) (6 + le32At bytes 2) h)
 
   pub submit-read : (client size : ℕ) → 6 + size ≤ length bytes → client ≡ getD bytes 1 0 → size ≡ le32At bytes 2 →
-      Reads bytes (submitIn bytes) (Begins (record { request = Submit client 6 (6 + size); size = 6 + size }))
+      ParsesAs bytes (parseSubmit bytes) (Begins (record { request = Submit client 6 (6 + size); size = 6 + size }))
   submit-read client size h e f =
       let batch : 6 + size - 6 ≡ size = omega arith in
       record { means = rw (submit-long (rw f at h), batch, e, f); within = (h, (omega arith, h)) }
 
-  pub run-read : 1 ≤ length bytes → Reads bytes (runIn bytes) (Begins (record { request = Run; size = 1 }))
+  pub run-read : 1 ≤ length bytes → ParsesAs bytes (parseRun bytes) (Begins (record { request = Run; size = 1 }))
   run-read h = record { means = refl; within = (h, tt) }
 
-  pub pending-short : length bytes < 2 → Reads bytes (pendingIn bytes) End
+  pub pending-short : length bytes < 2 → ParsesAs bytes (parsePending bytes) End
   pending-short h = record { means = rw (lt-ltb (length bytes) 2 h); within = tt }
 
-  pub pending-long : 2 ≤ length bytes → pendingIn bytes ≡ parsed (pending (getD bytes 1 0)) (drop 2 bytes)
+  pub pending-long : 2 ≤ length bytes → parsePending bytes ≡ parsed (pending (getD bytes 1 0)) (drop 2 bytes)
   pending-long h = rw (le-ltb (length bytes) 2 h)
 
   pub pending-read : (client : ℕ) → 2 ≤ length bytes → client ≡ getD bytes 1 0 →
-      Reads bytes (pendingIn bytes) (Begins (record { request = Pending client; size = 2 }))
+      ParsesAs bytes (parsePending bytes) (Begins (record { request = Pending client; size = 2 }))
   pending-read client h e = record { means = rw (pending-long h, e); within = (h, tt) }
 
 -- ---- by the opcode
 
-pub next-none : (bytes : List ℕ) → length bytes ≡ 0 → Reads bytes (next bytes) End
-unfolding next
+pub next-none : (bytes : List ℕ) → length bytes ≡ 0 → ParsesAs bytes (parseCall bytes) End
+unfolding parseCall
 next-none [] e = record { means = refl; within = tt }
 next-none (o ∷ body) e = absurd (omega arith)
 
-pub next-open : (bytes : List ℕ) → 0 < length bytes → getD bytes 0 0 ≡ 0 → next bytes ≡ openIn bytes
-unfolding next
+pub next-open : (bytes : List ℕ) → 0 < length bytes → getD bytes 0 0 ≡ 0 → parseCall bytes ≡ parseOpen bytes
+unfolding parseCall
 next-open [] h e = absurd (omega arith)
 next-open (o ∷ body) h e = rw (eq-eqb o 0 e)
 
-pub next-submit : (bytes : List ℕ) → 0 < length bytes → getD bytes 0 0 ≡ 1 → next bytes ≡ submitIn bytes
-unfolding next
+pub next-submit : (bytes : List ℕ) → 0 < length bytes → getD bytes 0 0 ≡ 1 → parseCall bytes ≡ parseSubmit bytes
+unfolding parseCall
 next-submit [] h e = absurd (omega arith)
 next-submit (o ∷ body) h e = rw (ne-eqb o 0 (λ z. omega arith), eq-eqb o 1 e)
 
-pub next-run : (bytes : List ℕ) → 0 < length bytes → getD bytes 0 0 ≡ 2 → next bytes ≡ runIn bytes
-unfolding next
+pub next-run : (bytes : List ℕ) → 0 < length bytes → getD bytes 0 0 ≡ 2 → parseCall bytes ≡ parseRun bytes
+unfolding parseCall
 next-run [] h e = absurd (omega arith)
 next-run (o ∷ body) h e = rw (ne-eqb o 0 (λ z. omega arith), ne-eqb o 1 (λ z. omega arith), eq-eqb o 2 e)
 
-pub next-pending : (bytes : List ℕ) → 0 < length bytes → getD bytes 0 0 ≡ 3 → next bytes ≡ pendingIn bytes
-unfolding next
+pub next-pending : (bytes : List ℕ) → 0 < length bytes → getD bytes 0 0 ≡ 3 → parseCall bytes ≡ parsePending bytes
+unfolding parseCall
 next-pending [] h e = absurd (omega arith)
 next-pending (o ∷ body) h e = rw (ne-eqb o 0 (λ z. omega arith), ne-eqb o 1 (λ z. omega arith), ne-eqb o 2 (λ z. omega arith), eq-eqb o 3 e)
 
 pub next-unknown : (bytes : List ℕ) → 0 < length bytes → (getD bytes 0 0 ≡ 0 → ⊥) → (getD bytes 0 0 ≡ 1 → ⊥) → (getD bytes 0 0 ≡ 2 → ⊥) → (getD bytes 0 0 ≡ 3 → ⊥) →
-    Reads bytes (next bytes) End
-unfolding next
+    ParsesAs bytes (parseCall bytes) End
+unfolding parseCall
 next-unknown [] h n0 n1 n2 n3 = absurd (omega arith)
 next-unknown (o ∷ body) h n0 n1 n2 n3 = record { means = rw (ne-eqb o 0 n0, ne-eqb o 1 n1, ne-eqb o 2 n2, ne-eqb o 3 n3); within = tt }

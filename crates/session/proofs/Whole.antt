@@ -15,54 +15,54 @@ use Rattle.word.proofs.Splice.{length-spliced, take-spliced, drop-spliced}
 use Rattle.word.proofs.Written.{length-bytes}
 use Rattle.queue.specs.declared.Answer.the-variants.{Set}
 use Rattle.queue.specs.declared.Reply.{Reply}
-use Rattle.queue.specs.Answers.{numberOf, valueOf, answered}
-use Rattle.queue.specs.Calls.{setUp}
-use Rattle.queue.specs.Refusals.{firstOf, setUpTable}
+use Rattle.queue.specs.Answers.{refusalNumberOf, valueOf, answerUnlessRefused}
+use Rattle.queue.specs.Calls.{setUpResult}
+use Rattle.queue.specs.Refusals.{firstRefusal, setUpTable}
 use Rattle.model.specs.Calls.{Setup, Call}
-use Rattle.model.specs.Model.{answers, after, end}
-use Rattle.claims.specs.OfModel.{real}
-use Rattle.claims.specs.Engine.{State, state, answersOf, stateAfter, begin}
+use Rattle.model.specs.Model.{answers, after, modelAfterAll}
+use Rattle.claims.specs.ModelProperties.{batchSemantics}
+use Rattle.claims.specs.Engine.{State, mkState, answersOf, stateAfter, initialState}
 use Rattle.claims.proofs.Theorem.{promise}
 use Rattle.session.specs.Script.{decode}
-use Rattle.answers.specs.Answers.{twoWords}
+use Rattle.answers.specs.Answers.{shortAnswer}
 use Rattle.session.specs.Answers.{answerBytes}
-use Rattle.session.specs.Called.{PlaysAll}
-use Rattle.session.specs.Played.{setUpNumber, calls, written, memoryAfter, ringAfter, Played}
+use Rattle.session.specs.Contracts.{CallsMatch}
+use Rattle.session.specs.Played.{setUpNumber, playedCalls, answerOutput, memoryAfter, ringAfter, ScriptResult}
 use Rattle.session.proofs.Going.{rest-is, decode-none}
 
 -- ---- set up's own answer
 
-value-set : (number : ℕ) → valueOf (answered number Set) ≡ 0
-unfolding answered
+value-set : (number : ℕ) → valueOf (answerUnlessRefused number Set) ≡ 0
+unfolding answerUnlessRefused
 value-set zero = refl
 value-set (suc n) = refl
 
-set-up-value : (ring memory common : ℕ) → valueOf (setUp ring memory common .answer) ≡ 0
-unfolding setUp
-set-up-value ring memory common = value-set (firstOf (setUpTable (record { ring = ring; memory = memory; common = common })))
+set-up-value : (ring memory common : ℕ) → valueOf (setUpResult ring memory common .answer) ≡ 0
+unfolding setUpResult
+set-up-value ring memory common = value-set (firstRefusal (setUpTable (record { ring = ring; memory = memory; common = common })))
 
-pub set-up-words : (setup : Setup) (r : Reply) (words : List ℕ) → r ≡ setUp (setup .ring) (setup .memory) (setup .common) →
-    words ≡ twoWords (numberOf (r .answer)) (valueOf (r .answer)) → words ≡ twoWords (setUpNumber setup) 0
+pub set-up-words : (setup : Setup) (r : Reply) (words : List ℕ) → r ≡ setUpResult (setup .ring) (setup .memory) (setup .common) →
+    words ≡ shortAnswer (refusalNumberOf (r .answer)) (valueOf (r .answer)) → words ≡ shortAnswer (setUpNumber setup) 0
 set-up-words setup r words e w = w ∙ rw (e, set-up-value (setup .ring) (setup .memory) (setup .common))
 
 -- ---- no call is played
 
 module _ (setup : Setup) (ring memory script buffer : List ℕ) where
   -- memory and ring by the calls that are played
-  memory-is : (cs : List Call) → calls setup (length buffer) script ≡ cs → memoryAfter setup ring memory script buffer ≡ end real setup (length ring) cs memory .memory
+  memory-is : (cs : List Call) → playedCalls setup (length buffer) script ≡ cs → memoryAfter setup ring memory script buffer ≡ modelAfterAll batchSemantics setup (length ring) cs memory .memory
   unfolding memoryAfter
-  memory-is cs e = ap (λ (played : List Call). end real setup (length ring) played memory .memory) e
+  memory-is cs e = ap (λ (played : List Call). modelAfterAll batchSemantics setup (length ring) played memory .memory) e
 
-  ring-is : (cs : List Call) → calls setup (length buffer) script ≡ cs → ringAfter setup ring memory script buffer ≡ stateAfter cs (begin setup ring memory) .ring
+  ring-is : (cs : List Call) → playedCalls setup (length buffer) script ≡ cs → ringAfter setup ring memory script buffer ≡ stateAfter cs (initialState setup ring memory) .ring
   unfolding ringAfter
-  ring-is cs e = ap (λ (played : List Call). stateAfter played (begin setup ring memory) .ring) e
+  ring-is cs e = ap (λ (played : List Call). stateAfter played (initialState setup ring memory) .ring) e
 
-  nothing : calls setup (length buffer) script ≡ [] → (memory ≡ memoryAfter setup ring memory script buffer) × (ring ≡ ringAfter setup ring memory script buffer)
+  nothing : playedCalls setup (length buffer) script ≡ [] → (memory ≡ memoryAfter setup ring memory script buffer) × (ring ≡ ringAfter setup ring memory script buffer)
   unfolding after stateAfter
   nothing e = (sym (memory-is [] e), sym (ring-is [] e))
 
-  none-short : length buffer < 24 → calls setup (length buffer) script ≡ []
-  unfolding calls
+  none-short : length buffer < 24 → playedCalls setup (length buffer) script ≡ []
+  unfolding playedCalls
   none-short h = rw (decode-none (length buffer / 24 - 1) script (omega arith)) (same (eqb (setUpNumber setup) 0))
     where
       same : (t : Bool) → _≡_ {A = List Call} (cond t [] []) []
@@ -70,24 +70,24 @@ module _ (setup : Setup) (ring memory script buffer : List ℕ) where
       same false = refl
 
   -- no room for set up's answer
-  pub played-short : length buffer < 24 → Played setup ring memory script buffer 0 ring memory buffer
-  unfolding written
+  pub played-short : length buffer < 24 → ScriptResult setup ring memory script buffer 0 ring memory buffer
+  unfolding answerOutput
   played-short h =
       let t = lt-ltb (length buffer) 24 h in
       let n = nothing (none-short h) in
       record { returned = rw t; bytes = rw t; memory-end = n .0; ring-end = n .1 }
 
   -- set up is refused
-  pub played-refused : (words after : List ℕ) → 24 ≤ length buffer → words ≡ twoWords (setUpNumber setup) 0 → (getD words 0 0 ≡ 0 → ⊥) → after ≡ spliced 0 (wordsBytes words) buffer →
-      Played setup ring memory script buffer 24 ring memory after
-  unfolding written calls answers answerBytes spliced
+  pub played-refused : (words after : List ℕ) → 24 ≤ length buffer → words ≡ shortAnswer (setUpNumber setup) 0 → (getD words 0 0 ≡ 0 → ⊥) → after ≡ spliced 0 (wordsBytes words) buffer →
+      ScriptResult setup ring memory script buffer 24 ring memory after
+  unfolding answerOutput playedCalls answers answerBytes spliced
   played-refused words after room w bad e =
       let t = le-ltb (length buffer) 24 room in
       let number : setUpNumber setup ≡ 0 → ⊥ = rw w at bad in
       let f = ne-eqb (setUpNumber setup) 0 number in
       let n = nothing (rw f) in
       let from : 0 + length (wordsBytes words) ≡ length (wordsBytes words) = omega arith in
-      let long : length (wordsBytes (twoWords (setUpNumber setup) 0)) ≡ 24 = length-bytes (twoWords (setUpNumber setup) 0) in
+      let long : length (wordsBytes (shortAnswer (setUpNumber setup) 0)) ≡ 24 = length-bytes (shortAnswer (setUpNumber setup) 0) in
       record {
         returned = rw (t, f, append-nil) (sym long);
         bytes = e ∙ rw (from, t, f, append-nil, w);
@@ -98,59 +98,59 @@ module _ (setup : Setup) (ring memory script buffer : List ℕ) where
 -- ---- the calls are played
 
 module _ (setup : Setup) (ring memory script buffer : List ℕ) (room : 24 ≤ length buffer) (ok : setUpNumber setup ≡ 0) where
-  played-are : calls setup (length buffer) script ≡ decode (length (drop 24 buffer) / 24) script
-  unfolding calls
+  played-are : playedCalls setup (length buffer) script ≡ decode (length (drop 24 buffer) / 24) script
+  unfolding playedCalls
   played-are =
       let left : length buffer / 24 - 1 ≡ length (drop 24 buffer) / 24 = rw length-drop (omega arith) in
       rw (eq-eqb (setUpNumber setup) 0 ok, left)
 
   -- what is written, in the engine's answers
-  told : written setup ring memory script buffer ≡ wordsBytes (twoWords 0 0) ++ answerBytes (answersOf (decode (length (drop 24 buffer) / 24) script) (begin setup ring memory))
-  unfolding written
+  told : answerOutput setup ring memory script buffer ≡ wordsBytes (shortAnswer 0 0) ++ answerBytes (answersOf (decode (length (drop 24 buffer) / 24) script) (initialState setup ring memory))
+  unfolding answerOutput
   told =
       let like = promise setup ring ok .like-model (decode (length (drop 24 buffer) / 24) script) memory in
       rw (le-ltb (length buffer) 24 room, played-are, ok, like .every-answer)
 
   pub played-on : (count : ℕ) (ring′ memory′ rest′ : List ℕ) →
-      PlaysAll (decode (length (drop 24 buffer) / 24) script) (begin setup ring memory) (drop 24 buffer) count ring′ memory′ rest′ →
-      Played setup ring memory script buffer (24 + count) ring′ memory′ (wordsBytes (twoWords 0 0) ++ rest′)
+      CallsMatch (decode (length (drop 24 buffer) / 24) script) (initialState setup ring memory) (drop 24 buffer) count ring′ memory′ rest′ →
+      ScriptResult setup ring memory script buffer (24 + count) ring′ memory′ (wordsBytes (shortAnswer 0 0) ++ rest′)
   played-on count ring′ memory′ rest′ P =
       let cs : List Call = decode (length (drop 24 buffer) / 24) script in
       let like = promise setup ring ok .like-model cs memory in
-      let said : List ℕ = answerBytes (answersOf cs (begin setup ring memory)) in
-      let long : length (wordsBytes (twoWords 0 0)) ≡ 24 = length-bytes (twoWords 0 0) in
-      let size : length (wordsBytes (twoWords 0 0) ++ said) ≡ 24 + count = length-append (wordsBytes (twoWords 0 0)) said ∙ rw (long, P .returned) in
+      let said : List ℕ = answerBytes (answersOf cs (initialState setup ring memory)) in
+      let long : length (wordsBytes (shortAnswer 0 0)) ≡ 24 = length-bytes (shortAnswer 0 0) in
+      let size : length (wordsBytes (shortAnswer 0 0) ++ said) ≡ 24 + count = length-append (wordsBytes (shortAnswer 0 0)) said ∙ rw (long, P .returned) in
       record {
         returned = rw told (sym size);
-        bytes = rw (told, size, P .bytes, ← drop-drop count 24 buffer) (sym (append-assoc (wordsBytes (twoWords 0 0)) said (drop count (drop 24 buffer))));
+        bytes = rw (told, size, P .bytes, ← drop-drop count 24 buffer) (sym (append-assoc (wordsBytes (shortAnswer 0 0)) said (drop count (drop 24 buffer))));
         memory-end = P .memory-end ∙ like .every-byte ∙ sym (memory-is setup ring memory script buffer cs played-are);
         ring-end = P .ring-end ∙ sym (ring-is setup ring memory script buffer cs played-are);
       }
 
   -- the same in the code's values: the buffer `answered` after set up's answer, and the part of it after that, which is lent
-  pub played-done : (words answered : List ℕ) (r : Reply) (count : ℕ) (ring′ memory′ rest′ : List ℕ) → r ≡ setUp (setup .ring) (setup .memory) (setup .common) →
-      words ≡ twoWords (setUpNumber setup) 0 → answered ≡ spliced 0 (wordsBytes words) buffer →
-      PlaysAll (decode (length (take (length answered - 24) (drop 24 answered)) / 24) script) (state (r .engine) ring memory) (take (length answered - 24) (drop 24 answered)) count ring′ memory′ rest′ →
-      Played setup ring memory script buffer (24 + count) ring′ memory′ (putMid 24 (length answered - 24) answered rest′)
-  played-done words answered r count ring′ memory′ rest′ e w a P =
+  pub played-done : (words answerUnlessRefused : List ℕ) (r : Reply) (count : ℕ) (ring′ memory′ rest′ : List ℕ) → r ≡ setUpResult (setup .ring) (setup .memory) (setup .common) →
+      words ≡ shortAnswer (setUpNumber setup) 0 → answerUnlessRefused ≡ spliced 0 (wordsBytes words) buffer →
+      CallsMatch (decode (length (take (length answerUnlessRefused - 24) (drop 24 answerUnlessRefused)) / 24) script) (mkState (r .engine) ring memory) (take (length answerUnlessRefused - 24) (drop 24 answerUnlessRefused)) count ring′ memory′ rest′ →
+      ScriptResult setup ring memory script buffer (24 + count) ring′ memory′ (putMid 24 (length answerUnlessRefused - 24) answerUnlessRefused rest′)
+  played-done words answerUnlessRefused r count ring′ memory′ rest′ e w a P =
       let long : length (wordsBytes words) ≡ 24 = length-bytes words ∙ rw w in
       let fits : 0 + length (wordsBytes words) ≤ length buffer = omega arith in
-      let end : 0 + length (wordsBytes words) ≡ 24 = omega arith in
-      let whole : length answered ≡ length buffer = rw a (length-spliced 0 (wordsBytes words) buffer fits) in
-      let front : take 24 answered ≡ wordsBytes (twoWords 0 0) = rw (a, ← end) (take-spliced 0 (wordsBytes words) buffer fits ∙ rw (w, ok)) in
-      let past : drop 24 answered ≡ drop 24 buffer = rw (a, ← end) (drop-spliced 0 (wordsBytes words) buffer fits) in
-      let part : take (length answered - 24) (drop 24 answered) ≡ drop 24 buffer = rest-is answered 24 (omega arith) ∙ past in
-      let left : length answered - 24 ≡ length (drop 24 buffer) = simp length-drop (omega arith) in
-      let none : drop (length answered - 24) (drop 24 answered) ≡ [] = rw (left, past) (drop-length (drop 24 buffer)) in
+      let modelAfterAll : 0 + length (wordsBytes words) ≡ 24 = omega arith in
+      let whole : length answerUnlessRefused ≡ length buffer = rw a (length-spliced 0 (wordsBytes words) buffer fits) in
+      let front : take 24 answerUnlessRefused ≡ wordsBytes (shortAnswer 0 0) = rw (a, ← modelAfterAll) (take-spliced 0 (wordsBytes words) buffer fits ∙ rw (w, ok)) in
+      let past : drop 24 answerUnlessRefused ≡ drop 24 buffer = rw (a, ← modelAfterAll) (drop-spliced 0 (wordsBytes words) buffer fits) in
+      let part : take (length answerUnlessRefused - 24) (drop 24 answerUnlessRefused) ≡ drop 24 buffer = rest-is answerUnlessRefused 24 (omega arith) ∙ past in
+      let left : length answerUnlessRefused - 24 ≡ length (drop 24 buffer) = simp length-drop (omega arith) in
+      let none : drop (length answerUnlessRefused - 24) (drop 24 answerUnlessRefused) ≡ [] = rw (left, past) (drop-length (drop 24 buffer)) in
       rw (front, none, append-nil) (played-on count ring′ memory′ rest′ (rw (← part, ← e) P))
 
 -- the answers fit
-pub count-small : (cs : List Call) (s : State) (answered : List ℕ) (count : ℕ) (ring′ memory′ rest′ : List ℕ) → 24 ≤ length answered →
-    PlaysAll cs s (take (length answered - 24) (drop 24 answered)) count ring′ memory′ rest′ → length rest′ ≡ length (take (length answered - 24) (drop 24 answered)) → 24 + count ≤ length answered
-count-small cs s answered count ring′ memory′ rest′ room P kept =
-    let part = rest-is answered 24 room in
+pub count-small : (cs : List Call) (s : State) (answerUnlessRefused : List ℕ) (count : ℕ) (ring′ memory′ rest′ : List ℕ) → 24 ≤ length answerUnlessRefused →
+    CallsMatch cs s (take (length answerUnlessRefused - 24) (drop 24 answerUnlessRefused)) count ring′ memory′ rest′ → length rest′ ≡ length (take (length answerUnlessRefused - 24) (drop 24 answerUnlessRefused)) → 24 + count ≤ length answerUnlessRefused
+count-small cs s answerUnlessRefused count ring′ memory′ rest′ room P kept =
+    let part = rest-is answerUnlessRefused 24 room in
     let said : List ℕ = answerBytes (answersOf cs s) in
-    let after : List ℕ = drop count (take (length answered - 24) (drop 24 answered)) in
+    let after : List ℕ = drop count (take (length answerUnlessRefused - 24) (drop 24 answerUnlessRefused)) in
     let size : length rest′ ≡ count + length after = ap length (P .bytes) ∙ length-append said after ∙ rw (P .returned) in
-    let lent : length rest′ ≡ length answered - 24 = kept ∙ rw (part, length-drop) in
+    let lent : length rest′ ≡ length answerUnlessRefused - 24 = kept ∙ rw (part, length-drop) in
     omega arith

@@ -2,16 +2,16 @@
 use mathlib.Core.List.{List, [], _∷_, _++_}
 use Prim.Native.Nat.{ℕ}
 use Rattle.word.specs.Word.{wordsBytes}
-use Rattle.answers.specs.Answers.{twoWords}
+use Rattle.answers.specs.Answers.{shortAnswer}
 use Rattle.model.specs.Calls.{Answer, opened, accepted, completed, ready, refused}
 
-unfoldable pub wordsOf : Answer → List ℕ
-wordsOf (opened client) = twoWords 0 client
-wordsOf (accepted ticket) = twoWords 0 ticket
-wordsOf (completed client ticket v) = 0 ∷ client ∷ ticket ∷ v .status ∷ v .fault ∷ v .offset ∷ []
-wordsOf (ready count) = twoWords 0 count
-wordsOf (refused number) = twoWords number 0
+unfoldable pub answerWords : Answer → List ℕ
+answerWords (opened client) = shortAnswer 0 client
+answerWords (accepted ticket) = shortAnswer 0 ticket
+answerWords (completed client ticket v) = 0 ∷ client ∷ ticket ∷ v .status ∷ v .fault ∷ v .offset ∷ []
+answerWords (ready count) = shortAnswer 0 count
+answerWords (refused number) = shortAnswer number 0
 
 unfoldable pub answerBytes : List Answer → List ℕ
 answerBytes [] = []
-answerBytes (a ∷ answers) = wordsBytes (wordsOf a) ++ answerBytes answers
+answerBytes (a ∷ answers) = wordsBytes (answerWords a) ++ answerBytes answers

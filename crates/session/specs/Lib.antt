@@ -1,6 +1,6 @@
 -- A list of calls, given as bytes, and what playing it answers and leaves.
 pub mod Script
-pub mod Requests
+pub mod Parsing
 pub mod Answers
-pub mod Called
+pub mod Contracts
 pub mod Played

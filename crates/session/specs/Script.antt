@@ -20,45 +20,45 @@ pub data Parsed : Type 0 where
 
 -- ---- bytes that begin with an opcode
 
-abbrev pub openIn : List ℕ → Parsed
-openIn bytes =
+abbrev pub parseOpen : List ℕ → Parsed
+parseOpen bytes =
     cond (ltb (length bytes) 9) ended
     (parsed (opens (record { start = le32At bytes 1; length = le32At bytes 5 })) (drop 9 bytes))
 
 -- bytes that are too short for the length to be there are too short for the call as well
-abbrev pub submitIn : List ℕ → Parsed
-submitIn bytes =
+abbrev pub parseSubmit : List ℕ → Parsed
+parseSubmit bytes =
     let size : ℕ = le32At bytes 2 in
     cond (ltb (length bytes) (6 + size)) ended
     (parsed (submit (getD bytes 1 0) (take size (drop 6 bytes))) (drop (6 + size) bytes))
 
-abbrev pub runIn : List ℕ → Parsed
-runIn bytes = parsed run (drop 1 bytes)
+abbrev pub parseRun : List ℕ → Parsed
+parseRun bytes = parsed run (drop 1 bytes)
 
-abbrev pub pendingIn : List ℕ → Parsed
-pendingIn bytes = cond (ltb (length bytes) 2) ended (parsed (pending (getD bytes 1 0)) (drop 2 bytes))
+abbrev pub parsePending : List ℕ → Parsed
+parsePending bytes = cond (ltb (length bytes) 2) ended (parsed (pending (getD bytes 1 0)) (drop 2 bytes))
 
 -- ---- the list
 
 -- the call that the bytes begin with
-unfoldable pub next : List ℕ → Parsed
-next [] = ended
-next (opcode ∷ body) =
-    cond (eqb opcode 0) (openIn (opcode ∷ body))
-    (cond (eqb opcode 1) (submitIn (opcode ∷ body))
-    (cond (eqb opcode 2) (runIn (opcode ∷ body))
-    (cond (eqb opcode 3) (pendingIn (opcode ∷ body))
+unfoldable pub parseCall : List ℕ → Parsed
+parseCall [] = ended
+parseCall (opcode ∷ body) =
+    cond (eqb opcode 0) (parseOpen (opcode ∷ body))
+    (cond (eqb opcode 1) (parseSubmit (opcode ∷ body))
+    (cond (eqb opcode 2) (parseRun (opcode ∷ body))
+    (cond (eqb opcode 3) (parsePending (opcode ∷ body))
     ended)))
 
 -- a call, and those of the bytes after it
-abbrev pub andThen : (List ℕ → List Call) → Parsed → List Call
-andThen others ended = []
-andThen others (parsed call rest) = call ∷ others rest
+abbrev pub consCall : (List ℕ → List Call) → Parsed → List Call
+consCall others ended = []
+consCall others (parsed call rest) = call ∷ others rest
 
 -- the calls of a script, n at most
 unfoldable pub decode : (n : ℕ) → (script : List ℕ) → List Call
 decode zero script = []
-decode (suc n) script = andThen (decode n) (next script)
+decode (suc n) script = consCall (decode n) (parseCall script)
 
 -- ---- the other way
 
@@ -78,17 +78,17 @@ AllBytes [] = Unit {0}
 AllBytes (b ∷ bs) = (b < 2 ^ 8) × AllBytes bs
 
 -- there is room for the call's numbers: a byte for a client and for each of a batch, four for every other
-abbrev pub FitsOne : Call → Type 0
-FitsOne (opens w) = (w .start < 2 ^ 32) × (w .length < 2 ^ 32)
-FitsOne (submit client bytes) = (client < 2 ^ 8) × (length bytes < 2 ^ 32) × AllBytes bytes
-FitsOne run = Unit {0}
-FitsOne (pending client) = client < 2 ^ 8
+abbrev pub CallFits : Call → Type 0
+CallFits (opens w) = (w .start < 2 ^ 32) × (w .length < 2 ^ 32)
+CallFits (submit client bytes) = (client < 2 ^ 8) × (length bytes < 2 ^ 32) × AllBytes bytes
+CallFits run = Unit {0}
+CallFits (pending client) = client < 2 ^ 8
 
-abbrev pub Fits : List Call → Type 0
-Fits [] = Unit {0}
-Fits (call ∷ calls) = FitsOne call × Fits calls
+abbrev pub CallsFit : List Call → Type 0
+CallsFit [] = Unit {0}
+CallsFit (call ∷ calls) = CallFits call × CallsFit calls
 
 -- The promise: every list of calls whose numbers fit has a script that is decoded to it. proofs/Decode.antt proves it.
-pub record Decodes (calls : List Call) : Type 0 where
+pub record EncodeDecodeRoundTrip (calls : List Call) : Type 0 where
   pub bytes : AllBytes (encode calls)
   pub back : (n : ℕ) → length calls ≤ n → decode n (encode calls) ≡ calls

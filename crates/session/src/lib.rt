@@ -5,13 +5,13 @@ mod script;
 ghost use mathlib.Core.Path.{_≡_};
 ghost use Prim.Native.Nat.{_/_};
 ghost use lib.ListN.{length};
-ghost use Rattle.queue.specs.Answers.{numberOf, valueOf};
-ghost use Rattle.answers.specs.Answers.{twoWords, outcomeWords, Small};
-ghost use Rattle.claims.specs.Engine.{state};
+ghost use Rattle.queue.specs.Answers.{refusalNumberOf, valueOf};
+ghost use Rattle.answers.specs.Answers.{shortAnswer, outcomeWords, Small};
+ghost use Rattle.claims.specs.Engine.{mkState};
 ghost use Rattle.session.specs.Script.{decode};
-ghost use Rattle.session.specs.Requests.{callOf, Lies};
-ghost use Rattle.session.specs.Called.{Plays, PlaysAll};
-ghost use Rattle.session.specs.Played.{Played};
+ghost use Rattle.session.specs.Parsing.{callOf, BatchInBounds};
+ghost use Rattle.session.specs.Contracts.{CallMatches, CallsMatch};
+ghost use Rattle.session.specs.Played.{ScriptResult};
 use crate::script::Next;
 use crate::script::Request;
 use engine::Ran;
@@ -25,7 +25,7 @@ struct Step {
 }
 
 fn step_of(reply: Reply) -> Step
-    ensures { λ r. ⌜ (r .words ≡ twoWords (numberOf (reply .answer)) (valueOf (reply .answer))) × (r .engine ≡ reply .engine) ⌝ }
+    ensures { λ r. ⌜ (r .words ≡ shortAnswer (refusalNumberOf (reply .answer)) (valueOf (reply .answer))) × (r .engine ≡ reply .engine) ⌝ }
 {
     let answer = reply.answer;
     let engine = reply.engine;
@@ -55,9 +55,9 @@ fn play_call(
     bytes: &[u8],
     request: Request,
 ) -> Step
-    requires { ⌜ Lies (length (now bytes)) request ⌝ }
-    ensures { λ r. ⌜ Plays (callOf (now (bytes .entry)) request) (state engine (now (ring .entry)) (now (memory .entry)))
-        (state (r .engine) (now (ring .exit)) (now (memory .exit))) (r .words) ⌝ }
+    requires { ⌜ BatchInBounds (length (now bytes)) request ⌝ }
+    ensures { λ r. ⌜ CallMatches (callOf (now (bytes .entry)) request) (mkState engine (now (ring .entry)) (now (memory .entry)))
+        (mkState (r .engine) (now (ring .exit)) (now (memory .exit))) (r .words) ⌝ }
 {
     match request {
         Request::Open(start, length) => step_of(engine::open(engine, start, length)),
@@ -83,7 +83,7 @@ fn play_calls(
     script: &[u8],
     answers: &mut [u8],
 ) -> usize
-    ensures { λ r. ⌜ PlaysAll (decode (length (now (answers .entry)) / 24) (now (script .entry))) (state start (now (ring .entry)) (now (memory .entry)))
+    ensures { λ r. ⌜ CallsMatch (decode (length (now (answers .entry)) / 24) (now (script .entry))) (mkState start (now (ring .entry)) (now (memory .entry)))
         (now (answers .entry)) r (now (ring .exit)) (now (memory .exit)) (now (answers .exit)) ⌝ }
 {
     let mut engine = start;
@@ -121,7 +121,7 @@ pub fn play(
     script: &[u8],
     answers: &mut [u8],
 ) -> usize
-    ensures { λ r. ⌜ Played (record { ring = «ring_length»; memory = «memory_length»; common = «common_length» })
+    ensures { λ r. ⌜ ScriptResult (record { ring = «ring_length»; memory = «memory_length»; common = «common_length» })
         (now (ring .entry)) (now (memory .entry)) (now (script .entry)) (now (answers .entry))
         r (now (ring .exit)) (now (memory .exit)) (now (answers .exit)) ⌝ }
 {

@@ -1,6 +1,6 @@
 // The calls of a script, one at a time.
-ghost use Rattle.session.specs.Script.{openIn, submitIn, pendingIn, next};
-ghost use Rattle.session.specs.Requests.{Reads};
+ghost use Rattle.session.specs.Script.{parseOpen, parseSubmit, parsePending, parseCall};
+ghost use Rattle.session.specs.Parsing.{ParsesAs};
 
 // A call, taken from bytes that begin with it. A batch is the bytes `from` to `to` of them.
 pub enum Request {
@@ -23,7 +23,7 @@ pub enum Next {
 
 // Open: start and length after the opcode.
 fn open_in(bytes: &[u8]) -> Next
-    ensures { λ r. ⌜ Reads (now (bytes .entry)) (openIn (now (bytes .entry))) r ⌝ }
+    ensures { λ r. ⌜ ParsesAs (now (bytes .entry)) (parseOpen (now (bytes .entry))) r ⌝ }
 {
     if bytes.len() < 9 {
         return Next::End;
@@ -38,7 +38,7 @@ fn open_in(bytes: &[u8]) -> Next
 
 // Submit: client, length and batch after the opcode. The length is read only where it is there.
 fn submit_in(bytes: &[u8]) -> Next
-    ensures { λ r. ⌜ Reads (now (bytes .entry)) (submitIn (now (bytes .entry))) r ⌝ }
+    ensures { λ r. ⌜ ParsesAs (now (bytes .entry)) (parseSubmit (now (bytes .entry))) r ⌝ }
 {
     if bytes.len() < 6 {
         return Next::End;
@@ -57,7 +57,7 @@ fn submit_in(bytes: &[u8]) -> Next
 
 // Pending: the client after the opcode.
 fn pending_in(bytes: &[u8]) -> Next
-    ensures { λ r. ⌜ Reads (now (bytes .entry)) (pendingIn (now (bytes .entry))) r ⌝ }
+    ensures { λ r. ⌜ ParsesAs (now (bytes .entry)) (parsePending (now (bytes .entry))) r ⌝ }
 {
     if bytes.len() < 2 {
         return Next::End;
@@ -71,7 +71,7 @@ fn pending_in(bytes: &[u8]) -> Next
 
 // The call that the bytes begin with.
 pub fn next_call(bytes: &[u8]) -> Next
-    ensures { λ r. ⌜ Reads (now (bytes .entry)) (next (now (bytes .entry))) r ⌝ }
+    ensures { λ r. ⌜ ParsesAs (now (bytes .entry)) (parseCall (now (bytes .entry))) r ⌝ }
 {
     if bytes.len() == 0 {
         return Next::End;

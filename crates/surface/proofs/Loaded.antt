@@ -11,7 +11,7 @@ use lib.Dec.{lit<}
 use lib.ListN.{length, getD}
 use borrow.Rule.Slice.PartMut.{midOf}
 use Rattle.word.specs.Word.{byteOf}
-use Rattle.pixel.specs.Formats.{bytesOf, layoutOf}
+use Rattle.pixel.specs.Formats.{bytesPerPixel, layoutOf}
 use Rattle.pixel.specs.Colours.{packed, unpacked}
 use Rattle.pixel.specs.declared.colour.Colour.{Colour}
 use Rattle.pixel.specs.declared.format.Format.{Format}
@@ -19,9 +19,9 @@ use Rattle.pixel.specs.declared.format.Format.the-variants.{Argb8888, Rgb888, R
 use Rattle.pixel.proofs.Stored.{Bytes, kept, narrow, packed-again, unpacked-packed}
 use Rattle.surface.specs.declared.Surface.{Surface}
 use Rattle.surface.specs.Surface.{rowLength, pixelStart, span}
-use Rattle.surface.specs.Memory.{mapi, within, number, pixelAt}
-use Rattle.surface.specs.Rows.{rows}
-use Rattle.surface.specs.Drawn.{loaded, stored, drawnOn}
+use Rattle.surface.specs.Memory.{mapi, overwriteRange, littleEndian, pixelAt}
+use Rattle.surface.specs.Rows.{overwriteRows}
+use Rattle.surface.specs.Drawn.{loadPixel, storePixel, drawSurface}
 use Rattle.surface.proofs.Sizes.{bytes-some}
 use Rattle.surface.proofs.Mapi.{length-mapi, getD-mapi, mapi-stays}
 use Rattle.surface.proofs.Parts.{within-before, within-in, within-past, getD-mid, length-mid}
@@ -40,10 +40,10 @@ byte-lowest : (n : ℕ) → byteOf n 0 ≡ n % 256
 unfolding byteOf
 byte-lowest n = omega arith
 
-pub number-bytes : (n : ℕ) (xs : List ℕ) → ((k : ℕ) → k < length xs → getD xs k 0 ≡ byteOf n k) → number xs ≡ n % 256 ^ length xs
+pub number-bytes : (n : ℕ) (xs : List ℕ) → ((k : ℕ) → k < length xs → getD xs k 0 ≡ byteOf n k) → littleEndian xs ≡ n % 256 ^ length xs
 number-bytes n [] h = omega arith
 number-bytes n (x ∷ xs) h =
-    let rest : number xs ≡ n / 256 % 256 ^ length xs = number-bytes (n / 256) xs (λ k l. h (suc k) (omega arith) ∙ byte-next n k) in
+    let rest : littleEndian xs ≡ n / 256 % 256 ^ length xs = number-bytes (n / 256) xs (λ k l. h (suc k) (omega arith) ∙ byte-next n k) in
     let lowest : x ≡ n % 256 = h 0 (omega arith) ∙ byte-lowest n in
     let all : n % (256 ^ length xs * 256) ≡ n / 256 % 256 ^ length xs * 256 + n % 256 = mod-mul n (one-le-pow (length xs) 256 (lit< tt)) (lit< tt) in
     rw (pow-suc 256 (length xs)) (omega arith)
@@ -69,98 +69,98 @@ channel-low n t w l =
     ∙ digits-mod (m / 2 ^ w % 2 ^ t) (mod-lt m (pow-pos w))
 
 -- so a format's channels lie in its bytes
-pub unpacked-low : (f : Format) (n : ℕ) → unpacked (layoutOf f) (n % 256 ^ bytesOf f) ≡ unpacked (layoutOf f) n
+pub unpacked-low : (f : Format) (n : ℕ) → unpacked (layoutOf f) (n % 256 ^ bytesPerPixel f) ≡ unpacked (layoutOf f) n
 unfolding unpacked
 unpacked-low Argb8888 n = rw (channel-low n 0 8 24, channel-low n 8 8 16, channel-low n 16 8 8, channel-low n 24 8 0)
 unpacked-low Rgb888 n = rw (channel-low n 0 8 16, channel-low n 8 8 8, channel-low n 16 8 0)
 unpacked-low Rgb565 n = rw (channel-low n 0 5 11, channel-low n 5 6 5, channel-low n 11 5 0)
 
 -- the colour of a pixel whose bytes are those of a packed colour
-pub loaded-bytes : (f : Format) (memory : List ℕ) (i : ℕ) (c : Colour) → i + bytesOf f ≤ length memory →
-    ((k : ℕ) → k < bytesOf f → getD memory (i + k) 0 ≡ byteOf (packed (layoutOf f) c) k) →
-    loaded f memory i ≡ unpacked (layoutOf f) (packed (layoutOf f) c)
-unfolding loaded
-loaded-bytes f memory i c l h = ap (unpacked (layoutOf f)) (pixel-bytes (bytesOf f) i _ memory l h) ∙ unpacked-low f (packed (layoutOf f) c)
+pub loaded-bytes : (f : Format) (memory : List ℕ) (i : ℕ) (c : Colour) → i + bytesPerPixel f ≤ length memory →
+    ((k : ℕ) → k < bytesPerPixel f → getD memory (i + k) 0 ≡ byteOf (packed (layoutOf f) c) k) →
+    loadPixel f memory i ≡ unpacked (layoutOf f) (packed (layoutOf f) c)
+unfolding loadPixel
+loaded-bytes f memory i c l h = ap (unpacked (layoutOf f)) (pixel-bytes (bytesPerPixel f) i _ memory l h) ∙ unpacked-low f (packed (layoutOf f) c)
 
 -- ---- a pixel loaded
 
 -- it has the same colour where its bytes are the same
 pub loaded-same : (f : Format) (i : ℕ) (xs ys : List ℕ) → length xs ≡ length ys →
-    ((k : ℕ) → k < bytesOf f → getD xs (i + k) 0 ≡ getD ys (i + k) 0) → loaded f xs i ≡ loaded f ys i
-unfolding loaded
-loaded-same f i xs ys e h = ap (unpacked (layoutOf f)) (pixel-same (bytesOf f) i xs ys e h)
+    ((k : ℕ) → k < bytesPerPixel f → getD xs (i + k) 0 ≡ getD ys (i + k) 0) → loadPixel f xs i ≡ loadPixel f ys i
+unfolding loadPixel
+loaded-same f i xs ys e h = ap (unpacked (layoutOf f)) (pixel-same (bytesPerPixel f) i xs ys e h)
 
 -- and the same in a window
-pub loaded-shift : (f : Format) (d k i : ℕ) (xs : List ℕ) → i + bytesOf f ≤ k → loaded f (midOf d k xs) i ≡ loaded f xs (d + i)
-unfolding loaded
-loaded-shift f d k i xs h = ap (unpacked (layoutOf f)) (pixel-shift (bytesOf f) d k i xs h)
+pub loaded-shift : (f : Format) (d k i : ℕ) (xs : List ℕ) → i + bytesPerPixel f ≤ k → loadPixel f (midOf d k xs) i ≡ loadPixel f xs (d + i)
+unfolding loadPixel
+loaded-shift f d k i xs h = ap (unpacked (layoutOf f)) (pixel-shift (bytesPerPixel f) d k i xs h)
 
 -- stored in its own format and loaded again, it has the same colour
-pub loaded-again : (f : Format) (memory : List ℕ) (i : ℕ) → unpacked (layoutOf f) (packed (layoutOf f) (loaded f memory i)) ≡ loaded f memory i
-unfolding loaded
+pub loaded-again : (f : Format) (memory : List ℕ) (i : ℕ) → unpacked (layoutOf f) (packed (layoutOf f) (loadPixel f memory i)) ≡ loadPixel f memory i
+unfolding loadPixel
 loaded-again f memory i = ap (unpacked (layoutOf f)) (packed-again f _) ∙ unpacked-low f _
 
 -- ---- a pixel stored
 
 module _ (f : Format) (memory : List ℕ) (i : ℕ) (c : Colour) where
-  pub length-stored : length (stored f memory i c) ≡ length memory
-  unfolding stored
+  pub length-stored : length (storePixel f memory i c) ≡ length memory
+  unfolding storePixel
   length-stored = length-mapi _ memory
 
   -- a byte that is not the pixel's is as it was
-  pub stored-else : (k : ℕ) → (k < i) ⊎ (i + bytesOf f ≤ k) → getD (stored f memory i c) k 0 ≡ getD memory k 0
-  unfolding stored
+  pub stored-else : (k : ℕ) → (k < i) ⊎ (i + bytesPerPixel f ≤ k) → getD (storePixel f memory i c) k 0 ≡ getD memory k 0
+  unfolding storePixel
   stored-else k o =
       mapi-stays _ memory k
-      (λ old. ⊎-elim (λ (u : k < i). within-before i (bytesOf f) _ k old u) (λ (u : i + bytesOf f ≤ k). within-past i (bytesOf f) _ k old u) o)
+      (λ old. ⊎-elim (λ (u : k < i). within-before i (bytesPerPixel f) _ k old u) (λ (u : i + bytesPerPixel f ≤ k). within-past i (bytesPerPixel f) _ k old u) o)
 
   -- its own are those of the packed colour
-  pub stored-byte : i + bytesOf f ≤ length memory → (k : ℕ) → k < bytesOf f → getD (stored f memory i c) (i + k) 0 ≡ byteOf (packed (layoutOf f) c) k
-  unfolding stored
+  pub stored-byte : i + bytesPerPixel f ≤ length memory → (k : ℕ) → k < bytesPerPixel f → getD (storePixel f memory i c) (i + k) 0 ≡ byteOf (packed (layoutOf f) c) k
+  unfolding storePixel
   stored-byte l k u =
       let e : i + k - i ≡ k = omega arith in
       getD-mapi _ memory (i + k) (omega arith)
-      ∙ within-in i (bytesOf f) _ (i + k) (getD memory (i + k) 0) (omega arith) (omega arith)
+      ∙ within-in i (bytesPerPixel f) _ (i + k) (getD memory (i + k) 0) (omega arith) (omega arith)
       ∙ ap (byteOf (packed (layoutOf f) c)) e
 
   -- loaded again it has the colour that the format keeps
-  pub loaded-stored : i + bytesOf f ≤ length memory → loaded f (stored f memory i c) i ≡ unpacked (layoutOf f) (packed (layoutOf f) c)
-  loaded-stored l = loaded-bytes f (stored f memory i c) i c (omega (arith, length-stored)) (stored-byte l)
+  pub loaded-stored : i + bytesPerPixel f ≤ length memory → loadPixel f (storePixel f memory i c) i ≡ unpacked (layoutOf f) (packed (layoutOf f) c)
+  loaded-stored l = loaded-bytes f (storePixel f memory i c) i c (omega (arith, length-stored)) (stored-byte l)
 
   -- the same, channel by channel
-  pub loaded-kept : Bytes c → i + bytesOf f ≤ length memory → loaded f (stored f memory i c) i ≡ kept (layoutOf f) c
+  pub loaded-kept : Bytes c → i + bytesPerPixel f ≤ length memory → loadPixel f (storePixel f memory i c) i ≡ kept (layoutOf f) c
   loaded-kept h l = loaded-stored l ∙ unpacked-packed (layoutOf f) (narrow f) c h
 
   -- and other pixels, of any format, are as they were
-  pub loaded-else : (g : Format) (k : ℕ) → (k + bytesOf g ≤ i) ⊎ (i + bytesOf f ≤ k) → loaded g (stored f memory i c) k ≡ loaded g memory k
+  pub loaded-else : (g : Format) (k : ℕ) → (k + bytesPerPixel g ≤ i) ⊎ (i + bytesPerPixel f ≤ k) → loadPixel g (storePixel f memory i c) k ≡ loadPixel g memory k
   loaded-else g k o =
-      loaded-same g k (stored f memory i c) memory length-stored
-      (λ j u. stored-else (k + j) (⊎-elim (λ (v : k + bytesOf g ≤ i). inl (omega arith)) (λ (v : i + bytesOf f ≤ k). inr (omega arith)) o))
+      loaded-same g k (storePixel f memory i c) memory length-stored
+      (λ j u. stored-else (k + j) (⊎-elim (λ (v : k + bytesPerPixel g ≤ i). inl (omega arith)) (λ (v : i + bytesPerPixel f ≤ k). inr (omega arith)) o))
 
 -- a row of pixels stored one by one, from r on: one more. What all w of them make is `row-pixels`
 pub more-stored : (f : Format) (p : ℕ → Colour) (r : ℕ) (xs₀ xs ys : List ℕ) (x i : ℕ) (c : Colour) →
-    i ≡ r + x * bytesOf f → c ≡ p x →
-    xs ≡ mapi (rows r (bytesOf f) (bytesOf f) x (λ x k. byteOf (packed (layoutOf f) (p x)) k)) xs₀ → ys ≡ stored f xs i c →
-    ys ≡ mapi (rows r (bytesOf f) (bytesOf f) (x + 1) (λ x k. byteOf (packed (layoutOf f) (p x)) k)) xs₀
-unfolding stored
+    i ≡ r + x * bytesPerPixel f → c ≡ p x →
+    xs ≡ mapi (overwriteRows r (bytesPerPixel f) (bytesPerPixel f) x (λ x k. byteOf (packed (layoutOf f) (p x)) k)) xs₀ → ys ≡ storePixel f xs i c →
+    ys ≡ mapi (overwriteRows r (bytesPerPixel f) (bytesPerPixel f) (x + 1) (λ x k. byteOf (packed (layoutOf f) (p x)) k)) xs₀
+unfolding storePixel
 more-stored f p r xs₀ xs ys x i c e q h m =
-    turn-rows r (bytesOf f) (bytesOf f) _ xs₀ xs ys x i (bytes-some f) (le-refl (bytesOf f)) e h
-    (m ∙ ap (λ (c : Colour). mapi (within i (bytesOf f) (λ (k old : ℕ). byteOf (packed (layoutOf f) c) k)) xs) q)
+    turn-rows r (bytesPerPixel f) (bytesPerPixel f) _ xs₀ xs ys x i (bytes-some f) (le-refl (bytesPerPixel f)) e h
+    (m ∙ ap (λ (c : Colour). mapi (overwriteRange i (bytesPerPixel f) (λ (k old : ℕ). byteOf (packed (layoutOf f) c) k)) xs) q)
 
 -- ---- a pixel drawn
 
 -- the pixel (x, y) of a drawing, loaded, has the colour that the format keeps of p x y
 pub loaded-drawn : (s : Surface) (p : ℕ → ℕ → Colour) (memory : List ℕ) → rowLength s ≤ s .stride → span s .end ≤ length memory →
     (x y : ℕ) → x < s .width → y < s .height →
-    loaded (s .format) (drawnOn s p memory) (pixelStart s x y) ≡ unpacked (layoutOf (s .format)) (packed (layoutOf (s .format)) (p x y))
+    loadPixel (s .format) (drawSurface s p memory) (pixelStart s x y) ≡ unpacked (layoutOf (s .format)) (packed (layoutOf (s .format)) (p x y))
 loaded-drawn s p memory w l x y u v =
-    loaded-bytes (s .format) (drawnOn s p memory) (pixelStart s x y) (p x y) (omega (arith, length-drawnOn s p memory, pixel-in-span s x y u v .1)) at
+    loaded-bytes (s .format) (drawSurface s p memory) (pixelStart s x y) (p x y) (omega (arith, length-drawnOn s p memory, pixel-in-span s x y u v .1)) at
   where
-    at : (k : ℕ) → k < bytesOf (s .format) → getD (drawnOn s p memory) (pixelStart s x y + k) 0 ≡ byteOf (packed (layoutOf (s .format)) (p x y)) k
+    at : (k : ℕ) → k < bytesPerPixel (s .format) → getD (drawSurface s p memory) (pixelStart s x y + k) 0 ≡ byteOf (packed (layoutOf (s .format)) (p x y)) k
     at k z =
-        let j : ℕ = x * bytesOf (s .format) + k in
-        let col : j / bytesOf (s .format) ≡ x = digits-div x z in
-        let place : j % bytesOf (s .format) ≡ k = digits-mod x z in
+        let j : ℕ = x * bytesPerPixel (s .format) + k in
+        let col : j / bytesPerPixel (s .format) ≡ x = digits-div x z in
+        let place : j % bytesPerPixel (s .format) ≡ k = digits-mod x z in
         inside-row s p memory w (pixelStart s x y + k) y j (omega (arith, pixel-in-span s x y u v .1))
         (record { row = v; column = omega (arith, pixel-in-row s x u); is = omega arith })
         ∙ rw (col, place)

@@ -8,32 +8,32 @@ use native.Mathlib.Omega.{arith}
 use lib.Dec.{eqb, ltb}
 use borrow.Author.Tests.{ltb-true, lt-ltb}
 use Rattle.word.proofs.Tests.{split, and-true}
-use Rattle.range.specs.Range.{shared}
+use Rattle.range.specs.Range.{overlaps}
 use Rattle.range.proofs.Laws.{apart}
 use Rattle.surface.specs.declared.Surface.{Surface}
-use Rattle.surface.specs.Surface.{rowLength, rowStart, span, InRow, Separate}
-use Rattle.surface.specs.Meet.{someBelow, rowsMeet, meet, Before}
+use Rattle.surface.specs.Surface.{rowLength, rowStart, span, InRow, DisjointRows}
+use Rattle.surface.specs.Meet.{existsBelow, rowsOverlap, surfacesOverlap, StartsNoLater}
 use Rattle.surface.proofs.Outside.{byte-in-span}
 
 -- ---- some number below n
 
-some-true : (n : ℕ) (test : ℕ → Bool) → someBelow n test ≡ true → (k : ℕ) × (k < n) × (test k ≡ true)
-unfolding someBelow
+some-true : (n : ℕ) (test : ℕ → Bool) → existsBelow n test ≡ true → (k : ℕ) × (k < n) × (test k ≡ true)
+unfolding existsBelow
 some-true zero test e = absurd (false≢true e)
 some-true (suc n) test e = go (test n) refl e (some-true n test)
   where
-    go : (t : Bool) → test n ≡ t → t || someBelow n test ≡ true → (someBelow n test ≡ true → (k : ℕ) × (k < n) × (test k ≡ true)) →
+    go : (t : Bool) → test n ≡ t → t || existsBelow n test ≡ true → (existsBelow n test ≡ true → (k : ℕ) × (k < n) × (test k ≡ true)) →
         (k : ℕ) × (k < suc n) × (test k ≡ true)
     go true h e rest = (n, omega arith, h)
     go false h e rest = let r = rest e in (r .0, omega arith, r .2)
 
-true-some : (n : ℕ) (test : ℕ → Bool) (k : ℕ) → k < n → test k ≡ true → someBelow n test ≡ true
-unfolding someBelow
+true-some : (n : ℕ) (test : ℕ → Bool) (k : ℕ) → k < n → test k ≡ true → existsBelow n test ≡ true
+unfolding existsBelow
 true-some zero test k l h = absurd (omega arith)
 true-some (suc n) test k l h =
     ⊎-elim
-    (λ (u : k < n). or-right (test n) (someBelow n test) (true-some n test k u h))
-    (λ (u : n ≤ k). let z : n ≡ k = omega arith in ap (λ (t : Bool). t || someBelow n test) (ap test z ∙ h))
+    (λ (u : k < n). or-right (test n) (existsBelow n test) (true-some n test k u h))
+    (λ (u : n ≤ k). let z : n ≡ k = omega arith in ap (λ (t : Bool). t || existsBelow n test) (ap test z ∙ h))
     (split k n)
   where
     or-right : (a b : Bool) → b ≡ true → a || b ≡ true
@@ -50,23 +50,23 @@ pub record Meeting (a b : Surface) : Type 0 where
   pub second : v < b .height
   pub common : max (rowStart a y) (rowStart b v) < min (rowStart a y + rowLength a) (rowStart b v + rowLength b)
 
-pub meeting : (a b : Surface) → rowsMeet a b ≡ true → Meeting a b
-unfolding rowsMeet
+pub meeting : (a b : Surface) → rowsOverlap a b ≡ true → Meeting a b
+unfolding rowsOverlap
 meeting a b e =
     let p = some-true (a .height) _ e in
     let q = some-true (b .height) _ (p .2) in
     record { y = p .0; v = q .0; first = p .1; second = q .1; common = ltb-true _ _ (q .2) }
 
-pub meeting-true : (a b : Surface) → Meeting a b → rowsMeet a b ≡ true
-unfolding rowsMeet
+pub meeting-true : (a b : Surface) → Meeting a b → rowsOverlap a b ≡ true
+unfolding rowsOverlap
 meeting-true a b m = true-some (a .height) _ (m .y) (m .first) (true-some (b .height) _ (m .v) (m .second) (lt-ltb _ _ (m .common)))
 
 -- a test that passes exactly where rows meet
-pub exactly : (a b : Surface) (t : Bool) → (t ≡ true → Meeting a b) → (Meeting a b → t ≡ true) → t ≡ rowsMeet a b
+pub exactly : (a b : Surface) (t : Bool) → (t ≡ true → Meeting a b) → (Meeting a b → t ≡ true) → t ≡ rowsOverlap a b
 exactly a b true f g = sym (meeting-true a b (f refl))
-exactly a b false f g = go (rowsMeet a b) refl
+exactly a b false f g = go (rowsOverlap a b) refl
   where
-    go : (u : Bool) → rowsMeet a b ≡ u → false ≡ u
+    go : (u : Bool) → rowsOverlap a b ≡ u → false ≡ u
     go true e = g (meeting a b e)
     go false e = refl
 
@@ -74,12 +74,12 @@ turned : (a b : Surface) → Meeting a b → Meeting b a
 turned a b m = record { y = m .v; v = m .y; first = m .second; second = m .first; common = omega (arith, m .common) }
 
 -- which of the two comes first does not matter
-pub rows-turned : (a b : Surface) → rowsMeet a b ≡ rowsMeet b a
-rows-turned a b = exactly b a (rowsMeet a b) (λ e. turned a b (meeting a b e)) (λ m. meeting-true a b (turned b a m))
+pub rows-turned : (a b : Surface) → rowsOverlap a b ≡ rowsOverlap b a
+rows-turned a b = exactly b a (rowsOverlap a b) (λ e. turned a b (meeting a b e)) (λ m. meeting-true a b (turned b a m))
 
 -- ---- b begins no earlier, and both have the same stride: row r of a and the first of b tell
 
-module _ (a b : Surface) (o : Before a b) where
+module _ (a b : Surface) (o : StartsNoLater a b) where
   -- row r is the first that ends past b's first byte, or all rows of a lie at one place
   pub data First (r : ℕ) : Type 0 where
     near : r ≡ 0 → b .address < a .address + rowLength a → First r
@@ -126,7 +126,7 @@ module _ (a b : Surface) (o : Before a b) where
   met r t = record { y = r; v = 0; first = t .0; second = t .1; common = omega (arith, t .2) }
 
   pub row-tells : (r end from to : ℕ) → First r → end ≡ rowStart a r + rowLength a → from ≡ b .address → to ≡ b .address + rowLength b →
-      ltb r (a .height) && ltb 0 (b .height) && shared (record { start = rowStart a r; end = end }) (record { start = from; end = to }) ≡ rowsMeet a b
+      ltb r (a .height) && ltb 0 (b .height) && overlaps (record { start = rowStart a r; end = end }) (record { start = from; end = to }) ≡ rowsOverlap a b
   row-tells r end from to f e g h =
       rw (e, g, h)
       (exactly a b _
@@ -139,12 +139,12 @@ module _ (a b : Surface) (o : Before a b) where
 -- ---- what is separate
 
 -- rows that do not meet have no byte in common
-pub rows-separate : (a b : Surface) → rowsMeet a b ≡ false → Separate a b
+pub rows-separate : (a b : Surface) → rowsOverlap a b ≡ false → DisjointRows a b
 rows-separate a b e i y j v k r q =
     false≢true (sym e ∙ meeting-true a b (record { y = y; v = v; first = r .row; second = q .row; common = omega (arith, r .is, r .column, q .is, q .column) }))
 
 -- and rows that meet have one: the later of their starts
-pub common-byte : (a b : Surface) → rowsMeet a b ≡ true → (i : ℕ) × (y : ℕ) × (j : ℕ) × (v : ℕ) × (k : ℕ) × InRow a i y j × InRow b i v k
+pub common-byte : (a b : Surface) → rowsOverlap a b ≡ true → (i : ℕ) × (y : ℕ) × (j : ℕ) × (v : ℕ) × (k : ℕ) × InRow a i y j × InRow b i v k
 common-byte a b e =
     let m = meeting a b e in
     let i : ℕ = max (rowStart a (m .y)) (rowStart b (m .v)) in (
@@ -158,10 +158,10 @@ common-byte a b e =
     )
 
 -- surfaces that do not meet have no byte of a row in common
-pub separate : (a b : Surface) → meet a b ≡ false → Separate a b
-unfolding meet
+pub separate : (a b : Surface) → surfacesOverlap a b ≡ false → DisjointRows a b
+unfolding surfacesOverlap
 separate a b e = go (eqb (a .stride) (b .stride)) e
   where
-    go : (t : Bool) → cond t (rowsMeet a b) (shared (span a) (span b)) ≡ false → Separate a b
+    go : (t : Bool) → cond t (rowsOverlap a b) (overlaps (span a) (span b)) ≡ false → DisjointRows a b
     go true e = rows-separate a b e
     go false e = λ i y j v k r q. apart (span a) (span b) e i (byte-in-span a i y j r) (byte-in-span b i v k q)

@@ -1,4 +1,4 @@
--- A part of memory: `within` at each byte, and a part that was lent (`midOf`) and came back (`putMid`).
+-- A part of memory: `overwriteRange` at each byte, and a part that was lent (`midOf`) and came back (`putMid`).
 use mathlib.Core.Path.{_≡_, refl, sym, ap, _∙_}
 use mathlib.Core.List.{List, _++_}
 use mathlib.Core.Logic.{_⊎_, ⊎-elim, _≢_}
@@ -11,7 +11,7 @@ use lib.ListN.{length, getD, set, take, drop, length-drop, List·getD-append}
 use lib.Seq.{ext-getD, getD-take, getD-drop, length-take-le}
 use Rattle.word.proofs.Tests.{split}
 use Rattle.word.proofs.Splice.{getD-right}
-use Rattle.surface.specs.Memory.{mapi, within}
+use Rattle.surface.specs.Memory.{mapi, overwriteRange}
 use Rattle.surface.proofs.Mapi.{length-mapi, getD-mapi, is-mapi, mapi-ext, set-mapi}
 
 -- where i lies to the n places from r on
@@ -23,21 +23,21 @@ pub data Side (r n i : ℕ) : Type 0 where
 pub side : (r n i : ℕ) → Side r n i
 side r n i = ⊎-elim (λ u. before u) (λ u. ⊎-elim (λ v. inside u v) (λ v. past v) (split i (r + n))) (split i r)
 
--- ---- a byte of `within`
+-- ---- a byte of `overwriteRange`
 
 module _ (r n : ℕ) (g : ℕ → ℕ → ℕ) (i old : ℕ) where
-  pub within-before : i < r → within r n g i old ≡ old
-  unfolding within
+  pub within-before : i < r → overwriteRange r n g i old ≡ old
+  unfolding overwriteRange
   within-before h = simp lt-leb
 
-  pub within-in : r ≤ i → i < r + n → within r n g i old ≡ g (i - r) old
-  unfolding within
+  pub within-in : r ≤ i → i < r + n → overwriteRange r n g i old ≡ g (i - r) old
+  unfolding overwriteRange
   within-in h₁ h =
       let h₂ : i - r < n = omega arith in
       simp le-leb
 
-  pub within-past : r + n ≤ i → within r n g i old ≡ old
-  unfolding within
+  pub within-past : r + n ≤ i → overwriteRange r n g i old ≡ old
+  unfolding overwriteRange
   within-past h =
       let h₁ : r ≤ i = omega arith in
       let h₂ : n ≤ i - r = omega arith in
@@ -45,19 +45,19 @@ module _ (r n : ℕ) (g : ℕ → ℕ → ℕ) (i old : ℕ) where
 
 -- a part's bytes go by what is asked for inside it alone
 pub within-ext : (r n : ℕ) (f g : ℕ → ℕ → ℕ) (xs : List ℕ) → ((j : ℕ) → j < n → (o : ℕ) → f j o ≡ g j o) →
-    mapi (within r n f) xs ≡ mapi (within r n g) xs
+    mapi (overwriteRange r n f) xs ≡ mapi (overwriteRange r n g) xs
 within-ext r n f g xs h = mapi-ext _ _ xs (λ i l. at i (getD xs i 0) (side r n i))
   where
-    at : (i old : ℕ) → Side r n i → within r n f i old ≡ within r n g i old
+    at : (i old : ℕ) → Side r n i → overwriteRange r n f i old ≡ overwriteRange r n g i old
     at i old (before v) = within-before r n f i old v ∙ sym (within-before r n g i old v)
     at i old (inside v t) = within-in r n f i old v t ∙ h (i - r) (omega arith) old ∙ sym (within-in r n g i old v t)
     at i old (past t) = within-past r n f i old t ∙ sym (within-past r n g i old t)
 
 -- a part of a part
-pub within-within : (d m r n : ℕ) (g : ℕ → ℕ → ℕ) (xs : List ℕ) → r + n ≤ m → mapi (within d m (within r n g)) xs ≡ mapi (within (d + r) n g) xs
+pub within-within : (d m r n : ℕ) (g : ℕ → ℕ → ℕ) (xs : List ℕ) → r + n ≤ m → mapi (overwriteRange d m (overwriteRange r n g)) xs ≡ mapi (overwriteRange (d + r) n g) xs
 within-within d m r n g xs h = mapi-ext _ _ xs (λ i l. at i (getD xs i 0) (side d m i) (side (d + r) n i))
   where
-    at : (i old : ℕ) → Side d m i → Side (d + r) n i → within d m (within r n g) i old ≡ within (d + r) n g i old
+    at : (i old : ℕ) → Side d m i → Side (d + r) n i → overwriteRange d m (overwriteRange r n g) i old ≡ overwriteRange (d + r) n g i old
     at i old (before v) s = within-before d m _ i old v ∙ sym (within-before (d + r) n g i old (omega arith))
     at i old (past t) s = within-past d m _ i old t ∙ sym (within-past (d + r) n g i old (omega arith))
     at i old (inside v t) (before u) = within-in d m _ i old v t ∙ within-before r n g (i - d) old (omega arith) ∙ sym (within-before (d + r) n g i old u)
@@ -68,30 +68,30 @@ within-within d m r n g xs h = mapi-ext _ _ xs (λ i l. at i (getD xs i 0) (side
 
 -- ---- stores in a row: after n of them from r on it is `mapi (within r n g) xs`
 
-pub none-within : (r : ℕ) (g : ℕ → ℕ → ℕ) (xs : List ℕ) → xs ≡ mapi (within r 0 g) xs
+pub none-within : (r : ℕ) (g : ℕ → ℕ → ℕ) (xs : List ℕ) → xs ≡ mapi (overwriteRange r 0 g) xs
 none-within r g xs =
-    is-mapi (within r 0 g) xs xs refl
+    is-mapi (overwriteRange r 0 g) xs xs refl
     (λ i l. sym (⊎-elim (λ b. within-before r 0 g i (getD xs i 0) b) (λ a. within-past r 0 g i (getD xs i 0) (omega arith)) (split i r)))
 
 -- one store more; `xs` is what the stores before it left
-pub set-within : (r n : ℕ) (g : ℕ → ℕ → ℕ) (xs₀ xs : List ℕ) (k v : ℕ) → xs ≡ mapi (within r n g) xs₀ → k ≡ r + n → v ≡ g n (getD xs₀ k 0) →
-    set xs k v ≡ mapi (within r (n + 1) g) xs₀
+pub set-within : (r n : ℕ) (g : ℕ → ℕ → ℕ) (xs₀ xs : List ℕ) (k v : ℕ) → xs ≡ mapi (overwriteRange r n g) xs₀ → k ≡ r + n → v ≡ g n (getD xs₀ k 0) →
+    set xs k v ≡ mapi (overwriteRange r (n + 1) g) xs₀
 set-within r n g xs₀ xs k v m q e =
     let d : k - r ≡ n = omega arith in
     ap (λ (l : List ℕ). set l k v) m
-    ∙ set-mapi (within r n g) (within r (n + 1) g) xs₀ k v
+    ∙ set-mapi (overwriteRange r n g) (overwriteRange r (n + 1) g) xs₀ k v
     (e ∙ sym (within-in r (n + 1) g k (getD xs₀ k 0) (omega arith) (omega arith) ∙ ap (λ (j : ℕ). g j (getD xs₀ k 0)) d))
     (λ i ne old. at i ne old (side r n i))
   where
-    at : (i : ℕ) → i ≢ k → (old : ℕ) → Side r n i → within r n g i old ≡ within r (n + 1) g i old
+    at : (i : ℕ) → i ≢ k → (old : ℕ) → Side r n i → overwriteRange r n g i old ≡ overwriteRange r (n + 1) g i old
     at i ne old (before u) = within-before r n g i old u ∙ sym (within-before r (n + 1) g i old u)
     at i ne old (inside u w) = within-in r n g i old u w ∙ sym (within-in r (n + 1) g i old u (omega arith))
     at i ne old (past w) = within-past r n g i old w ∙ sym (within-past r (n + 1) g i old (omega arith))
 
 -- a part that is the whole
-pub all-within : (g : ℕ → ℕ → ℕ) (xs : List ℕ) (k : ℕ) → length xs ≤ k → mapi (within 0 k g) xs ≡ mapi g xs
+pub all-within : (g : ℕ → ℕ → ℕ) (xs : List ℕ) (k : ℕ) → length xs ≤ k → mapi (overwriteRange 0 k g) xs ≡ mapi g xs
 all-within g xs k h =
-    mapi-ext (within 0 k g) g xs
+    mapi-ext (overwriteRange 0 k g) g xs
     (λ i l. within-in 0 k g i (getD xs i 0) (omega arith) (omega arith) ∙ ap (λ (j : ℕ). g j (getD xs i 0)) (sub-zero i))
 
 -- ---- a part that was lent and came back
@@ -144,8 +144,8 @@ mid-apart r n d m xs ys f l k o =
     ∙ ⊎-elim (λ (u : d + m ≤ r). put-before r n xs ys f l (d + j) (omega arith)) (λ (u : r + n ≤ d). put-past r n xs ys f l (d + j) (omega arith)) o
     ∙ sym (getD-mid d m xs j z))
 
-put-mapi : (g : ℕ → ℕ → ℕ) (xs : List ℕ) (r n : ℕ) → r + n ≤ length xs → putMid r n xs (mapi g (midOf r n xs)) ≡ mapi (within r n g) xs
-put-mapi g xs r n h = is-mapi (within r n g) xs (putMid r n xs M) (length-put r n xs M h lm) (λ i l. at i l (side r n i))
+put-mapi : (g : ℕ → ℕ → ℕ) (xs : List ℕ) (r n : ℕ) → r + n ≤ length xs → putMid r n xs (mapi g (midOf r n xs)) ≡ mapi (overwriteRange r n g) xs
+put-mapi g xs r n h = is-mapi (overwriteRange r n g) xs (putMid r n xs M) (length-put r n xs M h lm) (λ i l. at i l (side r n i))
   where
     M : List ℕ
     M = mapi g (midOf r n xs)
@@ -153,7 +153,7 @@ put-mapi g xs r n h = is-mapi (within r n g) xs (putMid r n xs M) (length-put r 
     lm : length M ≡ n
     lm = length-mapi g (midOf r n xs) ∙ length-mid r n xs h
 
-    at : (i : ℕ) → i < length xs → Side r n i → getD (putMid r n xs M) i 0 ≡ within r n g i (getD xs i 0)
+    at : (i : ℕ) → i < length xs → Side r n i → getD (putMid r n xs M) i 0 ≡ overwriteRange r n g i (getD xs i 0)
     at i l (before u) = put-before r n xs M h lm i u ∙ sym (within-before r n g i (getD xs i 0) u)
     at i l (inside u v) =
         let w : r + (i - r) ≡ i = omega arith in
@@ -166,5 +166,5 @@ put-mapi g xs r n h = is-mapi (within r n g) xs (putMid r n xs M) (length-put r 
 -- the whole, after a part of n bytes from r on came back as `mapi g` of what it was. k is the part's length as the borrow
 -- checker says it
 pub part-mapi : (g : ℕ → ℕ → ℕ) (xs ys : List ℕ) (r k n : ℕ) → k ≡ n → r + n ≤ length xs → ys ≡ mapi g (midOf r k xs) →
-    putMid r k xs ys ≡ mapi (within r n g) xs
+    putMid r k xs ys ≡ mapi (overwriteRange r n g) xs
 part-mapi g xs ys r k n e h m = rw m (rw e (put-mapi g xs r n h))

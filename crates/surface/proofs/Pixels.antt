@@ -9,8 +9,8 @@ use lib.ListN.{length, length-take, length-drop, getD, take, drop}
 use lib.Seq.{drop-cons, ext-getD, getD-take, getD-drop}
 use borrow.Rule.Slice.PartMut.{midOf}
 use Rattle.word.specs.Word.{byteOf}
-use Rattle.surface.specs.Memory.{mapi, within, number, pixelAt}
-use Rattle.surface.specs.Rows.{rows, rowByte}
+use Rattle.surface.specs.Memory.{mapi, overwriteRange, littleEndian, pixelAt}
+use Rattle.surface.specs.Rows.{overwriteRows, rowByte}
 use Rattle.surface.proofs.Mapi.{length-mapi, getD-mapi, mapi-ext}
 use Rattle.surface.proofs.Parts.{Side, before, inside, past, side, within-before, within-in, within-past, all-within}
 use Rattle.surface.proofs.Rows.{rows-before, rows-hit, rows-later, rows-past}
@@ -18,14 +18,14 @@ use Rattle.surface.proofs.Rows.{rows-before, rows-hit, rows-later, rows
 -- ---- the number that bytes spell
 
 -- one byte more, from the highest down
-pub number-step : (xs : List ℕ) (k : ℕ) → 0 < k → k ≤ length xs → number (drop (k - 1) xs) ≡ getD xs (k - 1) 0 + 256 * number (drop k xs)
+pub number-step : (xs : List ℕ) (k : ℕ) → 0 < k → k ≤ length xs → littleEndian (drop (k - 1) xs) ≡ getD xs (k - 1) 0 + 256 * littleEndian (drop k xs)
 number-step xs zero z h = absurd (not-suc-le-zero z)
 number-step xs (suc j) z h =
     let e : suc j - 1 ≡ j = omega arith in
-    rw e (ap number (drop-cons xs j 0 h))
+    rw e (ap littleEndian (drop-cons xs j 0 h))
 
 -- the part that was lent to read a pixel spells that pixel
-pub pixel-part : (b k i j : ℕ) (xs : List ℕ) → k ≡ b → i ≡ j → number (midOf i k xs) ≡ pixelAt b xs j
+pub pixel-part : (b k i j : ℕ) (xs : List ℕ) → k ≡ b → i ≡ j → littleEndian (midOf i k xs) ≡ pixelAt b xs j
 unfolding pixelAt
 pixel-part b k i j xs e q = rw (e, q)
 
@@ -33,7 +33,7 @@ pixel-part b k i j xs e q = rw (e, q)
 pub pixel-shift : (b d k i : ℕ) (xs : List ℕ) → i + b ≤ k → pixelAt b (midOf d k xs) i ≡ pixelAt b xs (d + i)
 unfolding pixelAt
 pixel-shift b d k i xs h =
-    ap number
+    ap littleEndian
     (ext-getD 0 (take b (drop i (take k (drop d xs)))) (take b (drop (d + i) xs))
     (simp (length-take, length-drop) (omega arith))
     (λ j l.
@@ -52,7 +52,7 @@ pub pixel-same : (b i : ℕ) (xs ys : List ℕ) → length xs ≡ length ys → 
     pixelAt b xs i ≡ pixelAt b ys i
 unfolding pixelAt
 pixel-same b i xs ys e h =
-    ap number
+    ap littleEndian
     (ext-getD 0 (take b (drop i xs)) (take b (drop i ys))
     (simp (length-take, length-drop, e))
     (λ k l. let z : k < b = omega (arith, length-take b (drop i xs)) in rw (getD-take b (drop i xs) k 0 z, getD-take b (drop i ys) k 0 z, getD-drop, getD-drop) (h k z)))
@@ -63,14 +63,14 @@ pixel-mapi b i f xs l h = pixel-same b i (mapi f xs) xs (length-mapi f xs) (λ k
 
 -- a pixel of a row that is still to come
 pub pixel-later : (b i a s n h : ℕ) (f : ℕ → ℕ → ℕ) (xs : List ℕ) → 0 < s → i + b ≤ length xs → a + h * s ≤ i →
-    pixelAt b (mapi (rows a s n h f) xs) i ≡ pixelAt b xs i
-pixel-later b i a s n h f xs p l u = pixel-mapi b i (rows a s n h f) xs l (λ k z. rows-later a s n h f (i + k) (getD xs (i + k) 0) p (omega arith))
+    pixelAt b (mapi (overwriteRows a s n h f) xs) i ≡ pixelAt b xs i
+pixel-later b i a s n h f xs p l u = pixel-mapi b i (overwriteRows a s n h f) xs l (λ k z. rows-later a s n h f (i + k) (getD xs (i + k) 0) p (omega arith))
 
 -- a pixel that lies before the rows, or past them
 pub pixel-apart : (b i a s n h : ℕ) (f : ℕ → ℕ → ℕ) (xs : List ℕ) → 0 < s → i + b ≤ length xs → (i + b ≤ a) ⊎ (a + (h - 1) * s + n ≤ i) →
-    pixelAt b (mapi (rows a s n h f) xs) i ≡ pixelAt b xs i
-pixel-apart b i a s n h f xs p l (inl u) = pixel-mapi b i (rows a s n h f) xs l (λ k z. rows-before a s n h f (getD xs (i + k) 0) (i + k) (omega arith))
-pixel-apart b i a s n h f xs p l (inr u) = pixel-mapi b i (rows a s n h f) xs l (λ k z. rows-past a s n h f (i + k) (getD xs (i + k) 0) p (omega arith))
+    pixelAt b (mapi (overwriteRows a s n h f) xs) i ≡ pixelAt b xs i
+pixel-apart b i a s n h f xs p l (inl u) = pixel-mapi b i (overwriteRows a s n h f) xs l (λ k z. rows-before a s n h f (getD xs (i + k) 0) (i + k) (omega arith))
+pixel-apart b i a s n h f xs p l (inr u) = pixel-mapi b i (overwriteRows a s n h f) xs l (λ k z. rows-past a s n h f (i + k) (getD xs (i + k) 0) p (omega arith))
 
 -- ---- a row of pixels
 
@@ -81,11 +81,11 @@ rowByte-ext b w p q j z l h = ap (λ (v : ℕ). byteOf v (j % b)) (h (j / b) (di
 
 -- w pixels of b bytes each from r on, drawn one by one, are a row: each pixel is a row of its own, b bytes long
 pub row-pixels : (r b w : ℕ) (p : ℕ → ℕ) (xs : List ℕ) → 0 < b →
-    mapi (rows r b b w (λ x k. byteOf (p x) k)) xs ≡ mapi (within r (w * b) (λ j o. rowByte b p j)) xs
+    mapi (overwriteRows r b b w (λ x k. byteOf (p x) k)) xs ≡ mapi (overwriteRange r (w * b) (λ j o. rowByte b p j)) xs
 unfolding rowByte
 row-pixels r b w p xs z = mapi-ext _ _ xs (λ i l. at i (getD xs i 0) (side r (w * b) i))
   where
-    at : (i old : ℕ) → Side r (w * b) i → rows r b b w (λ x k. byteOf (p x) k) i old ≡ within r (w * b) (λ j o. byteOf (p (j / b)) (j % b)) i old
+    at : (i old : ℕ) → Side r (w * b) i → overwriteRows r b b w (λ x k. byteOf (p x) k) i old ≡ overwriteRange r (w * b) (λ j o. byteOf (p (j / b)) (j % b)) i old
     at i old (before u) = rows-before r b b w _ old i u ∙ sym (within-before r (w * b) _ i old u)
     at i old (inside u v) =
         let q : (i - r) / b < w = div-lt-iff-lt-mul z .1 (omega arith) in
@@ -96,5 +96,5 @@ row-pixels r b w p xs z = mapi-ext _ _ xs (λ i l. at i (getD xs i 0) (side r (w
 
 -- the same of a row that was lent
 pub all-pixels : (b w : ℕ) (p : ℕ → ℕ) (xs : List ℕ) → 0 < b → length xs ≡ w * b →
-    mapi (rows 0 b b w (λ x k. byteOf (p x) k)) xs ≡ mapi (λ j o. rowByte b p j) xs
+    mapi (overwriteRows 0 b b w (λ x k. byteOf (p x) k)) xs ≡ mapi (λ j o. rowByte b p j) xs
 all-pixels b w p xs z e = row-pixels 0 b w p xs z ∙ all-within _ xs (w * b) (omega arith)

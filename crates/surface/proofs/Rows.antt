@@ -1,4 +1,4 @@
--- Laws of `rows`: each byte of them, one row more, and rows counted from further down. A place i from the first row on is
+-- Laws of `overwriteRows`: each byte of them, one row more, and rows counted from further down. A place i from the first row on is
 -- spoken of as a + (y * s + j), so that only `rows-at` opens the division.
 use mathlib.Core.Path.{_≡_, refl, sym, ap, _∙_}
 use mathlib.Core.List.{List}
@@ -13,8 +13,8 @@ use lib.ListN.{length, getD}
 use borrow.Rule.Slice.PartMut.{midOf, putMid}
 use borrow.Author.Tests.{le-ltb, lt-ltb, le-leb, lt-leb}
 use Rattle.word.proofs.Tests.{split}
-use Rattle.surface.specs.Memory.{mapi, within}
-use Rattle.surface.specs.Rows.{rows}
+use Rattle.surface.specs.Memory.{mapi, overwriteRange}
+use Rattle.surface.specs.Rows.{overwriteRows}
 use Rattle.surface.proofs.Mapi.{length-mapi, is-mapi, mapi-ext, mapi-mapi}
 use Rattle.surface.proofs.Parts.{Side, before, inside, past, side, within-before, within-in, within-past, part-mapi}
 
@@ -44,42 +44,42 @@ locate a s i p l = record {
   is = omega (arith, div-add-mod' (i - a) s);
 }
 
--- ---- a byte of `rows`
+-- ---- a byte of `overwriteRows`
 
 module _ (a s n h : ℕ) (f : ℕ → ℕ → ℕ) (old : ℕ) where
-  pub rows-before : (i : ℕ) → i < a → rows a s n h f i old ≡ old
-  unfolding rows
+  pub rows-before : (i : ℕ) → i < a → overwriteRows a s n h f i old ≡ old
+  unfolding overwriteRows
   rows-before i l = simp lt-leb
 
-  pub rows-at : (y j : ℕ) → j < s → rows a s n h f (a + (y * s + j)) old ≡ cond (ltb y h && ltb j n) (f y j) old
-  unfolding rows
+  pub rows-at : (y j : ℕ) → j < s → overwriteRows a s n h f (a + (y * s + j)) old ≡ cond (ltb y h && ltb j n) (f y j) old
+  unfolding overwriteRows
   rows-at y j l =
       let z : a ≤ a + (y * s + j) = omega arith in
       let e : a + (y * s + j) - a ≡ y * s + j = omega arith in
       simp (le-leb, e, digits-div, digits-mod)
 
-  pub rows-in : (y j : ℕ) → j < s → y < h → j < n → rows a s n h f (a + (y * s + j)) old ≡ f y j
+  pub rows-in : (y j : ℕ) → j < s → y < h → j < n → overwriteRows a s n h f (a + (y * s + j)) old ≡ f y j
   rows-in y j l u v = rows-at y j l ∙ simp le-leb
 
   -- the same of a byte named otherwise
-  pub rows-hit : (i y j : ℕ) → i ≡ a + (y * s + j) → j < s → y < h → j < n → rows a s n h f i old ≡ f y j
+  pub rows-hit : (i y j : ℕ) → i ≡ a + (y * s + j) → j < s → y < h → j < n → overwriteRows a s n h f i old ≡ f y j
   rows-hit i y j e l u v = rw e (rows-in y j l u v)
 
-  rows-row : (y j : ℕ) → j < s → y < h → rows a s n h f (a + (y * s + j)) old ≡ cond (ltb j n) (f y j) old
+  rows-row : (y j : ℕ) → j < s → y < h → overwriteRows a s n h f (a + (y * s + j)) old ≡ cond (ltb j n) (f y j) old
   rows-row y j l u = rows-at y j l ∙ simp (lt-ltb y h u)
 
-  pub rows-gap : (y j : ℕ) → j < s → y < h → n ≤ j → rows a s n h f (a + (y * s + j)) old ≡ old
+  pub rows-gap : (y j : ℕ) → j < s → y < h → n ≤ j → overwriteRows a s n h f (a + (y * s + j)) old ≡ old
   rows-gap y j l u v = rows-row y j l u ∙ simp le-ltb
 
-  pub rows-below : (y j : ℕ) → j < s → h ≤ y → rows a s n h f (a + (y * s + j)) old ≡ old
+  pub rows-below : (y j : ℕ) → j < s → h ≤ y → overwriteRows a s n h f (a + (y * s + j)) old ≡ old
   rows-below y j l u = rows-at y j l ∙ simp le-ltb
 
 -- rows go by what is asked for inside them alone
 pub rows-ext : (a s n h : ℕ) (f g : ℕ → ℕ → ℕ) → 0 < s → ((y j : ℕ) → y < h → j < n → f y j ≡ g y j) → (i old : ℕ) →
-    rows a s n h f i old ≡ rows a s n h g i old
+    overwriteRows a s n h f i old ≡ overwriteRows a s n h g i old
 rows-ext a s n h f g p q i old = ⊎-elim (λ (l : i < a). rows-before a s n h f old i l ∙ sym (rows-before a s n h g old i l)) (λ (l : a ≤ i). after (locate a s i p l)) (split i a)
   where
-    at : (y j : ℕ) → j < s → rows a s n h f (a + (y * s + j)) old ≡ rows a s n h g (a + (y * s + j)) old
+    at : (y j : ℕ) → j < s → overwriteRows a s n h f (a + (y * s + j)) old ≡ overwriteRows a s n h g (a + (y * s + j)) old
     at y j l =
         ⊎-elim
         (λ (u : y < h). ⊎-elim
@@ -89,47 +89,47 @@ rows-ext a s n h f g p q i old = ⊎-elim (λ (l : i < a). rows-before a s n h f
         (λ (u : h ≤ y). rows-below a s n h f old y j l u ∙ sym (rows-below a s n h g old y j l u))
         (split y h)
 
-    after : Place a s i → rows a s n h f i old ≡ rows a s n h g i old
+    after : Place a s i → overwriteRows a s n h f i old ≡ overwriteRows a s n h g i old
     after c = rw (c .is) (at (c .y) (c .j) (c .inside))
 
 -- what lies in no row is as it was
 pub rows-else : (a s n h : ℕ) (f : ℕ → ℕ → ℕ) (i old : ℕ) → 0 < s → ((y j : ℕ) → y < h → j < n → j < s → i ≡ a + (y * s + j) → ⊥) →
-    rows a s n h f i old ≡ old
+    overwriteRows a s n h f i old ≡ old
 rows-else a s n h f i old p out = ⊎-elim (rows-before a s n h f old i) (λ l. after (locate a s i p l)) (split i a)
   where
-    at : (y j : ℕ) → j < s → i ≡ a + (y * s + j) → rows a s n h f (a + (y * s + j)) old ≡ old
+    at : (y j : ℕ) → j < s → i ≡ a + (y * s + j) → overwriteRows a s n h f (a + (y * s + j)) old ≡ old
     at y j l e =
         ⊎-elim
         (λ (u : y < h). ⊎-elim (λ (v : j < n). absurd (out y j u v l e)) (λ (v : n ≤ j). rows-gap a s n h f old y j l u v) (split j n))
         (λ (u : h ≤ y). rows-below a s n h f old y j l u)
         (split y h)
 
-    after : Place a s i → rows a s n h f i old ≡ old
-    after c = ap (λ (k : ℕ). rows a s n h f k old) (c .is) ∙ at (c .y) (c .j) (c .inside) (c .is)
+    after : Place a s i → overwriteRows a s n h f i old ≡ old
+    after c = ap (λ (k : ℕ). overwriteRows a s n h f k old) (c .is) ∙ at (c .y) (c .j) (c .inside) (c .is)
 
 -- rows that are still to come are as they were
-pub rows-later : (a s n h : ℕ) (f : ℕ → ℕ → ℕ) (i old : ℕ) → 0 < s → a + h * s ≤ i → rows a s n h f i old ≡ old
+pub rows-later : (a s n h : ℕ) (f : ℕ → ℕ → ℕ) (i old : ℕ) → 0 < s → a + h * s ≤ i → overwriteRows a s n h f i old ≡ old
 rows-later a s n h f i old p u = rows-else a s n h f i old p (λ y j v t l e. let z : y * s + s ≤ h * s = next y h s v in omega arith)
 
 -- past the last row's end nothing changes
-pub rows-past : (a s n h : ℕ) (f : ℕ → ℕ → ℕ) (i old : ℕ) → 0 < s → a + (h - 1) * s + n ≤ i → rows a s n h f i old ≡ old
+pub rows-past : (a s n h : ℕ) (f : ℕ → ℕ → ℕ) (i old : ℕ) → 0 < s → a + (h - 1) * s + n ≤ i → overwriteRows a s n h f i old ≡ old
 rows-past a s n h f i old p u = rows-else a s n h f i old p (λ y j v t l e. omega (arith, row-within a s n h y i v u))
 
 -- ---- a loop over rows that lends each row on: after y turns it is `mapi (rows a s n y f) xs₀`
 
 -- one row more: what the row y gives, over what the rows before it gave
 rows-step : (a s n y : ℕ) (f : ℕ → ℕ → ℕ) (i old : ℕ) → 0 < s → n ≤ s →
-    within (a + y * s) n (λ j o. f y j) i (rows a s n y f i old) ≡ rows a s n (y + 1) f i old
+    overwriteRange (a + y * s) n (λ j o. f y j) i (overwriteRows a s n y f i old) ≡ overwriteRows a s n (y + 1) f i old
 rows-step a s n y f i old p w = ⊎-elim before (λ l. after (locate a s i p l)) (split i a)
   where
     W : ℕ → ℕ → ℕ
-    W = within (a + y * s) n (λ j o. f y j)
+    W = overwriteRange (a + y * s) n (λ j o. f y j)
 
-    before : i < a → W i (rows a s n y f i old) ≡ rows a s n (y + 1) f i old
+    before : i < a → W i (overwriteRows a s n y f i old) ≡ overwriteRows a s n (y + 1) f i old
     before l = ap (W i) (rows-before a s n y f old i l) ∙ within-before (a + y * s) n (λ j o. f y j) i old (omega arith) ∙ sym (rows-before a s n (y + 1) f old i l)
 
     R : ℕ → ℕ → ℕ
-    R h k = rows a s n h f k old
+    R h k = overwriteRows a s n h f k old
 
     same : (j : ℕ) → j < s → W (a + (y * s + j)) (R y (a + (y * s + j))) ≡ R (y + 1) (a + (y * s + j))
     same j l =
@@ -162,36 +162,36 @@ rows-step a s n y f i old p w = ⊎-elim before (λ l. after (locate a s i p l))
     after : Place a s i → W i (R y i) ≡ R (y + 1) i
     after c = rw (c .is) (at (c .y) (c .j) (c .inside))
 
-rows-none : (a s n : ℕ) (f : ℕ → ℕ → ℕ) (i old : ℕ) → rows a s n 0 f i old ≡ old
-unfolding rows
+rows-none : (a s n : ℕ) (f : ℕ → ℕ → ℕ) (i old : ℕ) → overwriteRows a s n 0 f i old ≡ old
+unfolding overwriteRows
 rows-none a s n f i old = ⊎-elim (λ (l : i < a). simp lt-leb) (λ (l : a ≤ i). simp (le-leb, le-ltb ((i - a) / s) 0 zero-le)) (split i a)
 
 module _ (a s n : ℕ) (f : ℕ → ℕ → ℕ) (xs₀ : List ℕ) where
   -- before the first turn
-  pub none-rows : xs₀ ≡ mapi (rows a s n 0 f) xs₀
-  none-rows = is-mapi (rows a s n 0 f) xs₀ xs₀ refl (λ i l. sym (rows-none a s n f i (getD xs₀ i 0)))
+  pub none-rows : xs₀ ≡ mapi (overwriteRows a s n 0 f) xs₀
+  none-rows = is-mapi (overwriteRows a s n 0 f) xs₀ xs₀ refl (λ i l. sym (rows-none a s n f i (getD xs₀ i 0)))
 
   -- a turn that changes the row y in the whole
-  pub turn-rows : (xs ys : List ℕ) (y r : ℕ) → 0 < s → n ≤ s → r ≡ a + y * s → xs ≡ mapi (rows a s n y f) xs₀ →
-      ys ≡ mapi (within r n (λ j o. f y j)) xs → ys ≡ mapi (rows a s n (y + 1) f) xs₀
+  pub turn-rows : (xs ys : List ℕ) (y r : ℕ) → 0 < s → n ≤ s → r ≡ a + y * s → xs ≡ mapi (overwriteRows a s n y f) xs₀ →
+      ys ≡ mapi (overwriteRange r n (λ j o. f y j)) xs → ys ≡ mapi (overwriteRows a s n (y + 1) f) xs₀
   turn-rows xs ys y r p w q i m =
       m
-      ∙ ap (λ (l : List ℕ). mapi (within r n (λ j o. f y j)) l) i
+      ∙ ap (λ (l : List ℕ). mapi (overwriteRange r n (λ j o. f y j)) l) i
       ∙ mapi-mapi _ _ xs₀
       ∙ mapi-ext _ _ xs₀ (λ i l. rw q (rows-step a s n y f i (getD xs₀ i 0) p w))
 
   -- a turn that lends the row y on: it came back with f y j at each of its places j
   pub more-rows : (xs ys : List ℕ) (y r k : ℕ) → 0 < s → n ≤ s → k ≡ n → r ≡ a + y * s → r + n ≤ length xs₀ →
-      xs ≡ mapi (rows a s n y f) xs₀ → ys ≡ mapi (λ j o. f y j) (midOf r k xs) → putMid r k xs ys ≡ mapi (rows a s n (y + 1) f) xs₀
+      xs ≡ mapi (overwriteRows a s n y f) xs₀ → ys ≡ mapi (λ j o. f y j) (midOf r k xs) → putMid r k xs ys ≡ mapi (overwriteRows a s n (y + 1) f) xs₀
   more-rows xs ys y r k p w e q h i m =
-      let l : r + n ≤ length xs = omega (arith, ap length i, length-mapi (rows a s n y f) xs₀) in
+      let l : r + n ≤ length xs = omega (arith, ap length i, length-mapi (overwriteRows a s n y f) xs₀) in
       turn-rows xs (putMid r k xs ys) y r p w q i (part-mapi (λ j o. f y j) xs ys r k n e l m)
 
 -- ---- a window: rows in a part of memory are rows of memory
 
 -- the same rows, counted from d further down
-pub rows-shift : (d a s n h : ℕ) (f : ℕ → ℕ → ℕ) (i old : ℕ) → d ≤ i → rows a s n h f (i - d) old ≡ rows (d + a) s n h f i old
-unfolding rows
+pub rows-shift : (d a s n h : ℕ) (f : ℕ → ℕ → ℕ) (i old : ℕ) → d ≤ i → overwriteRows a s n h f (i - d) old ≡ overwriteRows (d + a) s n h f i old
+unfolding overwriteRows
 rows-shift d a s n h f i old l =
     let e : i - d - a ≡ i - (d + a) = omega arith in
     ⊎-elim
@@ -200,10 +200,10 @@ rows-shift d a s n h f i old l =
     (split i (d + a))
 
 pub window-rows : (d m a s n h : ℕ) (f : ℕ → ℕ → ℕ) (xs : List ℕ) → 0 < s → a + (h - 1) * s + n ≤ m →
-    mapi (within d m (rows a s n h f)) xs ≡ mapi (rows (d + a) s n h f) xs
+    mapi (overwriteRange d m (overwriteRows a s n h f)) xs ≡ mapi (overwriteRows (d + a) s n h f) xs
 window-rows d m a s n h f xs p u = mapi-ext _ _ xs (λ i l. at i (getD xs i 0) (side d m i))
   where
-    at : (i old : ℕ) → Side d m i → within d m (rows a s n h f) i old ≡ rows (d + a) s n h f i old
-    at i old (before v) = within-before d m (rows a s n h f) i old v ∙ sym (rows-before (d + a) s n h f old i (omega arith))
-    at i old (inside v t) = within-in d m (rows a s n h f) i old v t ∙ rows-shift d a s n h f i old v
-    at i old (past t) = within-past d m (rows a s n h f) i old t ∙ sym (rows-past (d + a) s n h f i old p (omega arith))
+    at : (i old : ℕ) → Side d m i → overwriteRange d m (overwriteRows a s n h f) i old ≡ overwriteRows (d + a) s n h f i old
+    at i old (before v) = within-before d m (overwriteRows a s n h f) i old v ∙ sym (rows-before (d + a) s n h f old i (omega arith))
+    at i old (inside v t) = within-in d m (overwriteRows a s n h f) i old v t ∙ rows-shift d a s n h f i old v
+    at i old (past t) = within-past d m (overwriteRows a s n h f) i old t ∙ sym (rows-past (d + a) s n h f i old p (omega arith))

@@ -2,23 +2,23 @@
 use Prim.Native.Nat.{ℕ, _*_, _≤_, _<_}
 use native.Mathlib.Nat.{mul-le-mul}
 use native.Mathlib.Omega.{arith}
-use Rattle.pixel.specs.Formats.{bytesOf}
+use Rattle.pixel.specs.Formats.{bytesPerPixel}
 use Rattle.pixel.specs.declared.format.Format.{Format}
 use Rattle.pixel.specs.declared.format.Format.the-variants.{Argb8888, Rgb888, Rgb565}
 
 -- a pixel has a byte at least, and four at most
-pub bytes-some : (f : Format) → 0 < bytesOf f
+pub bytes-some : (f : Format) → 0 < bytesPerPixel f
 bytes-some Argb8888 = omega arith
 bytes-some Rgb888 = omega arith
 bytes-some Rgb565 = omega arith
 
-pub bytes-most : (f : Format) → bytesOf f ≤ 4
+pub bytes-most : (f : Format) → bytesPerPixel f ≤ 4
 bytes-most Argb8888 = omega arith
 bytes-most Rgb888 = omega arith
 bytes-most Rgb565 = omega arith
 
 -- n pixels are shorter than 2 ^ 18 bytes
-pub pixels-most : (n : ℕ) (f : Format) → n ≤ 65535 → n * bytesOf f ≤ 262140
+pub pixels-most : (n : ℕ) (f : Format) → n ≤ 65535 → n * bytesPerPixel f ≤ 262140
 pixels-most n f l = mul-le-mul {n₂ = 65535} {m₂ = 4} l (bytes-most f)
 
 -- a row begins less than 2 ^ 32 bytes after the first

@@ -8,15 +8,15 @@ use borrow.Rule.Slice.PartMut.{midOf, putMid}
 use Rattle.pixel.specs.declared.colour.Colour.{Colour}
 use Rattle.surface.specs.declared.Surface.{Surface}
 use Rattle.surface.specs.Surface.{span}
-use Rattle.surface.specs.Drawn.{drawn, drawnOn}
+use Rattle.surface.specs.Drawn.{drawRectangle, drawSurface}
 use Rattle.surface.proofs.Parts.{part-mapi}
 use Rattle.surface.proofs.Rows.{window-rows}
 
 -- k is the window's length as the borrow checker says it, m the same in plain words; ys is what came back
 pub window-drawn : (d m k a c s w h b : ℕ) (p : ℕ → ℕ → ℕ) (xs ys : List ℕ) →
     0 < s → a + (h - 1) * s + w * b ≤ m → d + m ≤ length xs → k ≡ m → c ≡ d + a →
-    ys ≡ drawn a s w h b p (midOf d k xs) → putMid d k xs ys ≡ drawn c s w h b p xs
-unfolding drawn
+    ys ≡ drawRectangle a s w h b p (midOf d k xs) → putMid d k xs ys ≡ drawRectangle c s w h b p xs
+unfolding drawRectangle
 window-drawn d m k a c s w h b p xs ys z u l e f q = rw f (part-mapi _ xs ys d k m e l q ∙ window-rows d m a s (w * b) h _ xs z u)
 
 -- a surface of memory, as one of the window from d on
@@ -26,7 +26,7 @@ lowered d s = record { address = s .address - d; stride = s .stride; width = s .
 -- a surface that lies in the window, drawn there, is drawn in memory
 pub window-drawnOn : (d m k : ℕ) (s : Surface) (p : ℕ → ℕ → Colour) (xs ys : List ℕ) →
     0 < s .stride → d ≤ s .address → span s .end ≤ d + m → d + m ≤ length xs → k ≡ m →
-    ys ≡ drawnOn (lowered d s) p (midOf d k xs) → putMid d k xs ys ≡ drawnOn s p xs
-unfolding drawnOn span
+    ys ≡ drawSurface (lowered d s) p (midOf d k xs) → putMid d k xs ys ≡ drawSurface s p xs
+unfolding drawSurface span
 window-drawnOn d m k s p xs ys z f u l e q =
     window-drawn d m k (s .address - d) (s .address) (s .stride) (s .width) (s .height) _ _ xs ys z (omega arith) l e (omega arith) q

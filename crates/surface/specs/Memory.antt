@@ -11,14 +11,14 @@ mapi f [] = []
 mapi f (x ∷ xs) = f 0 x ∷ mapi (λ (i : ℕ). f (suc i)) xs
 
 -- the n bytes from `at` on, each by g of its place there and its old value; the others as they were
-unfoldable pub within : ℕ → ℕ → (ℕ → ℕ → ℕ) → ℕ → ℕ → ℕ
-within at n g i old = cond (leb at i && ltb (i - at) n) (g (i - at) old) old
+unfoldable pub overwriteRange : ℕ → ℕ → (ℕ → ℕ → ℕ) → ℕ → ℕ → ℕ
+overwriteRange at n g i old = cond (leb at i && ltb (i - at) n) (g (i - at) old) old
 
 -- the number that bytes spell, low byte first
-abbrev pub number : List ℕ → ℕ
-number [] = 0
-number (x ∷ xs) = x + 256 * number xs
+abbrev pub littleEndian : List ℕ → ℕ
+littleEndian [] = 0
+littleEndian (x ∷ xs) = x + 256 * littleEndian xs
 
 -- the stored pixel of b bytes at address i
 unfoldable pub pixelAt : ℕ → List ℕ → ℕ → ℕ
-pixelAt b memory i = number (take b (drop i memory))
+pixelAt b memory i = littleEndian (take b (drop i memory))

@@ -5,8 +5,8 @@ use lib.Dec.{leb, ltb}
 use Rattle.word.specs.Word.{byteOf}
 
 -- h rows of n bytes, the first at a, each s bytes after the one before: byte j of row y is f y j; the others as they were
-unfoldable pub rows : ℕ → ℕ → ℕ → ℕ → (ℕ → ℕ → ℕ) → ℕ → ℕ → ℕ
-rows a s n h f i old =
+unfoldable pub overwriteRows : ℕ → ℕ → ℕ → ℕ → (ℕ → ℕ → ℕ) → ℕ → ℕ → ℕ
+overwriteRows a s n h f i old =
     let y : ℕ = (i - a) / s in
     let j : ℕ = (i - a) % s in
     cond (leb a i && ltb y h && ltb j n) (f y j) old

@@ -3,12 +3,12 @@ ghost use mathlib.Core.Path.{_≡_};
 ghost use Prim.Native.Nat.{_+_, _≤_};
 ghost use lib.ListN.{length};
 ghost use Rattle.word.specs.Word.{byteOf};
-ghost use Rattle.pixel.specs.Formats.{bytesOf};
-ghost use Rattle.range.specs.Range.{inside, shared};
+ghost use Rattle.pixel.specs.Formats.{bytesPerPixel};
+ghost use Rattle.range.specs.Range.{containedIn, overlaps};
 ghost use Rattle.surface.specs.Surface.{rowLength, rowStart, pixelStart, span};
-ghost use Rattle.surface.specs.Meet.{rowsMeet, meet, Before};
-ghost use Rattle.surface.specs.Memory.{mapi, number, pixelAt};
-ghost use Rattle.surface.specs.Drawn.{loaded, stored};
+ghost use Rattle.surface.specs.Meet.{rowsOverlap, surfacesOverlap, StartsNoLater};
+ghost use Rattle.surface.specs.Memory.{mapi, littleEndian, pixelAt};
+ghost use Rattle.surface.specs.Drawn.{loadPixel, storePixel};
 use pixel::Colour;
 use pixel::Format;
 use range::Range;
@@ -58,16 +58,16 @@ impl Surface {
         }
     }
 
-    // Whether the span lies wholly in a run of bytes.
+    // Whether the span lies wholly in a range of bytes.
     pub fn is_inside(self, run: Range) -> bool
-        ensures { λ r. ⌜ r ≡ inside (span self) run ⌝ }
+        ensures { λ r. ⌜ r ≡ containedIn (span self) run ⌝ }
     {
         self.span().is_inside(run)
     }
 
     // Whether the spans of two surfaces share a byte.
     pub fn shares(self, other: Surface) -> bool
-        ensures { λ r. ⌜ r ≡ shared (span self) (span other) ⌝ }
+        ensures { λ r. ⌜ r ≡ overlaps (span self) (span other) ⌝ }
     {
         self.span().shares(other.span())
     }
@@ -75,8 +75,8 @@ impl Surface {
     // Whether a row of this surface and a row of a later one share a byte. The later one has the same stride, so that its further
     // rows lie as its first does, only further down: that one and a single row of this surface tell.
     fn meets_later(self, later: Surface) -> bool
-        requires { ⌜ Before self later ⌝ }
-        ensures { λ r. ⌜ r ≡ rowsMeet self later ⌝ }
+        requires { ⌜ StartsNoLater self later ⌝ }
+        ensures { λ r. ⌜ r ≡ rowsOverlap self later ⌝ }
     {
         let start = self.address as usize;
         let end = start + self.row_length();
@@ -106,7 +106,7 @@ impl Surface {
 
     // Whether two surfaces meet: with equal strides some byte lies in rows of both, else in both spans.
     pub fn meets(self, other: Surface) -> bool
-        ensures { λ r. ⌜ r ≡ meet self other ⌝ }
+        ensures { λ r. ⌜ r ≡ surfacesOverlap self other ⌝ }
     {
         if self.stride != other.stride {
             return self.shares(other);
@@ -121,7 +121,7 @@ impl Surface {
 // The number that bytes spell, low byte first.
 fn number_of(bytes: &[u8]) -> u32
     requires { ⌜ length (now bytes) ≤ 4 ⌝ }
-    ensures { λ r. ⌜ r ≡ number (now (bytes .entry)) ⌝ }
+    ensures { λ r. ⌜ r ≡ littleEndian (now (bytes .entry)) ⌝ }
 {
     let mut sum: u32 = 0;
     let mut k = bytes.len();
@@ -147,8 +147,8 @@ fn put(bytes: &mut [u8], number: u32)
 
 // The stored pixel at an address.
 pub fn fetch(memory: &[u8], at: usize, format: Format) -> u32
-    requires { ⌜ at + bytesOf format ≤ length (now memory) ⌝ }
-    ensures { λ r. ⌜ r ≡ pixelAt (bytesOf format) (now (memory .entry)) at ⌝ }
+    requires { ⌜ at + bytesPerPixel format ≤ length (now memory) ⌝ }
+    ensures { λ r. ⌜ r ≡ pixelAt (bytesPerPixel format) (now (memory .entry)) at ⌝ }
 {
     let end = at + format.bytes();
     number_of(&memory[at..end])
@@ -156,16 +156,16 @@ pub fn fetch(memory: &[u8], at: usize, format: Format) -> u32
 
 // The colour of the pixel at an address.
 pub fn load(memory: &[u8], at: usize, format: Format) -> Colour
-    requires { ⌜ at + bytesOf format ≤ length (now memory) ⌝ }
-    ensures { λ r. ⌜ r ≡ loaded format (now (memory .entry)) at ⌝ }
+    requires { ⌜ at + bytesPerPixel format ≤ length (now memory) ⌝ }
+    ensures { λ r. ⌜ r ≡ loadPixel format (now (memory .entry)) at ⌝ }
 {
     format.unpack(fetch(memory, at, format))
 }
 
 // Stores a colour as the pixel at an address.
 pub fn store(memory: &mut [u8], at: usize, format: Format, c: Colour)
-    requires { ⌜ at + bytesOf format ≤ length (now memory) ⌝ }
-    ensures { λ _. ⌜ now (memory .exit) ≡ stored format (now (memory .entry)) at c ⌝ }
+    requires { ⌜ at + bytesPerPixel format ≤ length (now memory) ⌝ }
+    ensures { λ _. ⌜ now (memory .exit) ≡ storePixel format (now (memory .entry)) at c ⌝ }
 {
     let end = at + format.bytes();
     put(&mut memory[at..end], format.pack(c));

@@ -4,7 +4,7 @@ use mathlib.Core.List.{List, [], _∷_, _++_}
 use Prim.Native.Nat.{ℕ, zero, suc, _+_, _/_, _%_, _^_, _≤_, _<_}
 use native.Mathlib.Omega.{arith}
 use lib.ListN.{length, length-append}
-use Rattle.text.specs.Line.{Line, pushed, typed}
+use Rattle.text.specs.Line.{Line, pushed, appended}
 use Rattle.text.specs.Decimal.{digitsIn, decimal}
 use Rattle.text.proofs.Typing.{typed-append}
 
@@ -38,12 +38,12 @@ decimal-more : (n : ℕ) → 10 ≤ n → decimal n ≡ decimal (n / 10) ++ ((48
 decimal-more n h = open-up n ∙ ap (λ (ds : List ℕ). ds ++ ((48 + n % 10) ∷ [])) (tens (n / 10) (omega arith))
 
 -- a number typed: one digit, or the digits of its tens and its last one
-pub typed-few : (l : Line) (n : ℕ) → n < 10 → pushed l (48 + n) ≡ typed l (decimal n)
-unfolding typed
+pub typed-few : (l : Line) (n : ℕ) → n < 10 → pushed l (48 + n) ≡ appended l (decimal n)
+unfolding appended
 typed-few l n h = rw (decimal-few n h)
 
-pub typed-more : (l tens : Line) (n : ℕ) → 10 ≤ n → tens ≡ typed l (decimal (n / 10)) → pushed tens (48 + n % 10) ≡ typed l (decimal n)
-unfolding typed
+pub typed-more : (l tens : Line) (n : ℕ) → 10 ≤ n → tens ≡ appended l (decimal (n / 10)) → pushed tens (48 + n % 10) ≡ appended l (decimal n)
+unfolding appended
 typed-more l tens n h e = rw (decimal-more n h, typed-append, e)
 
 few : (k f n : ℕ) → n < 10 ^ k → length (digitsIn f n) ≤ k

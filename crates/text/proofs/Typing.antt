@@ -11,36 +11,36 @@ use borrow.Author.Tests.{lt-ltb}
 use Rattle.word.specs.Word.{byteOf, beBytes}
 use Rattle.word.specs.Splice.{spliced}
 use Rattle.word.proofs.Splice.{sets-spliced}
-use Rattle.text.specs.Line.{Line, lineOf, pushed, typed}
+use Rattle.text.specs.Line.{Line, lineOf, pushed, appended}
 use Rattle.text.specs.Hex.{hexByte, hexBytes, hexWord}
 
 -- one text after another
-pub typed-append : (l : Line) (xs ys : List ℕ) → typed l (xs ++ ys) ≡ typed (typed l xs) ys
-unfolding typed
+pub typed-append : (l : Line) (xs ys : List ℕ) → appended l (xs ++ ys) ≡ appended (appended l xs) ys
+unfolding appended
 typed-append l [] ys = refl
 typed-append l (x ∷ xs) ys = typed-append (pushed l x) xs ys
 
 -- one byte's digits, and those of the others
-pub typed-bytes : (l : Line) (byte : ℕ) (bytes : List ℕ) → typed l (hexBytes (byte ∷ bytes)) ≡ typed (typed l (hexByte byte)) (hexBytes bytes)
+pub typed-bytes : (l : Line) (byte : ℕ) (bytes : List ℕ) → appended l (hexBytes (byte ∷ bytes)) ≡ appended (appended l (hexByte byte)) (hexBytes bytes)
 unfolding hexBytes
 typed-bytes l byte bytes = typed-append l (hexByte byte) (hexBytes bytes)
 
 -- a word's digits, byte by byte
-pub typed-word : (l : Line) (word : ℕ) → typed l (hexWord word) ≡ typed (typed (typed (typed l (hexByte (word / 16777216 % 256))) (hexByte (word / 65536 % 256))) (hexByte (word / 256 % 256))) (hexByte (word % 256))
+pub typed-word : (l : Line) (word : ℕ) → appended l (hexWord word) ≡ appended (appended (appended (appended l (hexByte (word / 16777216 % 256))) (hexByte (word / 65536 % 256))) (hexByte (word / 256 % 256))) (hexByte (word % 256))
 unfolding hexWord beBytes byteOf
 typed-word l word =
     let lowest : word / 1 % 256 ≡ word % 256 = omega arith in
-    simp typed-bytes (rw lowest (unfold typed hexBytes in refl))
+    simp typed-bytes (rw lowest (unfold appended hexBytes in refl))
 
 -- a text that fits: it stands in the buffer, and other bytes are as they were
-typed-sets : (text bytes : List ℕ) (n : ℕ) → n + length text ≤ length bytes → typed (lineOf bytes n) text ≡ lineOf (sets bytes n text) (n + length text)
-unfolding typed pushed
+typed-sets : (text bytes : List ℕ) (n : ℕ) → n + length text ≤ length bytes → appended (lineOf bytes n) text ≡ lineOf (sets bytes n text) (n + length text)
+unfolding appended pushed
 typed-sets [] bytes n fits = ap (λ (k : ℕ). lineOf bytes k) (sym (add-zero n))
 typed-sets (t ∷ text) bytes n fits =
     let on : n + 1 + length text ≡ n + suc (length text) = omega arith in
     rw (lt-ltb n (length bytes) (omega arith)) (typed-sets text (set bytes n t) (n + 1) (simp length-set (omega arith)) ∙ rw (on, add-one))
 
-pub typed-whole : (bytes text : List ℕ) → length text ≤ length bytes → typed (lineOf bytes 0) text ≡ lineOf (spliced 0 text bytes) (length text)
+pub typed-whole : (bytes text : List ℕ) → length text ≤ length bytes → appended (lineOf bytes 0) text ≡ lineOf (spliced 0 text bytes) (length text)
 typed-whole bytes text fits =
     let none : 0 + length text ≡ length text = omega arith in
     typed-sets text bytes 0 (omega arith)
@@ -52,12 +52,12 @@ pub rest-next : (xs : List ℕ) (i : ℕ) → i < length xs → drop i xs ≡ ge
 rest-next xs i h = rw (add-one, drop-cons xs i 0)
 
 module _ (l : Line) (xs : List ℕ) (i : ℕ) (h : i < length xs) where
-  pub typed-next : typed l (drop i xs) ≡ typed (pushed l (getD xs i 0)) (drop (i + 1) xs)
-  unfolding typed
+  pub typed-next : appended l (drop i xs) ≡ appended (pushed l (getD xs i 0)) (drop (i + 1) xs)
+  unfolding appended
   typed-next = rw (rest-next xs i h)
 
 -- past a list's end nothing is left to be typed
 module _ (l : Line) (xs : List ℕ) (i : ℕ) (h : length xs ≤ i) where
-  pub typed-none : typed l (drop i xs) ≡ l
-  unfolding typed
+  pub typed-none : appended l (drop i xs) ≡ l
+  unfolding appended
   typed-none = rw (drop-of-length-le xs h)

@@ -8,6 +8,6 @@ digitsIn zero number = []
 digitsIn (suc fuel) zero = []
 digitsIn (suc fuel) (suc n) = digitsIn fuel (suc n / 10) ++ ((48 + suc n % 10) ∷ [])
 
--- a number in decimal: its last digit, and before it those of its tens, as fuel for which the tens themselves suffice; 0 is one digit
+-- a number in decimal: its last digit, and before it the digits of number / 10, which is also enough recursion depth; 0 is one digit
 unfoldable pub decimal : ℕ → List ℕ
 decimal number = digitsIn (number / 10) (number / 10) ++ ((48 + number % 10) ∷ [])

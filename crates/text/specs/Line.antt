@@ -19,6 +19,6 @@ unfoldable pub pushed : Line → ℕ → Line
 pushed l byte = cond (ltb (l .end) (length (l .bytes))) (lineOf (set (l .bytes) (l .end) byte) (l .end + 1)) l
 
 -- a text more, character by character
-unfoldable pub typed : Line → List ℕ → Line
-typed l [] = l
-typed l (byte ∷ text) = typed (pushed l byte) text
+unfoldable pub appended : Line → List ℕ → Line
+appended l [] = l
+appended l (byte ∷ text) = appended (pushed l byte) text

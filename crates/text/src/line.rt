@@ -3,7 +3,7 @@
 ghost use mathlib.Core.Path.{_≡_};
 ghost use Prim.Native.Nat.{_≤_, _<_};
 ghost use lib.ListN.{length};
-ghost use Rattle.text.specs.Line.{lineOf, pushed, typed};
+ghost use Rattle.text.specs.Line.{lineOf, pushed, appended};
 ghost use Rattle.text.specs.Hex.{digitOf, hexByte, hexWord};
 ghost use Rattle.text.specs.Decimal.{decimal};
 
@@ -29,14 +29,14 @@ fn digit(value: u8) -> u8
 }
 
 pub fn hex(line: &mut [u8], n: usize, byte: u8) -> usize
-    ensures { λ r. ⌜ lineOf (now (line .exit)) r ≡ typed (lineOf (now (line .entry)) n) (hexByte byte) ⌝ }
+    ensures { λ r. ⌜ lineOf (now (line .exit)) r ≡ appended (lineOf (now (line .entry)) n) (hexByte byte) ⌝ }
 {
     let high = push(line, n, digit(byte / 16));
     push(line, high, digit(byte % 16))
 }
 
 pub fn hex_word(line: &mut [u8], n: usize, word: u32) -> usize
-    ensures { λ r. ⌜ lineOf (now (line .exit)) r ≡ typed (lineOf (now (line .entry)) n) (hexWord word) ⌝ }
+    ensures { λ r. ⌜ lineOf (now (line .exit)) r ≡ appended (lineOf (now (line .entry)) n) (hexWord word) ⌝ }
 {
     let a = hex(line, n, (word / 16777216 % 256) as u8);
     let b = hex(line, a, (word / 65536 % 256) as u8);
@@ -46,7 +46,7 @@ pub fn hex_word(line: &mut [u8], n: usize, word: u32) -> usize
 
 // Text as it is.
 pub fn append(line: &mut [u8], n: usize, text: &[u8]) -> usize
-    ensures { λ r. ⌜ lineOf (now (line .exit)) r ≡ typed (lineOf (now (line .entry)) n) (now (text .entry)) ⌝ }
+    ensures { λ r. ⌜ lineOf (now (line .exit)) r ≡ appended (lineOf (now (line .entry)) n) (now (text .entry)) ⌝ }
 {
     let mut end = n;
     let mut i = 0;
@@ -59,14 +59,14 @@ pub fn append(line: &mut [u8], n: usize, text: &[u8]) -> usize
 
 // Text as it is, at the start of a line.
 pub fn copy(line: &mut [u8], text: &[u8]) -> usize
-    ensures { λ r. ⌜ lineOf (now (line .exit)) r ≡ typed (lineOf (now (line .entry)) 0) (now (text .entry)) ⌝ }
+    ensures { λ r. ⌜ lineOf (now (line .exit)) r ≡ appended (lineOf (now (line .entry)) 0) (now (text .entry)) ⌝ }
 {
     append(line, 0, text)
 }
 
 // A number in decimal digits, the highest first. No number here has more than twenty.
 pub fn decimal(line: &mut [u8], n: usize, value: u64) -> usize
-    ensures { λ r. ⌜ (lineOf (now (line .exit)) r ≡ typed (lineOf (now (line .entry)) n) (decimal value)) × (length (decimal value) ≤ 20) ⌝ }
+    ensures { λ r. ⌜ (lineOf (now (line .exit)) r ≡ appended (lineOf (now (line .entry)) n) (decimal value)) × (length (decimal value) ≤ 20) ⌝ }
 {
     if value < 10 {
         return push(line, n, b'0' + (value as u8));

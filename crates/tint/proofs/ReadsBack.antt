@@ -18,13 +18,13 @@ use Rattle.pixel.proofs.Kept.{word-colour}
 use Rattle.pixel.proofs.Products.{scaled-byte}
 use Rattle.register.specs.declared.bank.Bank.{Bank}
 use Rattle.rules.specs.declared.task.Bounds.{Bounds}
-use Rattle.batch.specs.Batch.{readBatch}
-use Rattle.batch.specs.Marks.{marks}
+use Rattle.batch.specs.Batch.{decodeBatch}
+use Rattle.batch.specs.Marks.{taskEndCount}
 use Rattle.encoder.specs.declared.Answer.{Answer}
 use Rattle.encoder.specs.declared.Answer.the-variants.{Written, Forbidden, ShortBuffer}
 use Rattle.encoder.specs.declared.fields.SurfaceFields.{SurfaceFields}
 use Rattle.encoder.specs.Encoder as encoder
-use Rattle.encoder.specs.RoundTrip.{surfaceWith, alphaWith, transformWith, sourceWith, destinationWith, blendingWith, taskWith, Plain, allBytes}
+use Rattle.encoder.specs.RoundTrip.{surfaceWith, alphaWith, transformWith, sourceWith, destinationWith, blendingWith, taskWith, Fits32Bits, allBytes}
 use Rattle.encoder.proofs.ReadsBack.{reads-back}
 use Rattle.encoder.proofs.Buffer.{accepted, front}
 use Rattle.score.specs.Coverage.{isScore, coverageOf}
@@ -58,7 +58,7 @@ module _ (score : Float) (tint : Tint) (output : SurfaceFields) (h : Handed tint
   fits = rw (narrowed-byte (colour .alpha), narrowed-byte (colour .red), narrowed-byte (colour .green), narrowed-byte (colour .blue))
       (omega (arith, bytes .alpha, bytes .red, bytes .green, bytes .blue))
 
-  plain : Plain (fieldsOf score tint output)
+  plain : Fits32Bits (fieldsOf score tint output)
   unfolding tintFields
   plain = record { source = lit< tt; destination = h .address; output = h .address; colour = fits }
 
@@ -86,13 +86,13 @@ module _ (score : Float) (tint : Tint) (output : SurfaceFields) (h : Handed tint
   tint-reads-back bounds bank = record {
     one = λ buffer e.
         let w = written (length buffer) e in
-        ap (λ (b : List ℕ). readBatch bounds bank (words (take 80 b))) (after buffer (w .0))
+        ap (λ (b : List ℕ). decodeBatch bounds bank (words (take 80 b))) (after buffer (w .0))
         ∙ reads-back bounds bank .one (fieldsOf score tint output) buffer plain (w .1);
     marked = λ buffer e.
         let w = written (length buffer) e in
         let f = fieldsOf score tint output in
-        ap (λ (b : List ℕ). marks (words (take 80 b))) (after buffer (w .0))
-        ∙ ap (λ (b : List ℕ). marks (words b)) (front f buffer (w .1) ∙ sym (append-nil (encoder.taskBytes f)))
+        ap (λ (b : List ℕ). taskEndCount (words (take 80 b))) (after buffer (w .0))
+        ∙ ap (λ (b : List ℕ). taskEndCount (words b)) (front f buffer (w .1) ∙ sym (append-nil (encoder.taskBytes f)))
         ∙ reads-back bounds bank .marked (f ∷ []) (accepted f (length buffer) (w .1) .0, tt) (plain, tt);
     same = same;
   }

@@ -4,12 +4,12 @@ use mathlib.Core.List.{[], _∷_}
 use Prim.Native.Nat.{ℕ}
 use lib.Ieee.{Float, nan, binary32, ofBits, mul, le, ofInt}
 use Rattle.score.specs.Coverage.{isScore, product, notAbove, greatestTo, coverageOf}
-use Rattle.pixel.specs.Alpha.{near}
+use Rattle.pixel.specs.Alpha.{div255}
 use Rattle.pixel.specs.Colours.{packed, narrowed}
 use Rattle.encoder.specs.declared.fields.SurfaceFields.{SurfaceFields}
 use Rattle.encoder.specs.Fields.{surfaceAllowed, alphaAllowed, transformAllowed, sourceAllowed, destinationAllowed, blendingAllowed, allowed}
 use Rattle.encoder.specs.Registers.{surfaceRegisters, sourceControl, destinationControl, blendingWord, bankOf}
-use Rattle.encoder.specs.Words.{wordsOf}
+use Rattle.encoder.specs.Words.{taskWords}
 use Rattle.encoder.specs.Encoder as encoder
 use Rattle.tint.specs.declared.Tint.{Tint}
 use Rattle.tint.specs.Tint.{tintColour, tintFields, fieldsOf, numberOf, answerOf}
@@ -24,14 +24,14 @@ abbrev rectangle : ℕ → ℕ → SurfaceFields
 rectangle width format = record { width = width; height = 1; stride = 8; address = 16384; format = format }
 
 -- score 0.5, so coverage 128, over 2 by 1 pixels at 16384
-pub worked-words : wordsOf (bankOf (fieldsOf half orange (rectangle 2 0)))
+pub worked-words : taskWords (bankOf (fieldsOf half orange (rectangle 2 0)))
     ≡ 0x00100014 ∷ 0x00000005 ∷ 0x00010002 ∷ 0x00000000 ∷ 0x80804000 ∷ 0x00000000
     ∷ 0x0050000C ∷ 0x00000001 ∷ 0x00010002 ∷ 0x00000008
     ∷ 0x00600004 ∷ 0x00004000
     ∷ 0x00900004 ∷ 0x00000B01
     ∷ 0x0100000C ∷ 0x00000000 ∷ 0x00010002 ∷ 0x00000008
     ∷ 0x01100005 ∷ 0x00004000 ∷ []
-unfolding wordsOf bankOf surfaceRegisters sourceControl destinationControl blendingWord tintFields tintColour near packed narrowed coverageOf greatestTo notAbove product mul le ofInt ofBits
+unfolding taskWords bankOf surfaceRegisters sourceControl destinationControl blendingWord tintFields tintColour div255 packed narrowed coverageOf greatestTo notAbove product mul le ofInt ofBits
 worked-words = refl
 
 abbrev number : Float → SurfaceFields → ℕ → ℕ

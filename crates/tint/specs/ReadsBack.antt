@@ -10,19 +10,19 @@ use Rattle.word.specs.Word.{words}
 use Rattle.pixel.specs.declared.format.Format.the-variants.{Argb8888}
 use Rattle.pixel.specs.declared.blend.AlphaMode.the-variants.{Pixel}
 use Rattle.pixel.specs.declared.blend.RuleName.the-variants.{SrcOver}
-use Rattle.pixel.specs.Rules.{ruleOf}
-use Rattle.transform.specs.declared.Rotation.the-variants.{Upright}
+use Rattle.pixel.specs.Rules.{blendModeFactors}
+use Rattle.transform.specs.declared.Rotation.the-variants.{Rotate0}
 use Rattle.register.specs.declared.bank.Bank.{Bank}
 use Rattle.register.specs.declared.task.Alpha.{Alpha}
 use Rattle.register.specs.declared.task.Source.{Source}
 use Rattle.register.specs.declared.task.SourceMode.the-variants.{Colour}
 use Rattle.register.specs.declared.task.Task.{Task}
 use Rattle.rules.specs.declared.task.Bounds.{Bounds}
-use Rattle.batch.specs.Batch.{readBatch}
-use Rattle.batch.specs.Marks.{marks}
+use Rattle.batch.specs.Batch.{decodeBatch}
+use Rattle.batch.specs.Marks.{taskEndCount}
 use Rattle.encoder.specs.declared.Answer.the-variants.{Written}
 use Rattle.encoder.specs.declared.fields.SurfaceFields.{SurfaceFields}
-use Rattle.encoder.specs.RoundTrip.{surfaceWith, taskWith, readAs}
+use Rattle.encoder.specs.RoundTrip.{surfaceWith, taskWith, expectedDecoding}
 use Rattle.score.specs.Coverage.{coverageOf}
 use Rattle.tint.specs.declared.Tint.{Tint}
 use Rattle.tint.specs.declared.Answer.the-variants.{Encoded}
@@ -38,7 +38,7 @@ tintSource tint coverage output = record {
   surface = record { address = 0; stride = 0; width = output .width; height = output .height; format = Argb8888 };
   mode = Colour;
   colour = tintColour tint coverage;
-  transform = record { flip = record { horizontal = false; vertical = false }; rotation = Upright };
+  transform = record { flip = record { horizontal = false; vertical = false }; rotation = Rotate0 };
   alpha = ownAlpha;
   enabled = true;
 }
@@ -49,7 +49,7 @@ tintTask tint coverage output = record {
   source = tintSource tint coverage output;
   destination = record { surface = surfaceWith output; alpha = ownAlpha; enabled = true };
   output = surfaceWith output;
-  blending = record { on = true; rule = ruleOf SrcOver };
+  blending = record { on = true; rule = blendModeFactors SrcOver };
 }
 
 -- colours are bytes and an address is a 32-bit number, as those that the call is handed are
@@ -62,9 +62,9 @@ pub record Handed (tint : Tint) (output : SurfaceFields) : Type 0 where
 pub record ReadsBack (bounds : Bounds) (bank : Bank) (score : Float) (tint : Tint) (output : SurfaceFields) : Type 0 where
   -- what is left in a buffer that was written is read as the one task with these fields, and 25 to 28 are judged of them
   pub one : (buffer : List ℕ) → answerOf score tint output (length buffer) ≡ Encoded Written →
-      readBatch bounds bank (words (take 80 (bufferAfter score tint output buffer))) ≡ readAs bounds bank 0 (fieldsOf score tint output ∷ [])
+      decodeBatch bounds bank (words (take 80 (bufferAfter score tint output buffer))) ≡ expectedDecoding bounds bank 0 (fieldsOf score tint output ∷ [])
   -- it has one task-end mark
   pub marked : (buffer : List ℕ) → answerOf score tint output (length buffer) ≡ Encoded Written →
-      marks (words (take 80 (bufferAfter score tint output buffer))) ≡ 1
+      taskEndCount (words (take 80 (bufferAfter score tint output buffer))) ≡ 1
   -- and these fields are those of the tint, no other
   pub same : taskWith (fieldsOf score tint output) ≡ tintTask tint (coverageOf score) output

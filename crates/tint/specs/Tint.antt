@@ -8,7 +8,7 @@ use Rattle.pixel.specs.declared.colour.Colour.{Colour}
 use Rattle.pixel.specs.declared.format.Format.the-variants.{Argb8888}
 use Rattle.pixel.specs.Formats.{layoutOf}
 use Rattle.pixel.specs.Colours.{packed}
-use Rattle.pixel.specs.Alpha.{near}
+use Rattle.pixel.specs.Alpha.{div255}
 use Rattle.encoder.specs.declared.fields.SurfaceFields.{SurfaceFields}
 use Rattle.encoder.specs.declared.fields.Fields.{Fields}
 use Rattle.encoder.specs.Solid.{resetAlpha, solidSource}
@@ -21,9 +21,9 @@ use Rattle.tint.specs.declared.Answer.the-variants.{BadScore, Encoded}
 unfoldable pub tintColour : Tint → ℕ → Colour
 tintColour tint coverage = record {
   alpha = coverage;
-  red = near (tint .red * coverage);
-  green = near (tint .green * coverage);
-  blue = near (tint .blue * coverage);
+  red = div255 (tint .red * coverage);
+  green = div255 (tint .green * coverage);
+  blue = div255 (tint .blue * coverage);
 }
 
 -- "a colour-mode task", "SRC_OVER, blend on, source size and destination as output, all enabled, rest zero"; SRC_OVER is 1, 3
@@ -43,7 +43,7 @@ fieldsOf score tint output = tintFields tint (coverageOf score) output
 abbrev pub numberOf : Answer → ℕ
 -- NaN or outside 0 to 1
 numberOf BadScore = 15
-numberOf (Encoded answer) = encoder.numberOf answer
+numberOf (Encoded answer) = encoder.encodeRefusalOf answer
 
 -- for a buffer of this length: 15, "before 24 and 12"
 unfoldable pub answerOf : Float → Tint → SurfaceFields → ℕ → Answer

@@ -5,12 +5,12 @@ use mathlib.Core.Bool.{Bool, true, false}
 use Prim.Native.Nat.{ℕ, _-_, _<_}
 use native.Mathlib.Omega.{arith}
 use Rattle.transform.specs.declared.Rotation.{Rotation}
-use Rattle.transform.specs.declared.Rotation.the-variants.{Upright, Clockwise, Half, CounterClockwise}
+use Rattle.transform.specs.declared.Rotation.the-variants.{Rotate0, Rotate90, Rotate180, Rotate270}
 use Rattle.transform.specs.declared.Flip.{Flip}
 use Rattle.transform.specs.declared.Transform.{Transform}
 use Rattle.transform.specs.declared.Size.{Size}
 use Rattle.transform.specs.declared.Point.{Point}
-use Rattle.transform.specs.Transform.{Within, rotatedSize, unrotated, mirrored, unflipped, sourceOf}
+use Rattle.transform.specs.Transform.{InPicture, rotatedSize, unrotated, mirrored, unflipped, sourcePixel}
 use Rattle.transform.specs.Compose.{quarter, added, isOdd, either, flippedTwice, exchanged, compose}
 use Rattle.transform.specs.Laws.{Composes}
 use Rattle.transform.proofs.Inside.{unrotated-within}
@@ -20,41 +20,41 @@ point p q = λ i. record { x = p i; y = q i }
 
 -- ---- a turn after a turn
 
-quarter-size : (r : Rotation) (s : Size) → rotatedSize (quarter r) s ≡ rotatedSize r (rotatedSize Clockwise s)
-quarter-size Upright s = refl
-quarter-size Clockwise s = refl
-quarter-size Half s = refl
-quarter-size CounterClockwise s = refl
+quarter-size : (r : Rotation) (s : Size) → rotatedSize (quarter r) s ≡ rotatedSize r (rotatedSize Rotate90 s)
+quarter-size Rotate0 s = refl
+quarter-size Rotate90 s = refl
+quarter-size Rotate180 s = refl
+quarter-size Rotate270 s = refl
 
 pub added-size : (a b : Rotation) (s : Size) → rotatedSize (added a b) s ≡ rotatedSize b (rotatedSize a s)
-added-size Upright b s = refl
-added-size Clockwise b s = quarter-size b s
-added-size Half b s = quarter-size (quarter b) s ∙ quarter-size b (rotatedSize Clockwise s)
-added-size CounterClockwise b s =
-    quarter-size (quarter (quarter b)) s ∙ quarter-size (quarter b) (rotatedSize Clockwise s) ∙ quarter-size b s
+added-size Rotate0 b s = refl
+added-size Rotate90 b s = quarter-size b s
+added-size Rotate180 b s = quarter-size (quarter b) s ∙ quarter-size b (rotatedSize Rotate90 s)
+added-size Rotate270 b s =
+    quarter-size (quarter (quarter b)) s ∙ quarter-size (quarter b) (rotatedSize Rotate90 s) ∙ quarter-size b s
 
-quarter-turn : (r : Rotation) (s : Size) (p : Point) → Within (rotatedSize (quarter r) s) p →
-    unrotated (quarter r) s p ≡ unrotated Clockwise s (unrotated r (rotatedSize Clockwise s) p)
-quarter-turn Upright s p h = refl
-quarter-turn Clockwise s p h = refl
-quarter-turn Half s p h = point refl (omega (arith, h .across))
-quarter-turn CounterClockwise s p h = point refl (omega (arith, h .down))
+quarter-turn : (r : Rotation) (s : Size) (p : Point) → InPicture (rotatedSize (quarter r) s) p →
+    unrotated (quarter r) s p ≡ unrotated Rotate90 s (unrotated r (rotatedSize Rotate90 s) p)
+quarter-turn Rotate0 s p h = refl
+quarter-turn Rotate90 s p h = refl
+quarter-turn Rotate180 s p h = point refl (omega (arith, h .across))
+quarter-turn Rotate270 s p h = point refl (omega (arith, h .down))
 
-turn-turn : (a b : Rotation) (s : Size) (p : Point) → Within (rotatedSize (added a b) s) p →
+turn-turn : (a b : Rotation) (s : Size) (p : Point) → InPicture (rotatedSize (added a b) s) p →
     unrotated (added a b) s p ≡ unrotated a s (unrotated b (rotatedSize a s) p)
-turn-turn Upright b s p h = refl
-turn-turn Clockwise b s p h = quarter-turn b s p h
-turn-turn Half b s p h =
-    let s′ = rotatedSize Clockwise s in
-    quarter-turn (quarter b) s p h ∙ ap (unrotated Clockwise s) (quarter-turn b s′ p (rw (quarter-size (quarter b) s) at h))
-turn-turn CounterClockwise b s p h =
-    let s′ = rotatedSize Clockwise s in
-    let h′ : Within (rotatedSize (quarter (quarter b)) s′) p = rw (quarter-size (quarter (quarter b)) s) at h in
-    let h″ : Within (rotatedSize (quarter b) s) p = rw (quarter-size (quarter b) s′) at h′ in
-    let h‴ : Within (rotatedSize b s′) p = rw (quarter-size b s) at h″ in
+turn-turn Rotate0 b s p h = refl
+turn-turn Rotate90 b s p h = quarter-turn b s p h
+turn-turn Rotate180 b s p h =
+    let s′ = rotatedSize Rotate90 s in
+    quarter-turn (quarter b) s p h ∙ ap (unrotated Rotate90 s) (quarter-turn b s′ p (rw (quarter-size (quarter b) s) at h))
+turn-turn Rotate270 b s p h =
+    let s′ = rotatedSize Rotate90 s in
+    let h′ : InPicture (rotatedSize (quarter (quarter b)) s′) p = rw (quarter-size (quarter (quarter b)) s) at h in
+    let h″ : InPicture (rotatedSize (quarter b) s) p = rw (quarter-size (quarter b) s′) at h′ in
+    let h‴ : InPicture (rotatedSize b s′) p = rw (quarter-size b s) at h″ in
     quarter-turn (quarter (quarter b)) s p h
-    ∙ ap (unrotated Clockwise s) (quarter-turn (quarter b) s′ p h′ ∙ ap (unrotated Clockwise s′) (quarter-turn b s p h″))
-    ∙ sym (quarter-turn Half s (unrotated b s′ p) (unrotated-within b s′ p h‴))
+    ∙ ap (unrotated Rotate90 s) (quarter-turn (quarter b) s′ p h′ ∙ ap (unrotated Rotate90 s′) (quarter-turn b s p h″))
+    ∙ sym (quarter-turn Rotate180 s (unrotated b s′ p) (unrotated-within b s′ p h‴))
 
 -- ---- a flip after a flip
 
@@ -64,7 +64,7 @@ mirrored-twice true false n i h = refl
 mirrored-twice false true n i h = refl
 mirrored-twice false false n i h = refl
 
-flip-flip : (f g : Flip) (s : Size) (p : Point) → Within s p → unflipped f s (unflipped g s p) ≡ unflipped (flippedTwice f g) s p
+flip-flip : (f g : Flip) (s : Size) (p : Point) → InPicture s p → unflipped f s (unflipped g s p) ≡ unflipped (flippedTwice f g) s p
 flip-flip f g s p h =
     point
     (mirrored-twice (f .horizontal) (g .horizontal) (s .width) (p .x) (h .across))
@@ -79,16 +79,16 @@ mirrored-mirror false n i = refl
 
 turn-flip : (r : Rotation) (f : Flip) (s : Size) (p : Point) →
     unrotated r s (unflipped f (rotatedSize r s) p) ≡ unflipped (exchanged (isOdd r) f) s (unrotated r s p)
-turn-flip Upright f s p = refl
-turn-flip Clockwise f s p = point refl (mirrored-mirror (f .horizontal) (s .height) (p .x))
-turn-flip Half f s p = point (mirrored-mirror (f .horizontal) (s .width) (p .x)) (mirrored-mirror (f .vertical) (s .height) (p .y))
-turn-flip CounterClockwise f s p = point (mirrored-mirror (f .vertical) (s .width) (p .y)) refl
+turn-flip Rotate0 f s p = refl
+turn-flip Rotate90 f s p = point refl (mirrored-mirror (f .horizontal) (s .height) (p .x))
+turn-flip Rotate180 f s p = point (mirrored-mirror (f .horizontal) (s .width) (p .x)) (mirrored-mirror (f .vertical) (s .height) (p .y))
+turn-flip Rotate270 f s p = point (mirrored-mirror (f .vertical) (s .width) (p .y)) refl
 
 -- ---- all together
 
-pub composed-source : (a b : Transform) (s : Size) (p : Point) → Within (rotatedSize (compose a b .rotation) s) p →
-    sourceOf (compose a b) s p ≡ sourceOf a s (sourceOf b (rotatedSize (a .rotation) s) p)
-unfolding compose sourceOf
+pub composed-source : (a b : Transform) (s : Size) (p : Point) → InPicture (rotatedSize (compose a b .rotation) s) p →
+    sourcePixel (compose a b) s p ≡ sourcePixel a s (sourcePixel b (rotatedSize (a .rotation) s) p)
+unfolding compose sourcePixel
 composed-source a b s p h =
     let f = a .flip in
     let g = exchanged (isOdd (a .rotation)) (b .flip) in

@@ -4,7 +4,7 @@ use mathlib.Core.Bool.{Bool, true, false, cond, _&&_, Bool·beq}
 use Prim.Native.Nat.{ℕ, _+_}
 use lib.Dec.{T, eqb, eqb→eq}
 use Rattle.transform.specs.declared.Rotation.{Rotation}
-use Rattle.transform.specs.declared.Rotation.the-variants.{Upright, Clockwise, Half, CounterClockwise}
+use Rattle.transform.specs.declared.Rotation.the-variants.{Rotate0, Rotate90, Rotate180, Rotate270}
 use Rattle.transform.specs.declared.Transform.{Transform}
 use Rattle.transform.specs.Bits.{turns, rotationOf}
 
@@ -17,7 +17,7 @@ abbrev bothWays : (Bool → Bool) → Bool
 bothWays f = f false && f true
 
 abbrev allTurns : (Rotation → Bool) → Bool
-allTurns f = f Upright && (f Clockwise && (f Half && f CounterClockwise))
+allTurns f = f Rotate0 && (f Rotate90 && (f Rotate180 && f Rotate270))
 
 abbrev pub every : (Transform → Bool) → Bool
 every f = bothWays (λ (h : Bool). bothWays (λ (v : Bool). allTurns (λ (r : Rotation). f (setting h v r))))
@@ -35,10 +35,10 @@ one-way f t false = left (f false) (f true) t
 one-way f t true = right (f false) (f true) t
 
 one-turn : (f : Rotation → Bool) → T (allTurns f) → (r : Rotation) → T (f r)
-one-turn f t Upright = left (f Upright) _ t
-one-turn f t Clockwise = left (f Clockwise) _ (right (f Upright) _ t)
-one-turn f t Half = left (f Half) _ (right (f Clockwise) _ (right (f Upright) _ t))
-one-turn f t CounterClockwise = right (f Half) _ (right (f Clockwise) _ (right (f Upright) _ t))
+one-turn f t Rotate0 = left (f Rotate0) _ t
+one-turn f t Rotate90 = left (f Rotate90) _ (right (f Rotate0) _ t)
+one-turn f t Rotate180 = left (f Rotate180) _ (right (f Rotate90) _ (right (f Rotate0) _ t))
+one-turn f t Rotate270 = right (f Rotate180) _ (right (f Rotate90) _ (right (f Rotate0) _ t))
 
 -- a test that every setting passes, each passes
 pub each : (f : Transform → Bool) → T (every f) → (t : Transform) → T (f t)
@@ -52,10 +52,10 @@ each f all t =
 -- ---- when two are alike
 
 turn-turns : (r : Rotation) → rotationOf (turns r) ≡ r
-turn-turns Upright = refl
-turn-turns Clockwise = refl
-turn-turns Half = refl
-turn-turns CounterClockwise = refl
+turn-turns Rotate0 = refl
+turn-turns Rotate90 = refl
+turn-turns Rotate180 = refl
+turn-turns Rotate270 = refl
 
 -- a number for each setting
 abbrev pub numberOf : Transform → ℕ

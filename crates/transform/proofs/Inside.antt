@@ -3,24 +3,24 @@ use Prim.Native.Nat.{ℕ, _<_}
 use mathlib.Core.Bool.{Bool, true, false}
 use native.Mathlib.Omega.{arith}
 use Rattle.transform.specs.declared.Rotation.{Rotation}
-use Rattle.transform.specs.declared.Rotation.the-variants.{Upright, Clockwise, Half, CounterClockwise}
+use Rattle.transform.specs.declared.Rotation.the-variants.{Rotate0, Rotate90, Rotate180, Rotate270}
 use Rattle.transform.specs.declared.Transform.{Transform}
 use Rattle.transform.specs.declared.Size.{Size}
 use Rattle.transform.specs.declared.Point.{Point}
-use Rattle.transform.specs.Transform.{Within, rotatedSize, unrotated, mirrored, sourceOf}
+use Rattle.transform.specs.Transform.{InPicture, rotatedSize, unrotated, mirrored, sourcePixel}
 
-pub unrotated-within : (r : Rotation) (s : Size) (p : Point) → Within (rotatedSize r s) p → Within s (unrotated r s p)
-unrotated-within Upright s p h = h
-unrotated-within Clockwise s p h = record { across = h .down; down = omega (arith, h .across) }
-unrotated-within Half s p h = record { across = omega (arith, h .across); down = omega (arith, h .down) }
-unrotated-within CounterClockwise s p h = record { across = omega (arith, h .down); down = h .across }
+pub unrotated-within : (r : Rotation) (s : Size) (p : Point) → InPicture (rotatedSize r s) p → InPicture s (unrotated r s p)
+unrotated-within Rotate0 s p h = h
+unrotated-within Rotate90 s p h = record { across = h .down; down = omega (arith, h .across) }
+unrotated-within Rotate180 s p h = record { across = omega (arith, h .across); down = omega (arith, h .down) }
+unrotated-within Rotate270 s p h = record { across = omega (arith, h .down); down = h .across }
 
 pub mirrored-below : (on : Bool) (n i : ℕ) → i < n → mirrored on n i < n
 mirrored-below true n i h = omega arith
 mirrored-below false n i h = h
 
-pub source-within : (t : Transform) (s : Size) (p : Point) → Within (rotatedSize (t .rotation) s) p → Within s (sourceOf t s p)
-unfolding sourceOf
+pub source-within : (t : Transform) (s : Size) (p : Point) → InPicture (rotatedSize (t .rotation) s) p → InPicture s (sourcePixel t s p)
+unfolding sourcePixel
 source-within t s p h =
     let q = unrotated-within (t .rotation) s p h in
     record {

@@ -6,11 +6,11 @@ use Prim.Native.Nat.{ℕ, _+_, _-_, _*_, _<_}
 use native.Mathlib.Omega.{arith}
 use lib.Dec.{lit<}
 use Rattle.transform.specs.declared.Rotation.{Rotation}
-use Rattle.transform.specs.declared.Rotation.the-variants.{Upright, Clockwise, Half, CounterClockwise}
+use Rattle.transform.specs.declared.Rotation.the-variants.{Rotate0, Rotate90, Rotate180, Rotate270}
 use Rattle.transform.specs.declared.Transform.{Transform}
 use Rattle.transform.specs.declared.Size.{Size}
 use Rattle.transform.specs.declared.Point.{Point}
-use Rattle.transform.specs.Transform.{Within, rotatedSize, sourceOf}
+use Rattle.transform.specs.Transform.{InPicture, rotatedSize, sourcePixel}
 use Rattle.transform.specs.Compose.{compose, opposite, SameOrientation}
 use Rattle.transform.specs.Laws.{Alike, square, place, Exactly}
 use Rattle.transform.proofs.Inside.{source-within}
@@ -22,10 +22,10 @@ use Rattle.transform.proofs.Settings.{tells}
 
 -- both flips and half a turn leave every pixel where it is
 abbrev over : Transform
-over = record { flip = record { horizontal = true; vertical = true }; rotation = Half }
+over = record { flip = record { horizontal = true; vertical = true }; rotation = Rotate180 }
 
-over-stays : (s : Size) (p : Point) → Within s p → sourceOf over s p ≡ p
-unfolding sourceOf
+over-stays : (s : Size) (p : Point) → InPicture s p → sourcePixel over s p ≡ p
+unfolding sourcePixel
 over-stays s p h =
     let x : s .width - 1 - (s .width - 1 - p .x) ≡ p .x = omega (arith, h .across) in
     let y : s .height - 1 - (s .height - 1 - p .y) ≡ p .y = omega (arith, h .down) in
@@ -38,21 +38,21 @@ over-opposite = one opposite (compose over) tt
 
 opposite-size : (t : Transform) (s : Size) → rotatedSize (opposite t .rotation) s ≡ rotatedSize (t .rotation) s
 unfolding opposite
-opposite-size t s = added-size Half (t .rotation) s
+opposite-size t s = added-size Rotate180 (t .rotation) s
 
-opposite-source : (t : Transform) (s : Size) (p : Point) → Within (rotatedSize (t .rotation) s) p → sourceOf (opposite t) s p ≡ sourceOf t s p
+opposite-source : (t : Transform) (s : Size) (p : Point) → InPicture (rotatedSize (t .rotation) s) p → sourcePixel (opposite t) s p ≡ sourcePixel t s p
 opposite-source t s p h =
     let e = over-opposite t in
-    let h′ : Within (rotatedSize (compose over t .rotation) s) p = rw (← e, opposite-size t s) h in
-    ap (λ (u : Transform). sourceOf u s p) e ∙ composed-source over t s p h′ ∙ over-stays s (sourceOf t s p) (source-within t s p h)
+    let h′ : InPicture (rotatedSize (compose over t .rotation) s) p = rw (← e, opposite-size t s) h in
+    ap (λ (u : Transform). sourcePixel u s p) e ∙ composed-source over t s p h′ ∙ over-stays s (sourcePixel t s p) (source-within t s p h)
 
 alike : (a b : Transform) → SameOrientation a b → Alike a b
 alike a b o =
     ⊎-elim
-    (λ (e : a ≡ b). record { size = λ s. ap (λ (t : Transform). rotatedSize (t .rotation) s) e; source = λ s p h. ap (λ (t : Transform). sourceOf t s p) e })
+    (λ (e : a ≡ b). record { size = λ s. ap (λ (t : Transform). rotatedSize (t .rotation) s) e; source = λ s p h. ap (λ (t : Transform). sourcePixel t s p) e })
     (λ (e : a ≡ opposite b).
     let size : (s : Size) → rotatedSize (a .rotation) s ≡ rotatedSize (b .rotation) s = λ s. ap (λ (t : Transform). rotatedSize (t .rotation) s) e ∙ opposite-size b s in
-    record { size = size; source = λ s p h. ap (λ (t : Transform). sourceOf t s p) e ∙ opposite-source b s p (rw (size s) at h) })
+    record { size = size; source = λ s p h. ap (λ (t : Transform). sourcePixel t s p) e ∙ opposite-source b s p (rw (size s) at h) })
     o
 
 -- ---- another orientation
@@ -62,21 +62,21 @@ abbrev at : Point → ℕ
 at p = p .x + 2 * p .y
 
 seen : Transform → ℕ
-seen t = at (sourceOf t square (place 0)) + 4 * at (sourceOf t square (place 1))
+seen t = at (sourcePixel t square (place 0)) + 4 * at (sourcePixel t square (place 1))
 
-told : (a b : Transform) → sourceOf a square (place 0) ≡ sourceOf b square (place 0) → sourceOf a square (place 1) ≡ sourceOf b square (place 1) →
+told : (a b : Transform) → sourcePixel a square (place 0) ≡ sourcePixel b square (place 0) → sourcePixel a square (place 1) ≡ sourcePixel b square (place 1) →
     SameOrientation a b
-unfolding seen sourceOf opposite
+unfolding seen sourcePixel opposite
 told a b e f = tells seen tt a b (ap₂ (λ (p q : Point). at p + 4 * at q) e f)
 
 -- turned, it is again 2 by 2
 pub turned-square : (r : Rotation) → rotatedSize r square ≡ square
-turned-square Upright = refl
-turned-square Clockwise = refl
-turned-square Half = refl
-turned-square CounterClockwise = refl
+turned-square Rotate0 = refl
+turned-square Rotate90 = refl
+turned-square Rotate180 = refl
+turned-square Rotate270 = refl
 
-square-within : (r : Rotation) (x : ℕ) → x < 2 → Within (rotatedSize r square) (place x)
+square-within : (r : Rotation) (x : ℕ) → x < 2 → InPicture (rotatedSize r square) (place x)
 square-within r x l = rw (turned-square r) (record { across = l; down = lit< tt })
 
 same : (a b : Transform) → Alike a b → SameOrientation a b

@@ -4,18 +4,18 @@ use Prim.Native.Nat.{ℕ, _+_, _*_, _/_, _%_}
 use mathlib.Core.Bool.{Bool, cond}
 use lib.Dec.{eqb}
 use Rattle.transform.specs.declared.Rotation.{Rotation}
-use Rattle.transform.specs.declared.Rotation.the-variants.{Upright, Clockwise, Half, CounterClockwise}
+use Rattle.transform.specs.declared.Rotation.the-variants.{Rotate0, Rotate90, Rotate180, Rotate270}
 use Rattle.transform.specs.declared.Transform.{Transform}
 
 -- quarter turns clockwise, 0 to 3
 abbrev pub turns : Rotation → ℕ
-turns Upright = 0
-turns Clockwise = 1
-turns Half = 2
-turns CounterClockwise = 3
+turns Rotate0 = 0
+turns Rotate90 = 1
+turns Rotate180 = 2
+turns Rotate270 = 3
 
 abbrev pub rotationOf : ℕ → Rotation
-rotationOf n = cond (eqb n 0) Upright (cond (eqb n 1) Clockwise (cond (eqb n 2) Half CounterClockwise))
+rotationOf n = cond (eqb n 0) Rotate0 (cond (eqb n 1) Rotate90 (cond (eqb n 2) Rotate180 Rotate270))
 
 -- the setting in any word; its other bits are not looked at
 unfoldable pub settingOf : ℕ → Transform

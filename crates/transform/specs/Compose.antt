@@ -4,37 +4,37 @@ use mathlib.Core.Path.{_≡_}
 use mathlib.Core.Bool.{Bool, true, false, not, cond, Bool·beq}
 use mathlib.Core.Logic.{_⊎_}
 use Rattle.transform.specs.declared.Rotation.{Rotation}
-use Rattle.transform.specs.declared.Rotation.the-variants.{Upright, Clockwise, Half, CounterClockwise}
+use Rattle.transform.specs.declared.Rotation.the-variants.{Rotate0, Rotate90, Rotate180, Rotate270}
 use Rattle.transform.specs.declared.Flip.{Flip}
 use Rattle.transform.specs.declared.Transform.{Transform}
 
 -- one quarter turn more
 abbrev pub quarter : Rotation → Rotation
-quarter Upright = Clockwise
-quarter Clockwise = Half
-quarter Half = CounterClockwise
-quarter CounterClockwise = Upright
+quarter Rotate0 = Rotate90
+quarter Rotate90 = Rotate180
+quarter Rotate180 = Rotate270
+quarter Rotate270 = Rotate0
 
 -- quarter turns add modulo 4
 abbrev pub added : Rotation → Rotation → Rotation
-added Upright r = r
-added Clockwise r = quarter r
-added Half r = quarter (quarter r)
-added CounterClockwise r = quarter (quarter (quarter r))
+added Rotate0 r = r
+added Rotate90 r = quarter r
+added Rotate180 r = quarter (quarter r)
+added Rotate270 r = quarter (quarter (quarter r))
 
 -- as many quarter turns the other way
 abbrev pub turnedBack : Rotation → Rotation
-turnedBack Upright = Upright
-turnedBack Clockwise = CounterClockwise
-turnedBack Half = Half
-turnedBack CounterClockwise = Clockwise
+turnedBack Rotate0 = Rotate0
+turnedBack Rotate90 = Rotate270
+turnedBack Rotate180 = Rotate180
+turnedBack Rotate270 = Rotate90
 
 -- an odd number of quarter turns: width and height change places
 abbrev pub isOdd : Rotation → Bool
-isOdd Upright = false
-isOdd Clockwise = true
-isOdd Half = false
-isOdd CounterClockwise = true
+isOdd Rotate0 = false
+isOdd Rotate90 = true
+isOdd Rotate180 = false
+isOdd Rotate270 = true
 
 -- one of two, and not both
 abbrev pub either : Bool → Bool → Bool
@@ -56,7 +56,7 @@ compose first second = record {
 }
 
 abbrev pub neutral : Transform
-neutral = record { flip = record { horizontal = false; vertical = false }; rotation = Upright }
+neutral = record { flip = record { horizontal = false; vertical = false }; rotation = Rotate0 }
 
 -- the setting that undoes one
 unfoldable pub inverse : Transform → Transform
@@ -68,7 +68,7 @@ inverse t = record { flip = exchanged (isOdd (t .rotation)) (t .flip); rotation 
 unfoldable pub opposite : Transform → Transform
 opposite t = record {
   flip = record { horizontal = not (t .flip .horizontal); vertical = not (t .flip .vertical) };
-  rotation = added Half (t .rotation);
+  rotation = added Rotate180 (t .rotation);
 }
 
 -- two settings of one orientation: alike, or they differ in both flips and by two quarter turns

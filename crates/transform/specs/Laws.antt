@@ -7,15 +7,15 @@ use Prim.Native.Nat.{ℕ}
 use Rattle.transform.specs.declared.Transform.{Transform}
 use Rattle.transform.specs.declared.Size.{Size}
 use Rattle.transform.specs.declared.Point.{Point}
-use Rattle.transform.specs.Transform.{Within, rotatedSize, sourceOf}
+use Rattle.transform.specs.Transform.{InPicture, rotatedSize, sourcePixel}
 use Rattle.transform.specs.Compose.{compose, neutral, inverse, SameOrientation, orientation}
 use Rattle.transform.specs.Bits.{settingOf, bitsOf}
 
 -- the composed setting gives the size, and brings to each place the source pixel, that the two give and bring one after the other
 pub record Composes : Type 0 where
   pub size : (a b : Transform) (s : Size) → rotatedSize (compose a b .rotation) s ≡ rotatedSize (b .rotation) (rotatedSize (a .rotation) s)
-  pub source : (a b : Transform) (s : Size) (p : Point) → Within (rotatedSize (compose a b .rotation) s) p →
-      sourceOf (compose a b) s p ≡ sourceOf a s (sourceOf b (rotatedSize (a .rotation) s) p)
+  pub source : (a b : Transform) (s : Size) (p : Point) → InPicture (rotatedSize (compose a b .rotation) s) p →
+      sourcePixel (compose a b) s p ≡ sourcePixel a s (sourcePixel b (rotatedSize (a .rotation) s) p)
 
 -- the sixteen settings; all of it holds strictly, and so up to equal drawing
 pub record Settings : Type 0 where
@@ -38,7 +38,7 @@ ReadBack = (t : Transform) → settingOf (bitsOf t) ≡ t
 -- two settings give the same size and bring the same source pixel to each place, of every picture
 pub record Alike (a b : Transform) : Type 0 where
   pub size : (s : Size) → rotatedSize (a .rotation) s ≡ rotatedSize (b .rotation) s
-  pub source : (s : Size) (p : Point) → Within (rotatedSize (a .rotation) s) p → sourceOf a s p ≡ sourceOf b s p
+  pub source : (s : Size) (p : Point) → InPicture (rotatedSize (a .rotation) s) p → sourcePixel a s p ≡ sourcePixel b s p
 
 abbrev pub square : Size
 square = record { width = 2; height = 2 }
@@ -50,6 +50,6 @@ place x = record { x = x; y = 0 }
 pub record Exactly : Type 0 where
   pub alike : (a b : Transform) → SameOrientation a b → Alike a b
   pub same : (a b : Transform) → Alike a b → SameOrientation a b
-  -- a picture of 2 by 2 tells orientations apart, by the source pixels of two places of its upper row
-  pub told : (a b : Transform) → sourceOf a square (place 0) ≡ sourceOf b square (place 0) → sourceOf a square (place 1) ≡ sourceOf b square (place 1) →
+  -- a picture of 2 by 2 distinguishes orientations, by the source pixels of two places of its upper row
+  pub told : (a b : Transform) → sourcePixel a square (place 0) ≡ sourcePixel b square (place 0) → sourcePixel a square (place 1) ≡ sourcePixel b square (place 1) →
       SameOrientation a b

@@ -2,7 +2,7 @@
 use Prim.Native.Nat.{ℕ, _-_, _<_}
 use mathlib.Core.Bool.{Bool, cond}
 use Rattle.transform.specs.declared.Rotation.{Rotation}
-use Rattle.transform.specs.declared.Rotation.the-variants.{Upright, Clockwise, Half, CounterClockwise}
+use Rattle.transform.specs.declared.Rotation.the-variants.{Rotate0, Rotate90, Rotate180, Rotate270}
 use Rattle.transform.specs.declared.Flip.{Flip}
 use Rattle.transform.specs.declared.Transform.{Transform}
 use Rattle.transform.specs.declared.Size.{Size}
@@ -10,18 +10,18 @@ use Rattle.transform.specs.declared.Point.{Point}
 
 -- the size of a picture of this size, rotated
 abbrev pub rotatedSize : Rotation → Size → Size
-rotatedSize Upright s = s
-rotatedSize Clockwise s = record { width = s .height; height = s .width }
-rotatedSize Half s = s
-rotatedSize CounterClockwise s = record { width = s .height; height = s .width }
+rotatedSize Rotate0 s = s
+rotatedSize Rotate90 s = record { width = s .height; height = s .width }
+rotatedSize Rotate180 s = s
+rotatedSize Rotate270 s = record { width = s .height; height = s .width }
 
 -- the pixel of the flipped source f, of this size, that is output pixel (x, y):
 -- f(x, y), f(y, h-1-x), f(w-1-x, h-1-y), f(w-1-y, x) for 0 to 3 quarter turns
 abbrev pub unrotated : Rotation → Size → Point → Point
-unrotated Upright s p = p
-unrotated Clockwise s p = record { x = p .y; y = s .height - 1 - p .x }
-unrotated Half s p = record { x = s .width - 1 - p .x; y = s .height - 1 - p .y }
-unrotated CounterClockwise s p = record { x = s .width - 1 - p .y; y = p .x }
+unrotated Rotate0 s p = p
+unrotated Rotate90 s p = record { x = p .y; y = s .height - 1 - p .x }
+unrotated Rotate180 s p = record { x = s .width - 1 - p .x; y = s .height - 1 - p .y }
+unrotated Rotate270 s p = record { x = s .width - 1 - p .y; y = p .x }
 
 -- place i of n, counted from the other end if flipped
 abbrev pub mirrored : Bool → ℕ → ℕ → ℕ
@@ -32,10 +32,10 @@ abbrev pub unflipped : Flip → Size → Point → Point
 unflipped f s p = record { x = mirrored (f .horizontal) (s .width) (p .x); y = mirrored (f .vertical) (s .height) (p .y) }
 
 -- the source pixel that is output pixel p
-unfoldable pub sourceOf : Transform → Size → Point → Point
-sourceOf t s p = unflipped (t .flip) s (unrotated (t .rotation) s p)
+unfoldable pub sourcePixel : Transform → Size → Point → Point
+sourcePixel t s p = unflipped (t .flip) s (unrotated (t .rotation) s p)
 
 -- a pixel of a picture of this size
-pub record Within (s : Size) (p : Point) : Type 0 where
+pub record InPicture (s : Size) (p : Point) : Type 0 where
   pub across : p .x < s .width
   pub down : p .y < s .height

@@ -1,16 +1,16 @@
 // Flips and rotation by quarter turns: where each output pixel comes from.
 ghost use mathlib.Core.Path.{_≡_};
 ghost use Prim.Native.Nat.{_<_};
-ghost use Rattle.transform.specs.Transform.{Within, rotatedSize, unrotated, mirrored, unflipped, sourceOf};
+ghost use Rattle.transform.specs.Transform.{InPicture, rotatedSize, unrotated, mirrored, unflipped, sourcePixel};
 ghost use Rattle.transform.specs.Bits.{turns, rotationOf, weight, settingOf, bitsOf};
 ghost use Rattle.transform.specs.Compose.{quarter, added, turnedBack, isOdd, either, flippedTwice, exchanged, compose, neutral, inverse, opposite, orientation};
 
 // A rotation clockwise by 0 to 3 quarter turns.
 pub enum Rotation {
-    Upright,
-    Clockwise,
-    Half,
-    CounterClockwise,
+    Rotate0,
+    Rotate90,
+    Rotate180,
+    Rotate270,
 }
 
 pub struct Flip {
@@ -40,13 +40,13 @@ impl Size {
         ensures { λ r. ⌜ r ≡ rotatedSize rotation self ⌝ }
     {
         match rotation {
-            Rotation::Upright => self,
-            Rotation::Clockwise => Size {
+            Rotation::Rotate0 => self,
+            Rotation::Rotate90 => Size {
                 width: self.height,
                 height: self.width,
             },
-            Rotation::Half => self,
-            Rotation::CounterClockwise => Size {
+            Rotation::Rotate180 => self,
+            Rotation::Rotate270 => Size {
                 width: self.height,
                 height: self.width,
             },
@@ -65,7 +65,7 @@ fn mirror(on: bool, n: usize, i: usize) -> usize
 impl Rotation {
     // The pixel of the unrotated picture, of this size, that is pixel `at` of the rotated one.
     fn origin(self, size: Size, at: Point) -> Point
-        requires { ⌜ Within (rotatedSize self size) at ⌝ }
+        requires { ⌜ InPicture (rotatedSize self size) at ⌝ }
         ensures { λ r. ⌜ r ≡ unrotated self size at ⌝ }
     {
         let w = size.width;
@@ -73,13 +73,13 @@ impl Rotation {
         let x = at.x;
         let y = at.y;
         match self {
-            Rotation::Upright => at,
-            Rotation::Clockwise => Point { x: y, y: h - 1 - x },
-            Rotation::Half => Point {
+            Rotation::Rotate0 => at,
+            Rotation::Rotate90 => Point { x: y, y: h - 1 - x },
+            Rotation::Rotate180 => Point {
                 x: w - 1 - x,
                 y: h - 1 - y,
             },
-            Rotation::CounterClockwise => Point { x: w - 1 - y, y: x },
+            Rotation::Rotate270 => Point { x: w - 1 - y, y: x },
         }
     }
 }
@@ -87,7 +87,7 @@ impl Rotation {
 impl Flip {
     // The pixel of the unflipped picture, of this size, that is pixel `at` of the flipped one.
     fn origin(self, size: Size, at: Point) -> Point
-        requires { ⌜ Within size at ⌝ }
+        requires { ⌜ InPicture size at ⌝ }
         ensures { λ r. ⌜ r ≡ unflipped self size at ⌝ }
     {
         Point {
@@ -100,8 +100,8 @@ impl Flip {
 impl Transform {
     // The source pixel, of a source of this size, that is output pixel `at`. The flip comes first, so it is undone last.
     pub fn source_of(self, size: Size, at: Point) -> Point
-        requires { ⌜ Within (rotatedSize (self .rotation) size) at ⌝ }
-        ensures { λ r. ⌜ r ≡ sourceOf self size at ⌝ }
+        requires { ⌜ InPicture (rotatedSize (self .rotation) size) at ⌝ }
+        ensures { λ r. ⌜ r ≡ sourcePixel self size at ⌝ }
     {
         let flip = self.flip;
         let rotation = self.rotation;
@@ -117,10 +117,10 @@ impl Rotation {
         ensures { λ r. ⌜ r ≡ quarter self ⌝ }
     {
         match self {
-            Rotation::Upright => Rotation::Clockwise,
-            Rotation::Clockwise => Rotation::Half,
-            Rotation::Half => Rotation::CounterClockwise,
-            Rotation::CounterClockwise => Rotation::Upright,
+            Rotation::Rotate0 => Rotation::Rotate90,
+            Rotation::Rotate90 => Rotation::Rotate180,
+            Rotation::Rotate180 => Rotation::Rotate270,
+            Rotation::Rotate270 => Rotation::Rotate0,
         }
     }
 
@@ -129,10 +129,10 @@ impl Rotation {
         ensures { λ r. ⌜ r ≡ added self other ⌝ }
     {
         match self {
-            Rotation::Upright => other,
-            Rotation::Clockwise => other.quarter(),
-            Rotation::Half => other.quarter().quarter(),
-            Rotation::CounterClockwise => other.quarter().quarter().quarter(),
+            Rotation::Rotate0 => other,
+            Rotation::Rotate90 => other.quarter(),
+            Rotation::Rotate180 => other.quarter().quarter(),
+            Rotation::Rotate270 => other.quarter().quarter().quarter(),
         }
     }
 
@@ -141,10 +141,10 @@ impl Rotation {
         ensures { λ r. ⌜ r ≡ turnedBack self ⌝ }
     {
         match self {
-            Rotation::Upright => Rotation::Upright,
-            Rotation::Clockwise => Rotation::CounterClockwise,
-            Rotation::Half => Rotation::Half,
-            Rotation::CounterClockwise => Rotation::Clockwise,
+            Rotation::Rotate0 => Rotation::Rotate0,
+            Rotation::Rotate90 => Rotation::Rotate270,
+            Rotation::Rotate180 => Rotation::Rotate180,
+            Rotation::Rotate270 => Rotation::Rotate90,
         }
     }
 
@@ -153,10 +153,10 @@ impl Rotation {
         ensures { λ r. ⌜ r ≡ isOdd self ⌝ }
     {
         match self {
-            Rotation::Upright => false,
-            Rotation::Clockwise => true,
-            Rotation::Half => false,
-            Rotation::CounterClockwise => true,
+            Rotation::Rotate0 => false,
+            Rotation::Rotate90 => true,
+            Rotation::Rotate180 => false,
+            Rotation::Rotate270 => true,
         }
     }
 }
@@ -211,7 +211,7 @@ impl Transform {
                 horizontal: false,
                 vertical: false,
             },
-            rotation: Rotation::Upright,
+            rotation: Rotation::Rotate0,
         }
     }
 
@@ -239,7 +239,7 @@ impl Transform {
                     horizontal: !flip.horizontal,
                     vertical: !flip.vertical,
                 },
-                rotation: Rotation::Half.then(rotation),
+                rotation: Rotation::Rotate180.then(rotation),
             }
         } else {
             self
@@ -254,10 +254,10 @@ impl Rotation {
         ensures { λ r. ⌜ r ≡ rotationOf n ⌝ }
     {
         match n {
-            0 => Rotation::Upright,
-            1 => Rotation::Clockwise,
-            2 => Rotation::Half,
-            _ => Rotation::CounterClockwise,
+            0 => Rotation::Rotate0,
+            1 => Rotation::Rotate90,
+            2 => Rotation::Rotate180,
+            _ => Rotation::Rotate270,
         }
     }
 
@@ -265,10 +265,10 @@ impl Rotation {
         ensures { λ r. ⌜ r ≡ turns self ⌝ }
     {
         match self {
-            Rotation::Upright => 0,
-            Rotation::Clockwise => 1,
-            Rotation::Half => 2,
-            Rotation::CounterClockwise => 3,
+            Rotation::Rotate0 => 0,
+            Rotation::Rotate90 => 1,
+            Rotation::Rotate180 => 2,
+            Rotation::Rotate270 => 3,
         }
     }
 }

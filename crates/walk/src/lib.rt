@@ -2,11 +2,11 @@
 ghost use mathlib.Core.Path.{_≡_};
 ghost use lib.ListN.{length};
 ghost use Rattle.ring.specs.Segment.{batchWords};
-ghost use Rattle.batch.specs.Batch.{readBatch, verdictOf};
+ghost use Rattle.batch.specs.Batch.{decodeBatch, verdictOf};
 ghost use Rattle.raster.specs.Task.{drawTask, drawTasks};
 ghost use Rattle.raster.specs.Batch.{drawBatch};
-ghost use Rattle.raster.specs.Clear.{Drawable, Room};
-ghost use Rattle.raster.specs.Row.{Buffers};
+ghost use Rattle.raster.specs.Preconditions.{Drawable, BoundsInMemory};
+ghost use Rattle.raster.specs.Row.{RowBuffers};
 use batch::Step;
 use batch::Verdict;
 use batch::judge;
@@ -25,7 +25,7 @@ fn draw_task(
     destination: &mut [u8],
     slow: bool,
 )
-    requires { ⌜ Drawable window (length (now memory)) task × Buffers (now source) (now destination) ⌝ }
+    requires { ⌜ Drawable window (length (now memory)) task × RowBuffers (now source) (now destination) ⌝ }
     ensures { λ _. ⌜ now (memory .exit) ≡ drawTask task (now (memory .entry)) ⌝ }
 {
     if slow {
@@ -46,8 +46,8 @@ pub fn draw_batch(
     bank: Bank,
     slow: bool,
 )
-    requires { ⌜ Room bounds (length (now memory)) ⌝ }
-    ensures { λ _. ⌜ now (memory .exit) ≡ drawTasks (readBatch bounds bank (batchWords (now (ring .entry)) offset size) .tasks) (now (memory .entry)) ⌝ }
+    requires { ⌜ BoundsInMemory bounds (length (now memory)) ⌝ }
+    ensures { λ _. ⌜ now (memory .exit) ≡ drawTasks (decodeBatch bounds bank (batchWords (now (ring .entry)) offset size) .tasks) (now (memory .entry)) ⌝ }
 {
     // once a batch: most tasks are small, and clearing these would be most of their time
     let mut source = [0u8; 16384];
@@ -82,8 +82,8 @@ pub fn run_batch(
     bank: Bank,
     slow: bool,
 ) -> Verdict
-    requires { ⌜ Room bounds (length (now memory)) ⌝ }
-    ensures { λ r. ⌜ (r ≡ verdictOf (readBatch bounds bank (batchWords (now (ring .entry)) offset size))) × (now (memory .exit) ≡ drawBatch bounds bank (batchWords (now (ring .entry)) offset size) (now (memory .entry))) ⌝ }
+    requires { ⌜ BoundsInMemory bounds (length (now memory)) ⌝ }
+    ensures { λ r. ⌜ (r ≡ verdictOf (decodeBatch bounds bank (batchWords (now (ring .entry)) offset size))) × (now (memory .exit) ≡ drawBatch bounds bank (batchWords (now (ring .entry)) offset size) (now (memory .entry))) ⌝ }
 {
     let judged = judge(ring, offset, size, bounds, bank);
     let verdict = judged.verdict;

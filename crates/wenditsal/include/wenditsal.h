@@ -42,7 +42,7 @@ extern "C" {
  * ---- Refusals
  *
  * Every call but wenditsal_play returns the refusal's number, 0 if it was accepted. A refused call leaves every byte of record, ring, memory and
- * buffer as it was, and writes zeros to what it would have answered. Of several refusals that hold, the first in this table is told:
+ * buffer as it was, and writes zeros to what it would have answered. Of several refusals that hold, the first in this table is returned:
  *   11  set up           engine_size is not WENDITSAL_ENGINE_SIZE
  *   11  open, submit, run, pending
  *                        the engine record is none, or breaks a rule (below)
@@ -99,7 +99,7 @@ extern "C" {
  *
  * ---- Faults
  *
- * A batch is judged whole before any of it is drawn, and a faulty one draws nothing. The first fault is told, in the order of the walk: of a
+ * All of a batch is checked before any of it is drawn, and a faulty one draws nothing. The first fault is reported, in this order: of a
  * header 20, 21; then of each word 23, 24; after a task's last group 25 to 28, the lowest first; after the last group 22. Its place is a byte
  * offset in the batch.
  *    no  place      status      when
@@ -182,7 +182,7 @@ struct wenditsal_completion {
 
 /*
  * Takes the oldest ready batch, whichever client's it is, judges it, draws it into memory if it is faultless, and frees its slot and its room in
- * the ring. A faulty batch is no refusal: 0 is returned, and the fault told in *completion. No byte changes outside the output rows of the batch's
+ * the ring. A faulty batch is no refusal: 0 is returned, and the fault is in *completion. No byte changes outside the output rows of the batch's
  * tasks, and none outside its client's window.
  * Refusals: 11, 10, 9.
  */
@@ -311,7 +311,7 @@ uint32_t wenditsal_inverse(uint32_t setting);
  * An unknown opcode, or a call that is cut short, ends the list.
  *
  * Every answer is six u32, little-endian: the refusal's number, 0 without one; then, by open: id; by submit: ticket; by run: client, ticket,
- * status, fault, place; by pending: count. Zeros fill up. The first answer is set up's own: if it is refused nothing is played, and with no
+ * status, fault, place; by pending: count. Unused words are zero. The first answer is set up's own: if it is refused nothing is played, and with no
  * room for it nothing is set up and 0 is returned. A call whose answer would not fit is not played. 11 never comes.
  */
 size_t wenditsal_play(

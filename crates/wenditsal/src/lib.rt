@@ -3,8 +3,8 @@ ghost use mathlib.Core.Path.{_≡_};
 ghost use lib.ListN.{length};
 ghost use Rattle.transform.specs.Compose.{compose, inverse};
 ghost use Rattle.transform.specs.Bits.{settingOf, bitsOf};
-ghost use Rattle.encoder.specs.Encoder.{numberOf, answerOf, bufferAfter};
-ghost use Rattle.session.specs.Played.{Played};
+ghost use Rattle.encoder.specs.Encoder.{encodeRefusalOf, answerOf, bufferAfter};
+ghost use Rattle.session.specs.Played.{ScriptResult};
 ghost use Rattle.calls.specs.Calls.{SetsUp, Opens, Submits, Pends, Runs};
 ghost use Rattle.tint.specs.Tint.{numberOf as tintNumber, answerOf as tintAnswer, bufferAfter as tintBuffer};
 use encoder::Fields;
@@ -22,7 +22,7 @@ pub extern "C" fn wenditsal_play(
     script: &[u8],
     answers: &mut [u8],
 ) -> usize
-    ensures { λ r. ⌜ Played (record { ring = «ring_length»; memory = «memory_length»; common = «common_length» })
+    ensures { λ r. ⌜ ScriptResult (record { ring = «ring_length»; memory = «memory_length»; common = «common_length» })
         (now (ring .entry)) (now (memory .entry)) (now (script .entry)) (now (answers .entry))
         r (now (ring .exit)) (now (memory .exit)) (now (answers .exit)) ⌝ }
 {
@@ -107,7 +107,7 @@ pub extern "C" fn wenditsal_pending(engine: &[u8], client: u32, count: &mut u32)
 #[no_mangle]
 pub extern "C" fn wenditsal_encode(fields: Fields, buffer: &mut [u8]) -> u32
     ensures { λ r. ⌜
-        (r ≡ numberOf (answerOf fields (length (now (buffer .entry)))))
+        (r ≡ encodeRefusalOf (answerOf fields (length (now (buffer .entry)))))
         × (now (buffer .exit) ≡ bufferAfter fields (now (buffer .entry)))
         ⌝ }
 {

@@ -3,6 +3,7 @@
 pub mod batch;
 pub mod calls;
 pub mod compositions;
+pub mod documents;
 pub mod drawing;
 pub mod engine;
 pub mod made_batches;
@@ -30,6 +31,7 @@ pub mod sample_tasks;
 pub mod samples;
 pub mod scripts;
 pub mod surface;
+pub mod tables;
 pub mod tally;
 pub mod tint;
 pub mod transform;

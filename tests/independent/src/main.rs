@@ -10,10 +10,13 @@
 //! independent touched FILE ADDRESS [STRIDE FORMAT X Y]
 //!                                    who drew a byte last, or the first byte of a pixel
 //! independent fault FILE TICKET      why a batch faulted
+//! independent tables                 prints registers, blend modes, faults and refusals, a line each
+//! independent tables manual FILE     prints the same as it stands in docs/REGISTERS.md
+//! independent tables header FILE     and in the header for C
 use independent::picture::{byte_of_words, number, Rectangle};
 use independent::provenance::Answers;
 use independent::tally::Tally;
-use independent::{play, programs, replay, samples, scripts};
+use independent::{documents, play, programs, replay, samples, scripts, tables};
 use std::io::{Error, Read, Result, Write};
 use std::path::Path;
 use std::process::ExitCode;
@@ -61,6 +64,10 @@ fn fault(file: &String, ticket: &str) -> Result<()> {
     Ok(())
 }
 
+fn print_lines(lines: &[String]) -> Result<()> {
+    lines.iter().try_for_each(|line| writeln!(std::io::stdout(), "{line}"))
+}
+
 fn done(words: &[String]) -> Result<()> {
     let plain: Vec<&str> = words.iter().map(String::as_str).collect();
     match plain.as_slice() {
@@ -70,9 +77,12 @@ fn done(words: &[String]) -> Result<()> {
         ["touched", _, ..] => touched(&words[1], &words[2..]),
         ["fault", _, ticket] => fault(&words[1], ticket),
         ["samples", dir] => samples::write(Path::new(dir)),
+        ["tables"] => print_lines(&tables::lines()),
+        ["tables", "manual", file] => print_lines(&documents::manual(&std::fs::read_to_string(file)?)),
+        ["tables", "header", file] => print_lines(&documents::header(&std::fs::read_to_string(file)?)),
         ["all", dir] => programs::write(Path::new(dir)),
         _ => Err(Error::other(
-            "usage: all DIR | samples DIR | --count COUNT SEED | replay [FILE] | picture FILE .. | touched FILE .. | fault FILE TICKET",
+            "usage: all DIR | samples DIR | --count COUNT SEED | replay [FILE] | picture FILE .. | touched FILE .. | fault FILE TICKET | tables ..",
         )),
     }
 }

@@ -38,6 +38,11 @@ pub fn offsets() -> Vec<u32> {
     all
 }
 
+/// The bits that may be set in the register at an offset; none where there is no register.
+pub fn allowed_bits(offset: u32) -> u32 {
+    TABLE.iter().find(|row| row.offsets.contains(&offset)).map_or(0, |row| row.bits)
+}
+
 fn is_allowed(code: Code, word: u32) -> bool {
     match code {
         Code::AlphaMode => word >> 22 & 3 <= 2,

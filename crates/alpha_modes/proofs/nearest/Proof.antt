@@ -1,4 +1,4 @@
-use Rattle.pixel.specs.Alpha.{near}
+use Rattle.pixel.specs.Alpha.{div255}
 use borrow.Author.Needs.{needs}
 use Rattle.alpha_modes.proofs.nearest.Statement.{statement}
 use Rattle.alpha_modes.proofs.nearest.Tie as tie
@@ -13,7 +13,7 @@ add-result c = search needs
 
 -- src/alpha.rt:36:1
 returns : tie.Need-returns
-unfolding near
+unfolding div255
 returns c = search needs
 
 pub nearest-spec : {M : Type 1} → statement M

@@ -2,7 +2,7 @@ use mathlib.Core.List.{List}
 use mathlib.Core.Path.{_≡_, sym, ap, _∙_}
 use Prim.Native.Nat.{ℕ}
 use denote.Ref.{now}
-use Rattle.engine.specs.Run.{runOf, runMemory}
+use Rattle.engine.specs.Run.{runResult, runMemory}
 use borrow.Author.Needs.{needs}
 use Rattle.both.proofs.run_both.Statement.{statement}
 use Rattle.both.proofs.run_both.Tie as tie
@@ -26,7 +26,7 @@ returns c =
     let a = c .before .before .before .before .before .before .before .before .before .before .before .args in
     λ e.
     record {
-      answers = f .ensures .0 ∙ (ap (λ (m : List ℕ). runOf (a .engine) (now (a .ring)) m) e ∙ sym (s .ensures .0));
+      answers = f .ensures .0 ∙ (ap (λ (m : List ℕ). runResult (a .engine) (now (a .ring)) m) e ∙ sym (s .ensures .0));
       memory = f .ensures .1 ∙ (ap (λ (m : List ℕ). runMemory (a .engine) (now (a .ring)) m) e ∙ sym (s .ensures .1));
     }
 

@@ -1,5 +1,5 @@
 use Rattle.pixel.specs.declared.format.Format.the-variants.{Argb8888, Rgb565}
-use Rattle.surface.specs.Drawn.{loaded}
+use Rattle.surface.specs.Drawn.{loadPixel}
 use Rattle.lanes.specs.Lanes.{Done}
 use Rattle.lanes.proofs.Passes.{none-done}
 use Rattle.composite.proofs.Colours.{Row}
@@ -14,7 +14,7 @@ use Rattle.convert.proofs.from_565.Statement.{statement}
 use Rattle.convert.proofs.from_565.Tie as tie
 
 abbrev Inv-loop : tie.InvT-loop
-Inv-loop d₀ s width x₀ d x = ((x ≤ width) × (length d ≡ length d₀)) × Done (pixelByte Argb8888 (λ k. loaded Rgb565 s (k * 2))) d₀ d 0 (x * 4)
+Inv-loop d₀ s width x₀ d x = ((x ≤ width) × (length d ≡ length d₀)) × Done (pixelByte Argb8888 (λ k. loadPixel Rgb565 s (k * 2))) d₀ d 0 (x * 4)
 
 abbrev μ-loop : tie.MeasureT-loop
 μ-loop d₀ s width x₀ d x = width - x
@@ -80,7 +80,7 @@ loop-again c =
     let in-s : Row (a .args .s .now) = λ j. omega (arith, c .before .before .before .before .before .before .before .before .before .before .before .before .before .shared-slice-known .given j) in
     let in-e : Row (c .before .before .put22 .last .0) = λ j. omega (arith, c .slice-known3 .given j) in (
       search needs,
-      four-more (λ k. loaded Rgb565 (a .args .s .now) (k * 2)) (a .args .d .now) (b .loop .d) (c .before .before .put22 .last .0) (b .loop .x)
+      four-more (λ k. loadPixel Rgb565 (a .args .s .now) (k * 2)) (a .args .d .now) (b .loop .d) (c .before .before .put22 .last .0) (b .loop .x)
           (widen-is (a .args .s .now) (c .before .before .before .before .before .before .before .put2 .last .0) (c .before .before .put22 .last .0) (b .loop .x) v in-s (omega arith) (c .before .before .before .before .before .before .before .before .before .before .get2 .ensures) (search needs)
           (p .0 ∙ ap (λ (n : ℕ). n % 256) l) (p .1 .0 ∙ ap (λ (n : ℕ). n / 256) l) (q .0 ∙ ap (λ (n : ℕ). n % 256) h) (q .1 .0 ∙ ap (λ (n : ℕ). n / 256) h) (q .1 .1 .0) in-e)
           (λ j u. q .1 .1 .0 j (omega arith) ∙ p .1 .1 .0 j u) (λ j u. q .1 .1 .1 j (omega arith) ∙ p .1 .1 .1 j (omega arith)) (b .loop .inv .1),

@@ -1,5 +1,5 @@
 use Rattle.pixel.specs.declared.format.Format.the-variants.{Argb8888, Rgb888}
-use Rattle.surface.specs.Drawn.{loaded}
+use Rattle.surface.specs.Drawn.{loadPixel}
 use Rattle.lanes.specs.Lanes.{Done}
 use Rattle.lanes.proofs.Passes.{none-done}
 use Rattle.composite.proofs.Colours.{Row}
@@ -14,7 +14,7 @@ use Rattle.convert.proofs.from_888.Statement.{statement}
 use Rattle.convert.proofs.from_888.Tie as tie
 
 abbrev Inv-loop : tie.InvT-loop
-Inv-loop d₀ s width x₀ d x = ((x ≤ width) × (length d ≡ length d₀)) × Done (pixelByte Argb8888 (λ k. loaded Rgb888 s (k * 3))) d₀ d 0 (x * 4)
+Inv-loop d₀ s width x₀ d x = ((x ≤ width) × (length d ≡ length d₀)) × Done (pixelByte Argb8888 (λ k. loadPixel Rgb888 s (k * 3))) d₀ d 0 (x * 4)
 
 abbrev μ-loop : tie.MeasureT-loop
 μ-loop d₀ s width x₀ d x = width - x

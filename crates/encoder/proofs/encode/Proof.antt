@@ -7,7 +7,7 @@ use borrow.Author.Needs.{needs}
 use Rattle.word.specs.Word.{wordsBytes}
 use Rattle.word.specs.Splice.{spliced}
 use Rattle.encoder.specs.Fields.{allowed}
-use Rattle.encoder.specs.Words.{wordsOf}
+use Rattle.encoder.specs.Words.{taskWords}
 use Rattle.encoder.proofs.Written.{forbidden, short, fitting}
 use Rattle.encoder.proofs.encode.Statement.{statement}
 use Rattle.encoder.proofs.encode.Tie as tie
@@ -52,7 +52,7 @@ returns-3 c =
     let done = fitting (s .args .fields) (s .args .buffer .now) (yes (e .before)) (e .if2 .left) in (
       done .0,
       c .before .before .write-le-words .ensures
-          ∙ ap (λ (l : List ℕ). spliced 0 (wordsBytes l) (s .args .buffer .now)) (c .before .before .before .before .before .words-of .ensures ∙ ap wordsOf (c .before .before .before .before .before .before .registers .ensures))
+          ∙ ap (λ (l : List ℕ). spliced 0 (wordsBytes l) (s .args .buffer .now)) (c .before .before .before .before .before .words-of .ensures ∙ ap taskWords (c .before .before .before .before .before .before .registers .ensures))
           ∙ done .1,
     )
 

@@ -1,10 +1,10 @@
 use mathlib.Core.Path.{refl}
-use Rattle.encoder.specs.Words.{wordsOf}
+use Rattle.encoder.specs.Words.{taskWords}
 use Rattle.encoder.proofs.words_of.Statement.{statement}
 use Rattle.encoder.proofs.words_of.Tie as tie
 
 returns : tie.Need-returns
-unfolding wordsOf
+unfolding taskWords
 returns c = refl
 
 pub words-of-spec : {M : Type 1} → statement M

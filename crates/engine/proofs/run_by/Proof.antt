@@ -16,14 +16,14 @@ allowed : (c : tie.Else1) → RunAllowed (c .before .before .before .before .arg
 allowed c = let a = c .before .before .before .before .args in run-allowed (a .engine) (length (now (a .ring))) (length (now (a .memory))) (sym (c .before .run-refusal .ensures) ∙ c .if1 .left)
 
 -- the slot is one of the eight
-slot : (c : tie.After-oldest-place) → c .oldest-place .result < 8
+slot : (c : tie.After-oldest-slot) → c .oldest-slot .result < 8
 slot c =
     let a = allowed (c .before .before) in
-    omega (arith, slot-below (c .before .before .before .before .before .before .args .engine) (a .ok) (a .some) (c .oldest-place .ensures .1), c .oldest-place .ensures .0)
+    omega (arith, slot-below (c .before .before .before .before .before .before .args .engine) (a .ok) (a .some) (c .oldest-slot .ensures .1), c .oldest-slot .ensures .0)
 
 -- its batch is the oldest
 taken : (c : tie.After-batch-of) → c .batch-of .result ≡ oldest (c .before .before .before .before .before .before .before .before .args .engine)
-taken c = c .batch-of .ensures ∙ rw (c .before .before .oldest-place .ensures .0)
+taken c = c .batch-of .ensures ∙ rw (c .before .before .oldest-slot .ensures .0)
 
 run-refusal-requires : tie.Need-run-refusal-requires
 run-refusal-requires c κs = search needs
@@ -33,8 +33,8 @@ returns c =
     let a = c .before .before .before .before .args in
     run-refused (a .engine) (now (a .ring)) (now (a .memory)) (c .before .run-refusal .result) (c .before .run-refusal .ensures) (c .if1 .taken)
 
-oldest-place-requires : tie.Need-oldest-place-requires
-oldest-place-requires c κs = search needs
+oldest-slot-requires : tie.Need-oldest-slot-requires
+oldest-slot-requires c κs = search needs
 
 mul-batch-of : tie.Need-mul-batch-of
 mul-batch-of c = let h = slot c in omega arith
@@ -65,7 +65,7 @@ run-batch-requires c κs =
 without-oldest-requires : tie.Need-without-oldest-requires
 without-oldest-requires c κs =
     let b = c .before .before .before .before .before .before in
-    let o = b .before .before .oldest-place in
+    let o = b .before .before .oldest-slot in
     let a = allowed (b .before .before .before .before) in
     (a .ok, a .some, c .before .before .before .before .before .bounds-for .ensures .1, o .ensures .1, o .ensures .0, taken b)
 
@@ -90,7 +90,7 @@ run-by-spec =
     (tie.spec
     run-refusal-requires
     returns
-    oldest-place-requires
+    oldest-slot-requires
     mul-batch-of
     array-copy-out-batch-of
     batch-of-requires

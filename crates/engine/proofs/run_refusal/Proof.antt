@@ -1,4 +1,4 @@
-use Rattle.queue.specs.Refusals.{firstOf}
+use Rattle.queue.specs.Refusals.{firstRefusal}
 use borrow.Author.Needs.{needs}
 use Rattle.engine.proofs.run_refusal.Statement.{statement}
 use Rattle.engine.proofs.run_refusal.Tie as tie
@@ -6,29 +6,29 @@ use Rattle.engine.proofs.run_refusal.Tie as tie
 taken-slots-requires : tie.Need-taken-slots-requires
 taken-slots-requires c κs = search needs
 
-first-of-requires : tie.Need-first-of-requires
-first-of-requires c κs = search needs
+first-refusal-requires : tie.Need-first-refusal-requires
+first-refusal-requires c κs = search needs
 
-first-of-requires-2 : tie.Need-first-of-requires-2
-first-of-requires-2 c κs = search needs
+first-refusal-requires-2 : tie.Need-first-refusal-requires-2
+first-refusal-requires-2 c κs = search needs
 
 is-valid-requires : tie.Need-is-valid-requires
 is-valid-requires c κs = search needs
 
-first-of-requires-3 : tie.Need-first-of-requires-3
-first-of-requires-3 c κs = search needs
+first-refusal-requires-3 : tie.Need-first-refusal-requires-3
+first-refusal-requires-3 c κs = search needs
 
 returns : tie.Need-returns
-unfolding firstOf
-returns c = rw (c .first-of3 .ensures, c .before .is-valid .ensures, c .before .before .first-of2 .ensures, c .before .before .before .first-of .ensures, c .before .before .before .before .taken-slots .ensures .0)
+unfolding firstRefusal
+returns c = rw (c .first-refusal3 .ensures, c .before .is-valid .ensures, c .before .before .first-refusal2 .ensures, c .before .before .before .first-refusal .ensures, c .before .before .before .before .taken-slots .ensures .0)
 
 pub run-refusal-spec : {M : Type 1} → statement M
 run-refusal-spec =
     tie.close
     (tie.spec
     taken-slots-requires
-    first-of-requires
-    first-of-requires-2
+    first-refusal-requires
+    first-refusal-requires-2
     is-valid-requires
-    first-of-requires-3
+    first-refusal-requires-3
     returns)

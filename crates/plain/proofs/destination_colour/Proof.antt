@@ -1,6 +1,6 @@
 use mathlib.Core.Path.{ap, _∙_}
 use denote.Ref.{now}
-use Rattle.surface.specs.Drawn.{loaded}
+use Rattle.surface.specs.Drawn.{loadPixel}
 use Rattle.rows.specs.Row.{colourAt}
 use Rattle.raster.specs.Task.{destinationColour}
 use Rattle.plain.proofs.Inside.{destination-read}
@@ -21,7 +21,7 @@ returns : tie.Need-returns
 unfolding destinationColour colourAt
 returns c =
     let a = c .before .before .before .before .args in
-    c .load .ensures ∙ ap (loaded (a .destination .surface .format) (now (a .memory))) (c .before .pixel-start .ensures)
+    c .load .ensures ∙ ap (loadPixel (a .destination .surface .format) (now (a .memory))) (c .before .pixel-start .ensures)
 
 pub destination-colour-spec : {M : Type 1} → statement M
 destination-colour-spec = tie.close (tie.spec pixel-start-requires load-requires returns)

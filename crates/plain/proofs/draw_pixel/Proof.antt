@@ -1,6 +1,6 @@
 use mathlib.Core.Path.{ap₂, _∙_}
 use denote.Ref.{now}
-use Rattle.surface.specs.Drawn.{stored}
+use Rattle.surface.specs.Drawn.{storePixel}
 use Rattle.plain.proofs.Inside.{output-inside}
 use borrow.Author.Needs.{needs}
 use Rattle.plain.proofs.draw_pixel.Statement.{statement}
@@ -25,7 +25,7 @@ returns : tie.Need-returns
 returns c =
     let p = c .before .before .before in
     let a = p .before .before .before .before .before .before .args in
-    c .before .before .store .ensures ∙ ap₂ (stored (a .task .output .format) (now (a .memory))) (p .pixel-start .ensures) (p .before .before .pixel-colour .ensures)
+    c .before .before .store .ensures ∙ ap₂ (storePixel (a .task .output .format) (now (a .memory))) (p .pixel-start .ensures) (p .before .before .pixel-colour .ensures)
 
 pub draw-pixel-spec : {M : Type 1} → statement M
 draw-pixel-spec =

@@ -1,6 +1,6 @@
 use mathlib.Core.Path.{sym, ap₂, _∙_}
 use denote.Ref.{now}
-use Rattle.rows.specs.Mixed.{mixed}
+use Rattle.rows.specs.Mixed.{composite}
 use Rattle.raster.proofs.Pixel.{pixel-blended, pixel-plain}
 use Rattle.plain.proofs.Inside.{source-pixel, destination-pixel}
 use borrow.Author.Needs.{needs}
@@ -24,7 +24,7 @@ returns c =
     let t = c .before .before in
     let a = t .before .before .before .before .before .args in
     c .mix .ensures
-    ∙ (ap₂ (mixed (a .task .blending) (a .task .source .alpha) (a .task .destination .alpha)) (t .before .source-colour .ensures) (c .before .destination-colour .ensures)
+    ∙ (ap₂ (composite (a .task .blending) (a .task .source .alpha) (a .task .destination .alpha)) (t .before .source-colour .ensures) (c .before .destination-colour .ensures)
     ∙ sym (pixel-blended (a .task) (now (a .memory)) (a .x) (a .y) (t .if1 .taken)))
 
 returns-2 : tie.Need-returns-2

@@ -1,10 +1,10 @@
 use mathlib.Core.Path.{sym, ap, _∙_}
 use denote.Ref.{now}
-use Rattle.surface.specs.Drawn.{loaded}
+use Rattle.surface.specs.Drawn.{loadPixel}
 use Rattle.register.specs.Task.{isBuffer}
 use Rattle.register.specs.declared.task.SourceMode.{SourceMode}
-use Rattle.rows.specs.Row.{colourAt, originOf}
-use Rattle.raster.specs.Task.{colourBy, sourceColour}
+use Rattle.rows.specs.Row.{colourAt, sourcePixelOf}
+use Rattle.raster.specs.Task.{sourceModeColour, sourceColour}
 use Rattle.plain.proofs.Inside.{source-read}
 use borrow.Author.Needs.{needs}
 use Rattle.plain.proofs.source_colour.Statement.{statement}
@@ -31,14 +31,14 @@ returns c =
     let o = c .before in
     let a = o .before .before .before .before .before .args in
     c .load .ensures
-    ∙ (ap (loaded (a .source .surface .format) (now (a .memory))) (o .origin .ensures)
-    ∙ sym (ap (λ (m : SourceMode). colourBy m (a .source) (now (a .memory)) (originOf (a .source .surface) (a .source .transform) (a .x) (a .y))) (o .before .before .enum-told .given .1)))
+    ∙ (ap (loadPixel (a .source .surface .format) (now (a .memory))) (o .origin .ensures)
+    ∙ sym (ap (λ (m : SourceMode). sourceModeColour m (a .source) (now (a .memory)) (sourcePixelOf (a .source .surface) (a .source .transform) (a .x) (a .y))) (o .before .before .enum-told .given .1)))
 
 returns-2 : tie.Need-returns-2
 unfolding sourceColour
 returns-2 c =
     let a = c .before .before .before .before .args in
-    sym (ap (λ (m : SourceMode). colourBy m (a .source) (now (a .memory)) (originOf (a .source .surface) (a .source .transform) (a .x) (a .y))) (c .before .enum-told2 .given .1))
+    sym (ap (λ (m : SourceMode). sourceModeColour m (a .source) (now (a .memory)) (sourcePixelOf (a .source .surface) (a .source .transform) (a .x) (a .y))) (c .before .enum-told2 .given .1))
 
 pub source-colour-spec : {M : Type 1} → statement M
 source-colour-spec =

@@ -1,10 +1,10 @@
 use mathlib.Core.Path.{refl}
-use Rattle.queue.specs.Calls.{fresh}
+use Rattle.queue.specs.Calls.{initialRecord}
 use Rattle.queue.proofs.fresh_record.Statement.{statement}
 use Rattle.queue.proofs.fresh_record.Tie as tie
 
 returns : tie.Need-returns
-unfolding fresh
+unfolding initialRecord
 returns c = refl
 
 pub fresh-record-spec : {M : Type 1} → statement M

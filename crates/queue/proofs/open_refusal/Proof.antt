@@ -4,7 +4,7 @@ use borrow.Author.Tests.{not-true, not-false}
 use Rattle.record.specs.Rules.{valid}
 use Rattle.record.proofs.Rules.{valid-facts}
 use Rattle.queue.proofs.Refusals.{eleven}
-use Rattle.queue.specs.Refusals.{firstOf}
+use Rattle.queue.specs.Refusals.{firstRefusal}
 use borrow.Author.Needs.{needs}
 use Rattle.queue.proofs.open_refusal.Statement.{statement}
 use Rattle.queue.proofs.open_refusal.Tie as tie
@@ -21,15 +21,15 @@ returns c = eleven _ (valid (c .before .before .args .engine)) (sym (c .before .
 bad-window-requires : tie.Need-bad-window-requires
 bad-window-requires c κs = valid-facts (c .before .before .before .before .args .engine) (right (c .before .before)) .numbers .clients
 
-first-of-requires : tie.Need-first-of-requires
-first-of-requires c κs = search needs
+first-refusal-requires : tie.Need-first-refusal-requires
+first-refusal-requires c κs = search needs
 
-first-of-requires-2 : tie.Need-first-of-requires-2
-first-of-requires-2 c κs = search needs
+first-refusal-requires-2 : tie.Need-first-refusal-requires-2
+first-refusal-requires-2 c κs = search needs
 
 returns-2 : tie.Need-returns-2
-unfolding firstOf
-returns-2 c = rw (right (c .before .before .before .before .before), c .first-of2 .ensures, c .before .first-of .ensures, c .before .before .bad-window .ensures)
+unfolding firstRefusal
+returns-2 c = rw (right (c .before .before .before .before .before), c .first-refusal2 .ensures, c .before .first-refusal .ensures, c .before .before .bad-window .ensures)
 
 pub open-refusal-spec : {M : Type 1} → statement M
 open-refusal-spec =
@@ -38,6 +38,6 @@ open-refusal-spec =
     is-valid-requires
     returns
     bad-window-requires
-    first-of-requires
-    first-of-requires-2
+    first-refusal-requires
+    first-refusal-requires-2
     returns-2)

@@ -1,4 +1,4 @@
-use Rattle.queue.specs.Refusals.{firstOf}
+use Rattle.queue.specs.Refusals.{firstRefusal}
 use borrow.Author.Needs.{needs}
 use Rattle.queue.proofs.pending_refusal.Statement.{statement}
 use Rattle.queue.proofs.pending_refusal.Tie as tie
@@ -6,20 +6,20 @@ use Rattle.queue.proofs.pending_refusal.Tie as tie
 is-open-requires : tie.Need-is-open-requires
 is-open-requires c κs = search needs
 
-first-of-requires : tie.Need-first-of-requires
-first-of-requires c κs = search needs
+first-refusal-requires : tie.Need-first-refusal-requires
+first-refusal-requires c κs = search needs
 
 is-valid-requires : tie.Need-is-valid-requires
 is-valid-requires c κs = search needs
 
-first-of-requires-2 : tie.Need-first-of-requires-2
-first-of-requires-2 c κs = search needs
+first-refusal-requires-2 : tie.Need-first-refusal-requires-2
+first-refusal-requires-2 c κs = search needs
 
 returns : tie.Need-returns
-unfolding firstOf
-returns c = rw (c .first-of2 .ensures, c .before .is-valid .ensures, c .before .before .first-of .ensures, c .before .before .before .is-open .ensures)
+unfolding firstRefusal
+returns c = rw (c .first-refusal2 .ensures, c .before .is-valid .ensures, c .before .before .first-refusal .ensures, c .before .before .before .is-open .ensures)
 
 pub pending-refusal-spec : {M : Type 1} → statement M
 pending-refusal-spec =
     tie.close
-    (tie.spec is-open-requires first-of-requires is-valid-requires first-of-requires-2 returns)
+    (tie.spec is-open-requires first-refusal-requires is-valid-requires first-refusal-requires-2 returns)

@@ -1,4 +1,4 @@
-use Rattle.queue.specs.Refusals.{firstOf}
+use Rattle.queue.specs.Refusals.{firstRefusal}
 use borrow.Author.Needs.{needs}
 use Rattle.queue.proofs.set_up_refusal.Statement.{statement}
 use Rattle.queue.proofs.set_up_refusal.Tie as tie
@@ -6,20 +6,20 @@ use Rattle.queue.proofs.set_up_refusal.Tie as tie
 bad-memory-requires : tie.Need-bad-memory-requires
 bad-memory-requires c κs = search needs
 
-first-of-requires : tie.Need-first-of-requires
-first-of-requires c κs = search needs
+first-refusal-requires : tie.Need-first-refusal-requires
+first-refusal-requires c κs = search needs
 
 bad-ring-requires : tie.Need-bad-ring-requires
 bad-ring-requires c κs = search needs
 
-first-of-requires-2 : tie.Need-first-of-requires-2
-first-of-requires-2 c κs = search needs
+first-refusal-requires-2 : tie.Need-first-refusal-requires-2
+first-refusal-requires-2 c κs = search needs
 
 returns : tie.Need-returns
-unfolding firstOf
-returns c = rw (c .first-of2 .ensures, c .before .bad-ring .ensures, c .before .before .first-of .ensures, c .before .before .before .bad-memory .ensures)
+unfolding firstRefusal
+returns c = rw (c .first-refusal2 .ensures, c .before .bad-ring .ensures, c .before .before .first-refusal .ensures, c .before .before .before .bad-memory .ensures)
 
 pub set-up-refusal-spec : {M : Type 1} → statement M
 set-up-refusal-spec =
     tie.close
-    (tie.spec bad-memory-requires first-of-requires bad-ring-requires first-of-requires-2 returns)
+    (tie.spec bad-memory-requires first-refusal-requires bad-ring-requires first-refusal-requires-2 returns)

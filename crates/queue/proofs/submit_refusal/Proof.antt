@@ -3,7 +3,7 @@ use mathlib.Core.Bool.{true}
 use borrow.Author.Tests.{not-true, not-false}
 use Rattle.record.specs.Rules.{valid}
 use Rattle.queue.proofs.Refusals.{eleven}
-use Rattle.queue.specs.Refusals.{firstOf}
+use Rattle.queue.specs.Refusals.{firstRefusal}
 use borrow.Author.Needs.{needs}
 use Rattle.queue.proofs.submit_refusal.Statement.{statement}
 use Rattle.queue.proofs.submit_refusal.Tie as tie
@@ -23,30 +23,30 @@ taken-slots-requires c κs = search needs
 free-bytes-requires : tie.Need-free-bytes-requires
 free-bytes-requires c κs = (right (c .before .before .before), rw (c .taken-slots .ensures .0) at (c .taken-slots .ensures .1))
 
-first-of-requires : tie.Need-first-of-requires
-first-of-requires c κs = search needs
+first-refusal-requires : tie.Need-first-refusal-requires
+first-refusal-requires c κs = search needs
 
-first-of-requires-2 : tie.Need-first-of-requires-2
-first-of-requires-2 c κs = search needs
+first-refusal-requires-2 : tie.Need-first-refusal-requires-2
+first-refusal-requires-2 c κs = search needs
 
 bad-length-requires : tie.Need-bad-length-requires
 bad-length-requires c κs = search needs
 
-first-of-requires-3 : tie.Need-first-of-requires-3
-first-of-requires-3 c κs = search needs
+first-refusal-requires-3 : tie.Need-first-refusal-requires-3
+first-refusal-requires-3 c κs = search needs
 
 is-open-requires : tie.Need-is-open-requires
 is-open-requires c κs = search needs
 
-first-of-requires-4 : tie.Need-first-of-requires-4
-first-of-requires-4 c κs = search needs
+first-refusal-requires-4 : tie.Need-first-refusal-requires-4
+first-refusal-requires-4 c κs = search needs
 
-first-of-requires-5 : tie.Need-first-of-requires-5
-first-of-requires-5 c κs = search needs
+first-refusal-requires-5 : tie.Need-first-refusal-requires-5
+first-refusal-requires-5 c κs = search needs
 
 returns-2 : tie.Need-returns-2
-unfolding firstOf
-returns-2 c = rw (right (c .before .before .before .before .before .before .before .before .before .before .before), c .first-of5 .ensures, c .before .first-of4 .ensures, c .before .before .is-open .ensures, c .before .before .before .first-of3 .ensures, c .before .before .before .before .bad-length .ensures, c .before .before .before .before .before .first-of2 .ensures, c .before .before .before .before .before .before .first-of .ensures, c .before .before .before .before .before .before .before .free-bytes .ensures, c .before .before .before .before .before .before .before .before .taken-slots .ensures .0)
+unfolding firstRefusal
+returns-2 c = rw (right (c .before .before .before .before .before .before .before .before .before .before .before), c .first-refusal5 .ensures, c .before .first-refusal4 .ensures, c .before .before .is-open .ensures, c .before .before .before .first-refusal3 .ensures, c .before .before .before .before .bad-length .ensures, c .before .before .before .before .before .first-refusal2 .ensures, c .before .before .before .before .before .before .first-refusal .ensures, c .before .before .before .before .before .before .before .free-bytes .ensures, c .before .before .before .before .before .before .before .before .taken-slots .ensures .0)
 
 pub submit-refusal-spec : {M : Type 1} → statement M
 submit-refusal-spec =
@@ -56,11 +56,11 @@ submit-refusal-spec =
     returns
     taken-slots-requires
     free-bytes-requires
-    first-of-requires
-    first-of-requires-2
+    first-refusal-requires
+    first-refusal-requires-2
     bad-length-requires
-    first-of-requires-3
+    first-refusal-requires-3
     is-open-requires
-    first-of-requires-4
-    first-of-requires-5
+    first-refusal-requires-4
+    first-refusal-requires-5
     returns-2)

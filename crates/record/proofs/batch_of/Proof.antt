@@ -1,5 +1,5 @@
 use mathlib.Core.Path.{ap, sym}
-use Rattle.record.specs.Tickets.{stateBatch}
+use Rattle.record.specs.Tickets.{batchInState}
 use borrow.Author.Needs.{needs}
 use Rattle.record.proofs.batch_of.Statement.{statement}
 use Rattle.record.proofs.batch_of.Tie as tie
@@ -11,7 +11,7 @@ enum-known-state : tie.Need-enum-known-state
 enum-known-state c = search needs
 
 returns : tie.Need-returns
-returns c = ap stateBatch (sym (c .enum-told .given .1))
+returns c = ap batchInState (sym (c .enum-told .given .1))
 
 returns-2 : tie.Need-returns-2
 returns-2 c = search needs

@@ -8,34 +8,34 @@ use Rattle.record.proofs.is_valid.Statement.{statement}
 use Rattle.record.proofs.is_valid.Tie as tie
 
 right : (c : tie.Else1) → numberRules (c .before .before .args .engine) ≡ true
-right c = sym (c .before .numbers-right .ensures) ∙ not-false _ (c .if1 .left)
+right c = sym (c .before .numbers-valid .ensures) ∙ not-false _ (c .if1 .left)
 
-numbers-right-requires : tie.Need-numbers-right-requires
-numbers-right-requires c κs = search needs
+numbers-valid-requires : tie.Need-numbers-valid-requires
+numbers-valid-requires c κs = search needs
 
 returns : tie.Need-returns
-returns c = valid-not (c .before .before .args .engine) (sym (c .before .numbers-right .ensures) ∙ not-true _ (c .if1 .taken))
+returns c = valid-not (c .before .before .args .engine) (sym (c .before .numbers-valid .ensures) ∙ not-true _ (c .if1 .taken))
 
-none-bad-requires : tie.Need-none-bad-requires
-none-bad-requires c κs = numbers (c .before .before .before .before .before .args .engine) (right (c .before .before .before)) .clients
+windows-valid-requires : tie.Need-windows-valid-requires
+windows-valid-requires c κs = numbers (c .before .before .before .before .before .args .engine) (right (c .before .before .before)) .clients
 
-line-up-requires : tie.Need-line-up-requires
-line-up-requires c κs = let n = numbers (c .before .before .before .before .before .before .args .engine) (right (c .before .before .before .before)) in
+batches-valid-requires : tie.Need-batches-valid-requires
+batches-valid-requires c κs = let n = numbers (c .before .before .before .before .before .before .args .engine) (right (c .before .before .before .before)) in
     (n .ring .small, n .below)
 
-counts-right-requires : tie.Need-counts-right-requires
-counts-right-requires c κs = numbers (c .before .before .before .before .before .before .before .args .engine) (right (c .before .before .before .before .before)) .clients
+pending-counts-match-requires : tie.Need-pending-counts-match-requires
+pending-counts-match-requires c κs = numbers (c .before .before .before .before .before .before .before .args .engine) (right (c .before .before .before .before .before)) .clients
 
 returns-2 : tie.Need-returns-2
-returns-2 c = rw (c .counts-right .ensures, c .before .line-up .ensures, c .before .before .none-bad .ensures) (valid-rest (c .before .before .before .before .before .before .before .before .args .engine) (right (c .before .before .before .before .before .before)))
+returns-2 c = rw (c .pending-counts-match .ensures, c .before .batches-valid .ensures, c .before .before .windows-valid .ensures) (valid-rest (c .before .before .before .before .before .before .before .before .args .engine) (right (c .before .before .before .before .before .before)))
 
 pub is-valid-spec : {M : Type 1} → statement M
 is-valid-spec =
     tie.close
     (tie.spec
-    numbers-right-requires
+    numbers-valid-requires
     returns
-    none-bad-requires
-    line-up-requires
-    counts-right-requires
+    windows-valid-requires
+    batches-valid-requires
+    pending-counts-match-requires
     returns-2)

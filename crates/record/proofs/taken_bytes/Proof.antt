@@ -3,13 +3,13 @@ use Prim.Native.Nat.{ℕ, _+_, _-_, _≤_, _<_}
 use lib.ListN.{length, drop}
 use native.Mathlib.Omega.{arith}
 use borrow.Author.Needs.{needs}
-use Rattle.record.specs.Slots.{ready, total}
+use Rattle.record.specs.Slots.{readyBatches, totalLength}
 use Rattle.record.proofs.Slots.{sum-step, sum-end}
 use Rattle.record.proofs.taken_bytes.Statement.{statement}
 use Rattle.record.proofs.taken_bytes.Tie as tie
 
 abbrev Inv-loop : tie.InvT-loop
-Inv-loop slots n₀ i₀ n i = (i ≤ 8) × (n + total (ready (drop i slots)) ≡ total (ready slots))
+Inv-loop slots n₀ i₀ n i = (i ≤ 8) × (n + totalLength (readyBatches (drop i slots)) ≡ totalLength (readyBatches slots))
 
 abbrev μ-loop : tie.MeasureT-loop
 μ-loop slots n₀ i₀ n i = 8 - i
@@ -17,20 +17,20 @@ abbrev μ-loop : tie.MeasureT-loop
 loop-holds : tie.Need-loop-holds Inv-loop μ-loop
 loop-holds c = omega arith
 
-mul-bytes-one : tie.Need-mul-bytes-one Inv-loop μ-loop
-mul-bytes-one c = omega arith
+mul-bytes-in-slot : tie.Need-mul-bytes-in-slot Inv-loop μ-loop
+mul-bytes-in-slot c = omega arith
 
-array-copy-out-bytes-one : tie.Need-array-copy-out-bytes-one Inv-loop μ-loop
-array-copy-out-bytes-one c = omega arith
+array-copy-out-bytes-in-slot : tie.Need-array-copy-out-bytes-in-slot Inv-loop μ-loop
+array-copy-out-bytes-in-slot c = omega arith
 
-bytes-one-requires : tie.Need-bytes-one-requires Inv-loop μ-loop
-bytes-one-requires c κs = search needs
+bytes-in-slot-requires : tie.Need-bytes-in-slot-requires Inv-loop μ-loop
+bytes-in-slot-requires c κs = search needs
 
 add-n : tie.Need-add-n Inv-loop μ-loop
 add-n c = let st = c .before .before .before .before in
     let i : ℕ = c .before .before .before .loop .i in
     let h : i < length (st .args .t1) = omega (arith, st .good .0 .1 .0 .1) in
-    omega (arith, sum-step (st .args .t1) i h (λ b. b .length), c .bytes-one .ensures)
+    omega (arith, sum-step (st .args .t1) i h (λ b. b .length), c .bytes-in-slot .ensures)
 
 add-i : tie.Need-add-i Inv-loop μ-loop
 add-i c = omega arith
@@ -42,7 +42,7 @@ loop-again : tie.Need-loop-again Inv-loop μ-loop
 loop-again c = let st = c .before .before .before .before in
     let i : ℕ = c .before .before .before .loop .i in
     let h : i < length (st .args .t1) = omega (arith, st .good .0 .1 .0 .1) in
-    (omega arith, omega (arith, sum-step (st .args .t1) i h (λ b. b .length), c .bytes-one .ensures))
+    (omega arith, omega (arith, sum-step (st .args .t1) i h (λ b. b .length), c .bytes-in-slot .ensures))
 
 returns : tie.Need-returns Inv-loop μ-loop
 returns c = let g = c .before .before .good .0 .1 .0 .1 in
@@ -56,9 +56,9 @@ taken-bytes-spec =
     Inv-loop
     μ-loop
     loop-holds
-    mul-bytes-one
-    array-copy-out-bytes-one
-    bytes-one-requires
+    mul-bytes-in-slot
+    array-copy-out-bytes-in-slot
+    bytes-in-slot-requires
     add-n
     add-i
     loop-less

@@ -3,13 +3,13 @@ use Prim.Native.Nat.{ℕ, _+_, _-_, _≤_, _<_}
 use lib.ListN.{length, drop}
 use native.Mathlib.Omega.{arith}
 use borrow.Author.Needs.{needs}
-use Rattle.record.specs.Slots.{ready}
+use Rattle.record.specs.Slots.{readyBatches}
 use Rattle.record.proofs.Slots.{count-step, count-end}
 use Rattle.record.proofs.taken_slots.Statement.{statement}
 use Rattle.record.proofs.taken_slots.Tie as tie
 
 abbrev Inv-loop : tie.InvT-loop
-Inv-loop slots n₀ i₀ n i = (i ≤ 8) × (n ≤ i) × (n + length (ready (drop i slots)) ≡ length (ready slots))
+Inv-loop slots n₀ i₀ n i = (i ≤ 8) × (n ≤ i) × (n + length (readyBatches (drop i slots)) ≡ length (readyBatches slots))
 
 abbrev μ-loop : tie.MeasureT-loop
 μ-loop slots n₀ i₀ n i = 8 - i
@@ -17,17 +17,17 @@ abbrev μ-loop : tie.MeasureT-loop
 loop-holds : tie.Need-loop-holds Inv-loop μ-loop
 loop-holds c = omega arith
 
-mul-ready-one : tie.Need-mul-ready-one Inv-loop μ-loop
-mul-ready-one c = omega arith
+mul-ready-in-slot : tie.Need-mul-ready-in-slot Inv-loop μ-loop
+mul-ready-in-slot c = omega arith
 
-array-copy-out-ready-one : tie.Need-array-copy-out-ready-one Inv-loop μ-loop
-array-copy-out-ready-one c = omega arith
+array-copy-out-ready-in-slot : tie.Need-array-copy-out-ready-in-slot Inv-loop μ-loop
+array-copy-out-ready-in-slot c = omega arith
 
-ready-one-requires : tie.Need-ready-one-requires Inv-loop μ-loop
-ready-one-requires c κs = search needs
+ready-in-slot-requires : tie.Need-ready-in-slot-requires Inv-loop μ-loop
+ready-in-slot-requires c κs = search needs
 
 add-n : tie.Need-add-n Inv-loop μ-loop
-add-n c = omega (arith, c .ready-one .ensures .1)
+add-n c = omega (arith, c .ready-in-slot .ensures .1)
 
 add-i : tie.Need-add-i Inv-loop μ-loop
 add-i c = omega arith
@@ -39,7 +39,7 @@ loop-again : tie.Need-loop-again Inv-loop μ-loop
 loop-again c = let st = c .before .before .before .before in
     let i : ℕ = c .before .before .before .loop .i in
     let h : i < length (st .args .t1) = omega (arith, st .good .0 .1 .0 .1) in
-    (omega arith, omega (arith, c .ready-one .ensures .1), omega (arith, count-step (st .args .t1) i h, c .ready-one .ensures .0))
+    (omega arith, omega (arith, c .ready-in-slot .ensures .1), omega (arith, count-step (st .args .t1) i h, c .ready-in-slot .ensures .0))
 
 returns : tie.Need-returns Inv-loop μ-loop
 returns c = let g = c .before .before .good .0 .1 .0 .1 in
@@ -53,9 +53,9 @@ taken-slots-spec =
     Inv-loop
     μ-loop
     loop-holds
-    mul-ready-one
-    array-copy-out-ready-one
-    ready-one-requires
+    mul-ready-in-slot
+    array-copy-out-ready-in-slot
+    ready-in-slot-requires
     add-n
     add-i
     loop-less

@@ -1,5 +1,5 @@
 use mathlib.Core.Path.{ap, _∙_}
-use Rattle.batch.specs.Batch.{statusOf, numberOf, offsetOf}
+use Rattle.batch.specs.Batch.{statusWordOf, faultNumberOf, faultOffsetOf}
 use Rattle.text.specs.Hex.{hexWord}
 use Rattle.replay.proofs.Printing.{hex-rest, completion-prints}
 use borrow.Author.Needs.{needs}
@@ -50,8 +50,8 @@ returns c =
     let ticket = c .before .before .before .before .before .before .before .before .before .before .before .before .before .before .before .before .before .before .before .before .before .before .before .before .before .field .ensures in
     let fault = c .before .before .before .before .before .before .before .before .before .before .before .field2 .ensures in
     let offset = c .before .before .before .before .before .before .field3 .ensures in
-    completion-prints _ _ _ (s .pre) (s .args .client) (s .args .ticket) (record { status = statusOf v; fault = numberOf v; offset = offsetOf v }) _ _ _ _ _ _ _ _ _
-    (client .1) (ticket .1) (fault .1) (offset .1) (ap hexWord (c .before .before .before .before .before .before .before .before .before .before .before .before .before .before .before .before .before .status .ensures) ∙ hex-rest (statusOf v)) (c .before .before .before .before .before .before .before .before .before .before .before .before .number .ensures) (c .before .before .before .before .before .before .before .offset .ensures)
+    completion-prints _ _ _ (s .pre) (s .args .client) (s .args .ticket) (record { status = statusWordOf v; fault = faultNumberOf v; offset = faultOffsetOf v }) _ _ _ _ _ _ _ _ _
+    (client .1) (ticket .1) (fault .1) (offset .1) (ap hexWord (c .before .before .before .before .before .before .before .before .before .before .before .before .before .before .before .before .before .status .ensures) ∙ hex-rest (statusWordOf v)) (c .before .before .before .before .before .before .before .before .before .before .before .before .number .ensures) (c .before .before .before .before .before .before .before .offset .ensures)
     (client .0) (ticket .0) (c .before .before .before .before .before .before .before .before .before .before .before .before .before .before .before .before .before .before .before .before .before .push .ensures) (c .before .before .before .before .before .before .before .before .before .before .before .before .before .before .before .before .hex-word .ensures) (fault .0) (offset .0) (c .before .before .push2 .ensures)
 
 pub completion-line-spec : {M : Type 1} → statement M

@@ -1,4 +1,4 @@
-use Rattle.claims.specs.Engine.{told}
+use Rattle.claims.specs.Engine.{answerOrRefusal}
 use Rattle.replay.specs.Lines.{answerLine}
 use Rattle.replay.proofs.Serving.{outcome-refused}
 use borrow.Author.Needs.{needs}
@@ -30,7 +30,7 @@ same-length-2 : tie.Need-same-length-2
 same-length-2 c = search needs
 
 returns-2 : tie.Need-returns-2
-unfolding told answerLine
+unfolding answerOrRefusal answerLine
 returns-2 c = rw (c .before .before .before .before .before .outcome2 .given .1) (c .before .before .completion-line .ensures)
 
 pub outcome-line-spec : {M : Type 1} → statement M

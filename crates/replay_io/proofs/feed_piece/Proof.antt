@@ -5,7 +5,7 @@ use Prim.Native.Nat.{_-_, _≤_}
 use native.Mathlib.Omega.{arith}
 use lib.ListN.{length}
 use Rattle.replay.specs.Calls.{positionOf}
-use Rattle.replay_io.specs.Reached.{Reaches, here}
+use Rattle.replay_io.specs.Reached.{Reachable, here}
 use Rattle.replay_io.proofs.Reaching.{gathers-reach}
 use borrow.Author.Needs.{needs}
 use Rattle.replay_io.proofs.feed_piece.Statement.{statement}
@@ -14,7 +14,7 @@ use Rattle.replay_io.proofs.feed_piece.Tie as tie
 abbrev Inv-loop : tie.InvT-loop
 Inv-loop held₀ ring₀ memory₀ piece shows slow out₀ now₀ used₀ well₀ held ring memory out now used well =
     (used ≤ length piece) × (65536 ≡ length out) × (length held ≡ length held₀) × (length ring ≡ length ring₀) × (length memory ≡ length memory₀)
-    × Reaches (positionOf now₀ held₀ ring₀ memory₀) (positionOf now held ring memory)
+    × Reachable (positionOf now₀ held₀ ring₀ memory₀) (positionOf now held ring memory)
 
 abbrev μ-loop : tie.MeasureT-loop
 μ-loop held₀ ring₀ memory₀ piece shows slow out₀ now₀ used₀ well₀ held ring memory out now used well = length piece - used

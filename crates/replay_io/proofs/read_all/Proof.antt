@@ -2,10 +2,10 @@ use mathlib.Core.Path.{_≡_}
 use mathlib.Core.List.{[]}
 use lib.ListN.{length}
 use Rattle.replay.specs.declared.Stage.the-variants.{Version}
-use Rattle.replay.specs.Lines.{started}
-use Rattle.replay.specs.Step.{position}
+use Rattle.replay.specs.Lines.{engineOpened}
+use Rattle.replay.specs.Step.{readerState}
 use Rattle.replay.specs.Calls.{positionOf}
-use Rattle.replay_io.specs.Reached.{Reaches, here}
+use Rattle.replay_io.specs.Reached.{Reachable, here}
 use Rattle.replay_io.proofs.Reaching.{reaches-on, start-at}
 use borrow.Author.Needs.{needs}
 use Rattle.replay_io.proofs.read_all.Statement.{statement}
@@ -14,7 +14,7 @@ use Rattle.replay_io.proofs.read_all.Tie as tie
 abbrev Inv-loop : tie.InvT-loop
 Inv-loop fd name held₀ ring₀ memory₀ shows slow progress₀ turns₀ more₀ held ring memory progress turns more =
     (length held ≡ length held₀) × (length ring ≡ length ring₀) × (length memory ≡ length memory₀)
-    × Reaches (position Version [] (started ring₀ memory₀)) (positionOf (progress .replay) held ring memory)
+    × Reachable (readerState Version [] (engineOpened ring₀ memory₀)) (positionOf (progress .replay) held ring memory)
 
 abbrev μ-loop : tie.MeasureT-loop
 μ-loop fd name held₀ ring₀ memory₀ shows slow progress₀ turns₀ more₀ held ring memory progress turns more = turns

@@ -5,7 +5,7 @@ use native.Mathlib.Omega.{arith}
 use lib.ListN.{length, drop, length-take, length-drop}
 use lib.Seq.{take-all, length-take-le}
 use Rattle.word.specs.Splice.{spliced}
-use Rattle.ring.specs.Copied.{copied}
+use Rattle.ring.specs.Copied.{copiedIn}
 use Rattle.ring.proofs.Copied.{copied-one}
 use borrow.Author.Needs.{needs}
 use Rattle.ring.proofs.copy_in.Statement.{statement}
@@ -49,7 +49,7 @@ same-length-2 : tie.Need-same-length-2
 same-length-2 c = search needs
 
 returns-2 : tie.Need-returns-2
-unfolding copied
+unfolding copiedIn
 returns-2 c =
     let s = c .before .before .before .before .before .before .before in
     let a = s .before .before .before .before .before .before .args in

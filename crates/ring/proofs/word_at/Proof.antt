@@ -4,7 +4,7 @@ use native.Mathlib.Omega.{arith}
 use lib.ListN.{length}
 use Rattle.word.specs.Word.{le32At}
 use Rattle.ring.specs.declared.Read.the-variants.{Word}
-use Rattle.ring.specs.Segment.{Lies, segment, batchWords}
+use Rattle.ring.specs.Segment.{LiesInRing, segment, batchWords}
 use Rattle.ring.specs.Read.{wordAt}
 use Rattle.ring.proofs.Segment.{lies-word, count-words, word-whole, word-front, word-back}
 use Rattle.ring.proofs.Reading.{read-past, read-batch}
@@ -13,7 +13,7 @@ use Rattle.ring.proofs.word_at.Statement.{statement}
 use Rattle.ring.proofs.word_at.Tie as tie
 
 -- past the first test the batch lies in the ring and word k in the batch
-inside : (c : tie.Else1) → Lies (c .before .before .before .args .ring .now) (c .before .before .before .args .offset) (c .before .before .before .args .size)
+inside : (c : tie.Else1) → LiesInRing (c .before .before .before .args .ring .now) (c .before .before .before .args .offset) (c .before .before .before .args .size)
 inside c =
     let a = c .before .before .before .args in
     lies-word (a .ring .now) (a .offset) (a .size) (a .k) (omega arith)

@@ -4,9 +4,9 @@ use Prim.Native.Nat.{ℕ, _+_, _*_, _-_, _/_, _≤_, _<_}
 use native.Mathlib.Omega.{arith}
 use lib.ListN.{length, take, drop}
 use borrow.Author.Needs.{needs}
-use Rattle.claims.specs.Engine.{state}
-use Rattle.session.specs.Script.{parsed, next}
-use Rattle.session.specs.Requests.{callOf}
+use Rattle.claims.specs.Engine.{mkState}
+use Rattle.session.specs.Script.{parsed, parseCall}
+use Rattle.session.specs.Parsing.{callOf}
 use Rattle.session.proofs.Going.{Going, going-start, going-next, going-end, rest-is, decode-end, decode-none, found-next}
 use Rattle.session.proofs.play_calls.Statement.{statement}
 use Rattle.session.proofs.play_calls.Tie as tie
@@ -14,7 +14,7 @@ use Rattle.session.proofs.play_calls.Tie as tie
 abbrev Inv-loop : tie.InvT-loop
 Inv-loop ring₀ memory₀ script answers₀ engine₀ left₀ at₀ count₀ ring memory answers engine left at count =
     (at ≤ length script) × (count + left * 24 ≤ length answers₀) × (length answers ≡ length answers₀) × (length ring ≡ length ring₀) × (length memory ≡ length memory₀)
-    × Going (length answers₀ / 24) script (state engine₀ ring₀ memory₀) answers₀ at count left (state engine ring memory) answers
+    × Going (length answers₀ / 24) script (mkState engine₀ ring₀ memory₀) answers₀ at count left (mkState engine ring memory) answers
 
 abbrev μ-loop : tie.MeasureT-loop
 μ-loop ring₀ memory₀ script answers₀ engine₀ left₀ at₀ count₀ ring memory answers engine left at count = left
@@ -23,7 +23,7 @@ abbrev μ-loop : tie.MeasureT-loop
 found : (c : tie.After-found Inv-loop μ-loop) →
     let script : List ℕ = c .before .before .before .before .before .before .before .before .before .before .args .script .now in
     let at : ℕ = c .before .before .before .before .before .loop .at in
-    (next (drop at script) ≡ parsed (callOf (take (length script - at) (drop at script)) (c .found .given .0 .0 .request)) (drop (c .found .given .0 .0 .size) (drop at script))) × (at + c .found .given .0 .0 .size ≤ length script)
+    (parseCall (drop at script) ≡ parsed (callOf (take (length script - at) (drop at script)) (c .found .given .0 .0 .request)) (drop (c .found .given .0 .0 .size) (drop at script))) × (at + c .found .given .0 .0 .size ≤ length script)
 found c =
     let low = c .before .before .before .before .before .loop .inv .0 in
     found-next _ _ _ _ _ low (rest-is _ _ low) (c .before .before .next-call .ensures) (c .found .given .1)

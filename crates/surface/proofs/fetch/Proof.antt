@@ -2,7 +2,7 @@ use mathlib.Core.Path.{_≡_, refl, _∙_}
 use Prim.Native.Nat.{_+_, _-_}
 use native.Mathlib.Omega.{arith}
 use denote.Ref.{now}
-use Rattle.pixel.specs.Formats.{bytesOf}
+use Rattle.pixel.specs.Formats.{bytesPerPixel}
 use Rattle.surface.proofs.Sizes.{bytes-most}
 use Rattle.surface.proofs.Parts.{length-mid}
 use Rattle.surface.proofs.Pixels.{pixel-part}
@@ -33,8 +33,8 @@ number-of-requires c κs =
 returns : tie.Need-returns
 returns c =
     let s = c .before .before .before .before in
-    let n : s .args .at + c .before .before .bytes .result - s .args .at ≡ bytesOf (s .args .format) = omega arith in
-    c .number-of .ensures ∙ pixel-part (bytesOf (s .args .format)) _ (s .args .at) (s .args .at) (now (s .args .memory)) n refl
+    let n : s .args .at + c .before .before .bytes .result - s .args .at ≡ bytesPerPixel (s .args .format) = omega arith in
+    c .number-of .ensures ∙ pixel-part (bytesPerPixel (s .args .format)) _ (s .args .at) (s .args .at) (now (s .args .memory)) n refl
 
 pub fetch-spec : {M : Type 1} → statement M
 fetch-spec =

@@ -1,4 +1,4 @@
-use Rattle.surface.specs.Drawn.{loaded}
+use Rattle.surface.specs.Drawn.{loadPixel}
 use borrow.Author.Needs.{needs}
 use Rattle.surface.proofs.load.Statement.{statement}
 use Rattle.surface.proofs.load.Tie as tie
@@ -10,7 +10,7 @@ unpack-requires : tie.Need-unpack-requires
 unpack-requires c κs = search needs
 
 returns : tie.Need-returns
-unfolding loaded
+unfolding loadPixel
 returns c = rw (c .before .fetch .ensures) at (c .unpack .ensures)
 
 pub load-spec : {M : Type 1} → statement M

@@ -8,12 +8,12 @@ use Rattle.surface.proofs.Pixels.{number-step}
 use lib.Dec.{lit<}
 use denote.Ref.{now}
 use borrow.Author.Needs.{needs}
-use Rattle.surface.specs.Memory.{number}
+use Rattle.surface.specs.Memory.{littleEndian}
 use Rattle.surface.proofs.number_of.Statement.{statement}
 use Rattle.surface.proofs.number_of.Tie as tie
 
 abbrev Inv-loop : tie.InvT-loop
-Inv-loop bytes sum₀ k₀ sum k = (k ≤ length bytes) × (sum ≡ number (drop k bytes)) × (sum < 256 ^ (length bytes - k))
+Inv-loop bytes sum₀ k₀ sum k = (k ≤ length bytes) × (sum ≡ littleEndian (drop k bytes)) × (sum < 256 ^ (length bytes - k))
 
 abbrev μ-loop : tie.MeasureT-loop
 μ-loop bytes sum₀ k₀ sum k = k

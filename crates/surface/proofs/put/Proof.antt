@@ -7,13 +7,13 @@ use lib.ListN.{length, length-set}
 use denote.Ref.{now}
 use borrow.Author.Needs.{needs}
 use Rattle.word.specs.Word.{byteOf}
-use Rattle.surface.specs.Memory.{mapi, within}
+use Rattle.surface.specs.Memory.{mapi, overwriteRange}
 use Rattle.surface.proofs.Parts.{none-within, set-within, all-within}
 use Rattle.surface.proofs.put.Statement.{statement}
 use Rattle.surface.proofs.put.Tie as tie
 
 abbrev Inv-loop : tie.InvT-loop
-Inv-loop bytes₀ number rest₀ k₀ bytes rest k = (k ≤ length bytes₀) × (rest ≡ number / 256 ^ k) × (bytes ≡ mapi (within 0 k (λ j old. byteOf number j)) bytes₀) × (length bytes ≡ length bytes₀)
+Inv-loop bytes₀ number rest₀ k₀ bytes rest k = (k ≤ length bytes₀) × (rest ≡ number / 256 ^ k) × (bytes ≡ mapi (overwriteRange 0 k (λ j old. byteOf number j)) bytes₀) × (length bytes ≡ length bytes₀)
 
 abbrev μ-loop : tie.MeasureT-loop
 μ-loop bytes₀ number rest₀ k₀ bytes rest k = length bytes₀ - k

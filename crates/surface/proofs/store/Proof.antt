@@ -3,9 +3,9 @@ use Prim.Native.Nat.{_+_, _-_}
 use native.Mathlib.Omega.{arith}
 use denote.Ref.{now}
 use Rattle.word.specs.Word.{byteOf}
-use Rattle.pixel.specs.Formats.{bytesOf, layoutOf}
+use Rattle.pixel.specs.Formats.{bytesPerPixel, layoutOf}
 use Rattle.pixel.specs.Colours.{packed}
-use Rattle.surface.specs.Drawn.{stored}
+use Rattle.surface.specs.Drawn.{storePixel}
 use Rattle.surface.proofs.Parts.{part-mapi}
 use borrow.Author.Needs.{needs}
 use Rattle.surface.proofs.store.Statement.{statement}
@@ -36,12 +36,12 @@ same-length : tie.Need-same-length
 same-length c = search needs
 
 returns : tie.Need-returns
-unfolding stored
+unfolding storePixel
 returns c =
     let s = c .before .before .before .before .before .before .before in
     let m = now (s .args .memory) in
-    let n : s .args .at + c .before .before .before .before .before .bytes .result - s .args .at ≡ bytesOf (s .args .format) = omega arith in
-    part-mapi (λ k old. byteOf (packed (layoutOf (s .args .format)) (s .args .c)) k) m (c .before .before .put .last .0) (s .args .at) _ (bytesOf (s .args .format)) n (omega arith)
+    let n : s .args .at + c .before .before .before .before .before .bytes .result - s .args .at ≡ bytesPerPixel (s .args .format) = omega arith in
+    part-mapi (λ k old. byteOf (packed (layoutOf (s .args .format)) (s .args .c)) k) m (c .before .before .put .last .0) (s .args .at) _ (bytesPerPixel (s .args .format)) n (omega arith)
     (rw (c .before .before .before .pack .ensures) at (c .before .before .put .ensures))
 
 pub store-spec : {M : Type 1} → statement M

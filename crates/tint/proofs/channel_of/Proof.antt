@@ -2,7 +2,7 @@ use mathlib.Core.Path.{_≡_, _∙_}
 use Prim.Native.Nat.{_*_, _≤_}
 use native.Mathlib.Omega.{arith}
 use borrow.Author.Needs.{needs}
-use Rattle.pixel.specs.Alpha.{near}
+use Rattle.pixel.specs.Alpha.{div255}
 use Rattle.pixel.proofs.Division.{division}
 use Rattle.pixel.proofs.Products.{product-small}
 use Rattle.tint.proofs.channel_of.Statement.{statement}
@@ -18,11 +18,11 @@ near-requires : tie.Need-near-requires
 near-requires c κs = omega (arith, small c)
 
 -- a product of two bytes is divided exactly
-quotient : (c : tie.After-near) → c .near .result ≡ near (c .before .args .channel * c .before .args .coverage)
+quotient : (c : tie.After-near) → c .near .result ≡ div255 (c .before .args .channel * c .before .args .coverage)
 quotient c = c .near .ensures ∙ division .exact (c .before .args .channel * c .before .args .coverage) (omega (arith, small (c .before)))
 
 cast-result : tie.Need-cast-result
-unfolding near
+unfolding div255
 cast-result c = omega (arith, small (c .before), quotient c)
 
 returns : tie.Need-returns

@@ -6,8 +6,8 @@ use lib.ListN.{length}
 use denote.Ref.{now}
 use borrow.Author.Needs.{needs}
 use Rattle.ring.specs.Segment.{batchWords}
-use Rattle.batch.specs.Batch.{readBatch}
-use Rattle.batch.specs.Walk.{rest}
+use Rattle.batch.specs.Batch.{decodeBatch}
+use Rattle.batch.specs.Walk.{decodeRest}
 use Rattle.batch.proofs.Steps.{step-onward}
 use Rattle.batch.proofs.Tasks.{step-sound}
 use Rattle.raster.specs.Task.{drawTasks}
@@ -20,7 +20,7 @@ abbrev Inv-loop : tie.InvT-loop
 Inv-loop memory₀ ring offset size bounds slow source₀ destination₀ window current₀ at₀ memory source destination current at =
     let ws = batchWords ring offset size in
     (at ≤ length ws)
-    × (drawTasks (readBatch bounds current₀ ws .tasks) memory₀ ≡ drawTasks (rest bounds ws current at .tasks) memory)
+    × (drawTasks (decodeBatch bounds current₀ ws .tasks) memory₀ ≡ drawTasks (decodeRest bounds ws current at .tasks) memory)
     × (length memory ≡ length memory₀)
     × (length source ≡ 16384)
     × (length destination ≡ 16384)
@@ -82,7 +82,7 @@ loop-again c =
       onward t .1,
       l .inv .1
           ∙ step-draws (s .args .bounds) (Ws s) (l .current) (l .at) (n .result) (n .ensures) (l .memory) _ _ _ (t .task .given .1)
-          ∙ ap (drawTasks (rest (s .args .bounds) (Ws s) (t .task .given .0 .1 .0) (t .task .given .0 .1 .1 .0) .tasks)) (sym (d .ensures)),
+          ∙ ap (drawTasks (decodeRest (s .args .bounds) (Ws s) (t .task .given .0 .1 .0) (t .task .given .0 .1 .1 .0) .tasks)) (sym (d .ensures)),
       d .kept .0 ∙ l .inv .2,
       d .kept .1 .1 .1 .0 ∙ l .inv .3,
       d .kept .1 .1 .1 .1 .0 ∙ l .inv .4,

@@ -5,8 +5,8 @@ use mathlib.Core.List.{List}
 use native.Mathlib.Omega.{arith}
 use lib.ListN.{length}
 use Rattle.ring.specs.Segment.{batchWords}
-use Rattle.batch.specs.Batch.{readBatch, judgementOf}
-use Rattle.batch.specs.Walk.{rest}
+use Rattle.batch.specs.Batch.{decodeBatch, validationOf}
+use Rattle.batch.specs.Walk.{decodeRest}
 use Rattle.batch.proofs.Ways.{words-fit}
 use Rattle.batch.proofs.Steps.{counted, counted-none, step-onward, step-task, step-faulty, step-end}
 use Rattle.batch.proofs.verdict.judge.Statement.{statement}
@@ -15,7 +15,7 @@ use Rattle.batch.proofs.verdict.judge.Tie as tie
 abbrev Inv-loop : tie.InvT-loop
 Inv-loop ring offset size bounds current₀ at₀ count₀ current at count =
     let ws = batchWords ring offset size in
-    (at ≤ length ws) × (count ≤ at) × (judgementOf (readBatch bounds current₀ ws) ≡ counted count (rest bounds ws current at))
+    (at ≤ length ws) × (count ≤ at) × (validationOf (decodeBatch bounds current₀ ws) ≡ counted count (decodeRest bounds ws current at))
 
 abbrev μ-loop : tie.MeasureT-loop
 μ-loop ring offset size bounds current₀ at₀ count₀ current at count = length (batchWords ring offset size) - at
@@ -35,7 +35,7 @@ onward c =
 loop-holds : tie.Need-loop-holds Inv-loop μ-loop
 loop-holds c =
     let s = c .before in
-    (omega arith, omega arith, counted-none (readBatch (s .args .bounds) (s .args .bank) (Ws s)))
+    (omega arith, omega arith, counted-none (decodeBatch (s .args .bounds) (s .args .bank) (Ws s)))
 
 next-task-requires : tie.Need-next-task-requires Inv-loop μ-loop
 next-task-requires c κs = search needs

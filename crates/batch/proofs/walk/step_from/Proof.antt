@@ -12,9 +12,9 @@ use Rattle.word.proofs.Tests.{or-false}
 use Rattle.ring.specs.Segment.{batchWords}
 use Rattle.register.specs.Task.{taskOf}
 use Rattle.rules.specs.declared.fault.Fault.{Fault}
-use Rattle.rules.specs.Rules.{taskFault}
-use Rattle.batch.specs.Batch.{faulty, done, inside, reservedBits, groupOf, readFrom}
-use Rattle.batch.specs.Walk.{rest, follows}
+use Rattle.rules.specs.Rules.{checkTask}
+use Rattle.batch.specs.Batch.{faulty, stopWith, inside, reservedBits, groupOf, decodeFrom}
+use Rattle.batch.specs.Walk.{decodeRest, decodeAfterStep}
 use Rattle.batch.proofs.Ways.{words-fit, next-group, open-task, ended, reserved, bad-length, open-group, refused, taken}
 use Rattle.batch.proofs.Steps.{judged-step, judged-onward}
 use Rattle.batch.proofs.walk.step_from.Statement.{statement}
@@ -26,8 +26,8 @@ Inv-loop ring offset size bounds k n at₀ held₀ head h left₀ register₀ at
     (at₀ ≤ at)
     × (at + left ≤ n)
     × (register + 4 * left ≤ 131072)
-    × (readFrom bounds held₀ at₀ (inside left₀ register₀ (eqb (field 0 0 h) 1) head) (drop at₀ ws)
-    ≡ readFrom bounds held at (inside left register (eqb (field 0 0 h) 1) head) (drop at ws))
+    × (decodeFrom bounds held₀ at₀ (inside left₀ register₀ (eqb (field 0 0 h) 1) head) (drop at₀ ws)
+    ≡ decodeFrom bounds held at (inside left register (eqb (field 0 0 h) 1) head) (drop at ws))
 
 abbrev μ-loop : tie.MeasureT-loop
 μ-loop ring offset size bounds k n at₀ held₀ head h left₀ register₀ at held left register = left
@@ -35,7 +35,7 @@ abbrev μ-loop : tie.MeasureT-loop
 abbrev Inv-groups : tie.InvT-groups
 Inv-groups ring offset size bounds k n at₀ held₀ at held =
     let ws = batchWords ring offset size in
-    (at₀ ≤ at) × (at < n) × (rest bounds ws held₀ at₀ ≡ rest bounds ws held at)
+    (at₀ ≤ at) × (at < n) × (decodeRest bounds ws held₀ at₀ ≡ decodeRest bounds ws held at)
 
 abbrev μ-groups : tie.MeasureT-groups
 μ-groups ring offset size bounds k n at₀ held₀ at held = n - at
@@ -52,8 +52,8 @@ small c =
 
 -- the header at `at` opens a group
 group : (c : tie.Else2 Inv-loop μ-loop Inv-groups μ-groups) → let s = c .before .before .before .before .before .before .before in let g = c .before .before .before .before .groups in
-    rest (s .args .bounds) (Ws s) (s .args .bank) (s .args .k)
-    ≡ readFrom (s .args .bounds) (g .held) (g .at + 1) (groupOf (g .at) (c .before .before .before .word-at .result)) (drop (g .at + 1) (Ws s))
+    decodeRest (s .args .bounds) (Ws s) (s .args .bank) (s .args .k)
+    ≡ decodeFrom (s .args .bounds) (g .held) (g .at + 1) (groupOf (g .at) (c .before .before .before .word-at .result)) (drop (g .at + 1) (Ws s))
 group c =
     let s = c .before .before .before .before .before .before .before in
     let g = c .before .before .before .before .groups in
@@ -64,8 +64,8 @@ group c =
 
 -- the reading from the start is the reading from here, at the inner loop's head
 here : (c : tie.At-loop Inv-loop μ-loop Inv-groups μ-groups) → let s = c .before .before .before .before .before .before .before .before in let l = c .loop in let h = c .before .before .before .before .word-at .result in
-    rest (s .args .bounds) (Ws s) (s .args .bank) (s .args .k)
-    ≡ readFrom (s .args .bounds) (l .held) (l .at) (inside (l .left) (l .register) (eqb (field 0 0 h) 1) (c .before .before .before .before .before .groups .at)) (drop (l .at) (Ws s))
+    decodeRest (s .args .bounds) (Ws s) (s .args .bank) (s .args .k)
+    ≡ decodeFrom (s .args .bounds) (l .held) (l .at) (inside (l .left) (l .register) (eqb (field 0 0 h) 1) (c .before .before .before .before .before .groups .at)) (drop (l .at) (Ws s))
 here c = group (c .before) ∙ c .loop .inv .3
 
 word-count-requires : tie.Need-word-count-requires Inv-loop μ-loop Inv-groups μ-groups
@@ -205,7 +205,7 @@ returns-3 c =
       means =
           here (c .before .before .before .before .before .before .before)
           ∙ refused (s .args .bounds) (Ws s) (l .held) (l .at) (w .result) (omega (arith, n, l .inv .1)) (w .ensures) (l .left) (l .register) _ _ _ (c .before .before .before .before .before .before .loop-test .taken) e
-          ∙ ap (λ (f : Fault). done (l .held) (faulty f (4 * l .at))) (sym (c .of-write .ensures));
+          ∙ ap (λ (f : Fault). stopWith (l .held) (faulty f (4 * l .at))) (sym (c .of-write .ensures));
       onward = tt;
     }
 
@@ -218,13 +218,13 @@ returns-4 c =
     let z : l .left ≡ 0 = omega (arith, c .before .before .loop-test .left) in
     let h = c .before .before .before .before .before .before .before .word-at .result in
     let e : eqb (field 0 0 h) 1 ≡ true = eq-eqb (field 0 0 h) 1 (omega (arith, c .before .if3 .taken)) in
-    let check = taskFault (s .args .bounds) (taskOf (l .held)) in
+    let check = checkTask (s .args .bounds) (taskOf (l .held)) in
     record {
       means =
           (rw (z, e) at (here (c .before .before .before)))
           ∙ ended (s .args .bounds) (Ws s) (l .held) (l .at) _ _
           ∙ judged-step (s .args .bounds) (Ws s) check (l .held) (l .at) (g .at) (s .args .bank)
-          ∙ ap (follows (s .args .bounds) (Ws s) (s .args .bank)) (sym (c .finish .ensures));
+          ∙ ap (decodeAfterStep (s .args .bounds) (Ws s) (s .args .bank)) (sym (c .finish .ensures));
       onward =
           rw (c .finish .ensures)
           (judged-onward (Ws s) check (l .held) (s .args .k) (l .at) (4 * g .at) (omega (arith, g .inv .0, l .inv .0)) (omega (arith, n, l .inv .1)));

@@ -1,4 +1,4 @@
-use Rattle.pixel.specs.Rules.{ruleOf}
+use Rattle.pixel.specs.Rules.{blendModeFactors}
 use Rattle.pixel.specs.declared.blend.RuleName.the-variants.{SrcOver}
 use Rattle.combine.proofs.Fours.{Bytes, over-two, four-done}
 use mathlib.Core.Path.{_∙_}
@@ -33,7 +33,7 @@ returns c =
     let a = c .before .before .before .before .before .before .before .before .before .before .before .before .before in
     let in-s : Bytes (a .args .s .now) = λ j. omega (arith, c .before .before .before .before .before .before .before .before .before .before .before .shared-slice-known .given j) in
     let in-d : Bytes (a .args .d .now) = λ j. omega (arith, c .before .before .before .before .before .before .before .before .before .before .before .before .slice-known .given j) in
-    four-done (ruleOf SrcOver) _ _ (c .before .before .before .before .before .over8 .result) (c .before .before .store8 .last .0) (a .args .o) (a .pre .1) in-s in-d
+    four-done (blendModeFactors SrcOver) _ _ (c .before .before .before .before .before .over8 .result) (c .before .before .store8 .last .0) (a .args .o) (a .pre .1) in-s in-d
     (λ k l. c .before .before .before .before .before .over8 .ensures k l ∙ over-two (a .args .s .now) (a .args .d .now) (c .before .before .before .before .before .before .before .before .before .before .load8c .result) (c .before .before .before .before .before .before .before .before .load8 .result) (a .args .o) (c .before .before .before .before .before .before .before .before .load8 .ensures) in-s (c .before .before .before .before .before .before .before .before .before .before .load8c .ensures) k l)
     (c .before .before .store8 .ensures .0) (c .before .before .store8 .ensures .1 .0) (c .before .before .store8 .ensures .1 .1 .0) (c .before .before .store8 .ensures .1 .1 .1)
 

@@ -1,4 +1,4 @@
-use Rattle.pixel.specs.Alpha.{near}
+use Rattle.pixel.specs.Alpha.{div255}
 use Rattle.pixel.specs.Blending.{blendedChannel}
 use Rattle.combine.specs.Blend.{duo}
 use borrow.Author.Needs.{needs}
@@ -23,7 +23,7 @@ add-result c = search needs
 
 -- src/lane.rt:19:1
 returns : tie.Need-returns
-unfolding duo blendedChannel near
+unfolding duo blendedChannel div255
 returns c = search needs
 
 pub pair2-spec : {M : Type 1} → statement M

@@ -1,4 +1,4 @@
-use Rattle.pixel.specs.Rules.{ruleOf}
+use Rattle.pixel.specs.Rules.{blendModeFactors}
 use Rattle.pixel.specs.declared.blend.RuleName.the-variants.{Add}
 use Rattle.lanes.specs.Lanes.{Done}
 use Rattle.lanes.proofs.Passes.{none-done, to-end}
@@ -13,7 +13,7 @@ use Rattle.combine.proofs.row.add_bytes.Statement.{statement}
 use Rattle.combine.proofs.row.add_bytes.Tie as tie
 
 abbrev Inv-loop : tie.InvT-loop
-Inv-loop d₀ s a n j₀ d j = (((a ≤ j) × (j ≤ n)) × (length d ≡ length d₀)) × Done (blendAt (ruleOf Add) s d₀) d₀ d a j
+Inv-loop d₀ s a n j₀ d j = (((a ≤ j) × (j ≤ n)) × (length d ≡ length d₀)) × Done (blendAt (blendModeFactors Add) s d₀) d₀ d a j
 
 abbrev μ-loop : tie.MeasureT-loop
 μ-loop d₀ s a n j₀ d j = n - j
@@ -51,7 +51,7 @@ loop-again : tie.Need-loop-again Inv-loop μ-loop
 unfolding blendAt
 loop-again c =
     let b = c .before .before .before .before in
-    (search needs, byte-more (ruleOf Add) (b .before .before .before .args .s .now) _ (b .loop .d) _ (b .loop .j) _ (omega arith) (omega arith) (c .held-sum .ensures) (b .loop .inv .1))
+    (search needs, byte-more (blendModeFactors Add) (b .before .before .before .args .s .now) _ (b .loop .d) _ (b .loop .j) _ (omega arith) (omega arith) (c .held-sum .ensures) (b .loop .inv .1))
 
 -- src/row.rt:27:1
 same-length : tie.Need-same-length Inv-loop μ-loop

@@ -1,5 +1,5 @@
 use Rattle.combine.proofs.Factors.{source-is, destination-is, source-small, destination-small}
-use Rattle.pixel.specs.Alpha.{near}
+use Rattle.pixel.specs.Alpha.{div255}
 use Rattle.pixel.specs.Blending.{blendedChannel}
 use mathlib.Core.Path.{_∙_}
 use native.Mathlib.Omega.{arith}
@@ -45,7 +45,7 @@ cast-result c = search needs
 
 -- src/row.rt:39:1
 returns : tie.Need-returns
-unfolding blendedChannel near
+unfolding blendedChannel div255
 returns c =
     let a = c .before .before .before .before .before .before .before .before .before in
     let x = c .before .before .before .before .before .before .wide .ensures in

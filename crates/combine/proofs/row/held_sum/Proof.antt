@@ -1,4 +1,4 @@
-use Rattle.pixel.specs.Alpha.{near}
+use Rattle.pixel.specs.Alpha.{div255}
 use Rattle.pixel.specs.Blending.{blendedChannel}
 use borrow.Author.Needs.{needs}
 use Rattle.combine.proofs.row.held_sum.Statement.{statement}
@@ -14,12 +14,12 @@ add-result c = search needs
 
 -- src/row.rt:21:1
 returns : tie.Need-returns
-unfolding blendedChannel near
+unfolding blendedChannel div255
 returns c = search needs
 
 -- src/row.rt:21:1
 returns-2 : tie.Need-returns-2
-unfolding blendedChannel near
+unfolding blendedChannel div255
 returns-2 c = search needs
 
 pub held-sum-spec : {M : Type 1} → statement M

@@ -1,4 +1,4 @@
-use Rattle.pixel.specs.Rules.{ruleOf}
+use Rattle.pixel.specs.Rules.{blendModeFactors}
 use Rattle.pixel.specs.declared.blend.RuleName.the-variants.{SrcOver}
 use Rattle.combine.proofs.Fours.{copy-done, clear-done, add-done}
 use mathlib.Core.Path.{refl, sym, _∙_}
@@ -23,7 +23,7 @@ same-length c = search needs
 returns : tie.Need-returns
 returns c =
     let a = c .before .before .before .before .before .before .before .before in
-    copy-done (ruleOf SrcOver) (a .args .s .now) (a .args .d .now) _ (a .args .o) (a .pre .1) (λ j. omega (arith, c .before .before .before .before .before .before .shared-slice-known .given j)) (λ j. omega (arith, c .before .before .before .before .before .before .before .slice-known .given j)) (λ y. (refl, refl)) (sym (c .before .before .before .before .before .alphas .ensures) ∙ c .before .before .before .before .if1 .taken) (c .before .before .copy .ensures)
+    copy-done (blendModeFactors SrcOver) (a .args .s .now) (a .args .d .now) _ (a .args .o) (a .pre .1) (λ j. omega (arith, c .before .before .before .before .before .before .shared-slice-known .given j)) (λ j. omega (arith, c .before .before .before .before .before .before .before .slice-known .given j)) (λ y. (refl, refl)) (sym (c .before .before .before .before .before .alphas .ensures) ∙ c .before .before .before .before .if1 .taken) (c .before .before .copy .ensures)
 
 -- src/row.rt:94:12
 words-requires : tie.Need-words-requires
@@ -33,7 +33,7 @@ words-requires c κs = search needs
 returns-2 : tie.Need-returns-2
 returns-2 c =
     let a = c .before .before .before .before .before .before .before in
-    clear-done (ruleOf SrcOver) (a .args .s .now) (a .args .d .now) (a .args .d .now) (a .args .o) (a .pre .1) (λ j. omega (arith, c .before .before .before .before .before .shared-slice-known .given j)) (λ j. omega (arith, c .before .before .before .before .before .before .slice-known .given j)) (c .before .words .ensures (c .if3 .taken))
+    clear-done (blendModeFactors SrcOver) (a .args .s .now) (a .args .d .now) (a .args .d .now) (a .args .o) (a .pre .1) (λ j. omega (arith, c .before .before .before .before .before .shared-slice-known .given j)) (λ j. omega (arith, c .before .before .before .before .before .before .slice-known .given j)) (c .before .words .ensures (c .if3 .taken))
 
 -- src/row.rt:97:28
 add-add-bytes : tie.Need-add-add-bytes
@@ -51,7 +51,7 @@ same-length-2 c = search needs
 returns-3 : tie.Need-returns-3
 returns-3 c =
     let a = c .before .before .before .before .before .before .before .before .before .before .before in
-    add-done (ruleOf SrcOver) (a .args .s .now) (a .args .d .now) _ (a .args .o) (a .pre .1) (λ j. omega (arith, c .before .before .before .before .before .before .before .before .before .shared-slice-known .given j)) (λ j. omega (arith, c .before .before .before .before .before .before .before .before .before .before .slice-known .given j)) (sym (c .before .before .before .before .before .before .before .before .alphas .ensures) ∙ c .before .before .before .before .before .before .if2 .taken) (c .before .before .add-bytes .ensures)
+    add-done (blendModeFactors SrcOver) (a .args .s .now) (a .args .d .now) _ (a .args .o) (a .pre .1) (λ j. omega (arith, c .before .before .before .before .before .before .before .before .before .shared-slice-known .given j)) (λ j. omega (arith, c .before .before .before .before .before .before .before .before .before .before .slice-known .given j)) (sym (c .before .before .before .before .before .before .before .before .alphas .ensures) ∙ c .before .before .before .before .before .before .if2 .taken) (c .before .before .add-bytes .ensures)
 
 -- src/row.rt:100:5
 over-four-requires : tie.Need-over-four-requires

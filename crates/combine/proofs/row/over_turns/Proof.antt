@@ -1,4 +1,4 @@
-use Rattle.pixel.specs.Rules.{ruleOf}
+use Rattle.pixel.specs.Rules.{blendModeFactors}
 use Rattle.pixel.specs.declared.blend.RuleName.the-variants.{SrcOver}
 use Rattle.lanes.specs.Lanes.{Done}
 use Rattle.lanes.proofs.Passes.{none-done, to-end}
@@ -13,7 +13,7 @@ use Rattle.combine.proofs.row.over_turns.Statement.{statement}
 use Rattle.combine.proofs.row.over_turns.Tie as tie
 
 abbrev Inv-loop : tie.InvT-loop
-Inv-loop d₀ s n o₀ d o = ((o ≤ n) × ((o % 16 ≡ 0) × (length d ≡ length d₀))) × Done (blendAt (ruleOf SrcOver) s d₀) d₀ d 0 o
+Inv-loop d₀ s n o₀ d o = ((o ≤ n) × ((o % 16 ≡ 0) × (length d ≡ length d₀))) × Done (blendAt (blendModeFactors SrcOver) s d₀) d₀ d 0 o
 
 abbrev μ-loop : tie.MeasureT-loop
 μ-loop d₀ s n o₀ d o = n - o
@@ -38,7 +38,7 @@ loop-less c = search needs
 loop-again : tie.Need-loop-again Inv-loop μ-loop
 loop-again c =
     let b = c .before .before .before .before .before in
-    (search needs, part-more (ruleOf SrcOver) _ _ (b .loop .d) _ _ (b .loop .o) _ (omega arith) (omega arith) (b .loop .inv .1) (c .before .before .over-turn .ensures))
+    (search needs, part-more (blendModeFactors SrcOver) _ _ (b .loop .d) _ _ (b .loop .o) _ (omega arith) (omega arith) (b .loop .inv .1) (c .before .before .over-turn .ensures))
 
 -- src/row.rt:103:1
 same-length : tie.Need-same-length Inv-loop μ-loop

@@ -5,7 +5,7 @@ use mathlib.Core.List.{List}
 use Rattle.ring.specs.Segment.{batchWords}
 use Rattle.register.specs.Bank.{resetBank}
 use Rattle.register.specs.declared.bank.Bank.{Bank}
-use Rattle.batch.specs.Batch.{Reading, readBatch, judgementOf}
+use Rattle.batch.specs.Batch.{DecodedBatch, decodeBatch, validationOf}
 use Rattle.inquiry.proofs.Batch.{explained-none, explained-fault}
 use Rattle.inquiry.proofs.faulted.explain.Statement.{statement}
 use Rattle.inquiry.proofs.faulted.explain.Tie as tie
@@ -22,13 +22,13 @@ use Rattle.rules.proofs.fault.Fault.number.Reads as number-reads
 abbrev Ws : tie.Start → List ℕ
 Ws c = batchWords (c .args .ring .now) (c .args .offset) (c .args .size)
 
-abbrev said : tie.Start → Reading
-said c = readBatch (c .args .bounds) resetBank (Ws c)
+abbrev said : tie.Start → DecodedBatch
+said c = decodeBatch (c .args .bounds) resetBank (Ws c)
 
-judged : (c : tie.After-judge) → c .judge .result ≡ judgementOf (said (c .before .before .before))
+judged : (c : tie.After-judge) → c .judge .result ≡ validationOf (said (c .before .before .before))
 judged c =
     let s = c .before .before .before in
-    c .judge .ensures ∙ ap (λ (b : Bank). judgementOf (readBatch (s .args .bounds) b (Ws s))) (c .before .reset .ensures)
+    c .judge .ensures ∙ ap (λ (b : Bank). validationOf (decodeBatch (s .args .bounds) b (Ws s))) (c .before .reset .ensures)
 
 reset-requires : tie.Need-reset-requires
 reset-requires c κs = search needs

@@ -7,8 +7,8 @@ use lib.ListN.{length}
 use Rattle.ring.specs.Segment.{batchWords}
 use Rattle.register.specs.Bank.{resetBank}
 use Rattle.register.specs.declared.bank.Bank.{Bank}
-use Rattle.batch.specs.Batch.{readBatch, tasksDrawn}
-use Rattle.batch.specs.Walk.{rest}
+use Rattle.batch.specs.Batch.{decodeBatch, tasksDrawn}
+use Rattle.batch.specs.Walk.{decodeRest}
 use Rattle.batch.proofs.Ways.{words-fit}
 use Rattle.batch.proofs.Steps.{step-onward}
 use Rattle.provenance.specs.declared.Touched.{Touched}
@@ -28,7 +28,7 @@ Inv-loop ring offset size bounds ticket i found current₀ at₀ number₀ last�
     let ws = batchWords ring offset size in
     (at ≤ length ws)
     × (number ≤ at)
-    × (lastFrom found i (numbered ticket 0 (tasksDrawn (readBatch bounds current₀ ws))) ≡ restFrom found i ticket number last (rest bounds ws current at))
+    × (lastFrom found i (numbered ticket 0 (tasksDrawn (decodeBatch bounds current₀ ws))) ≡ restFrom found i ticket number last (decodeRest bounds ws current at))
 
 abbrev μ-loop : tie.MeasureT-loop
 μ-loop ring offset size bounds ticket i found current₀ at₀ number₀ last₀ current at number last = length (batchWords ring offset size) - at
@@ -47,7 +47,7 @@ onward c =
 
 -- the walk begins with the registers at reset
 abbrev answerFrom : tie.Start Inv-loop μ-loop → Bank → Touched
-answerFrom s b = lastFrom (s .args .found) (s .args .i) (numbered (s .args .ticket) 0 (tasksDrawn (readBatch (s .args .bounds) b (Ws s))))
+answerFrom s b = lastFrom (s .args .found) (s .args .i) (numbered (s .args .ticket) 0 (tasksDrawn (decodeBatch (s .args .bounds) b (Ws s))))
 
 from-reset : (c : tie.After-reset Inv-loop μ-loop) → answerFrom (c .before .before) resetBank ≡ answerFrom (c .before .before) (c .reset .result)
 from-reset c = ap (answerFrom (c .before .before)) (sym (c .reset .ensures))
@@ -58,7 +58,7 @@ reset-requires c κs = search needs
 loop-holds : tie.Need-loop-holds Inv-loop μ-loop
 loop-holds c =
     let s = c .before .before in
-    (omega arith, omega arith, rest-start (s .args .found) (s .args .i) (s .args .ticket) (readBatch (s .args .bounds) (c .reset .result) (Ws s)))
+    (omega arith, omega arith, rest-start (s .args .found) (s .args .i) (s .args .ticket) (decodeBatch (s .args .bounds) (c .reset .result) (Ws s)))
 
 next-task-requires : tie.Need-next-task-requires Inv-loop μ-loop
 next-task-requires c κs = search needs
@@ -89,7 +89,7 @@ loop-again c =
       omega (arith, onward t, l .inv .1),
       l .inv .2
           ∙ rest-task (s .args .found) (s .args .i) (s .args .ticket) (s .args .bounds) (Ws s) (l .current) (l .at) (n .result) (n .ensures) (l .number) (l .last) _ _ _ (t .task .given .1)
-          ∙ ap (λ (a : Touched). restFrom (s .args .found) (s .args .i) (s .args .ticket) (l .number + 1) a (rest (s .args .bounds) (Ws s) (t .task .given .0 .1 .0) (t .task .given .0 .1 .1 .0))) (sym (c .after-task .ensures)),
+          ∙ ap (λ (a : Touched). restFrom (s .args .found) (s .args .i) (s .args .ticket) (l .number + 1) a (decodeRest (s .args .bounds) (Ws s) (t .task .given .0 .1 .0) (t .task .given .0 .1 .1 .0))) (sym (c .after-task .ensures)),
     )
 
 enum-told : tie.Need-enum-told Inv-loop μ-loop

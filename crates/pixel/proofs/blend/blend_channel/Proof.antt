@@ -2,7 +2,7 @@ use mathlib.Core.Path.{_≡_, ap, _∙_}
 use Prim.Native.Nat.{min}
 use native.Mathlib.Omega.{arith}
 use Rattle.pixel.specs.Blending.{blendedChannel}
-use Rattle.pixel.specs.Alpha.{near}
+use Rattle.pixel.specs.Alpha.{div255}
 use Rattle.pixel.proofs.Division.{division}
 use borrow.Author.Needs.{needs}
 use Rattle.pixel.proofs.blend.blend_channel.Statement.{statement}
@@ -26,7 +26,7 @@ cast-result c = search needs
 -- what `near` was asked, held
 quotient : (c : tie.After-near) → min 255 (c .near .result) ≡ blendedChannel (c .before .before .before .args .s) (c .before .before .before .args .fs) (c .before .before .before .args .d) (c .before .before .before .args .fd)
 unfolding blendedChannel
-quotient c = ap (min 255) (c .near .ensures) ∙ division .held _ ∙ ap (λ n. min 255 (near n)) (cc)
+quotient c = ap (min 255) (c .near .ensures) ∙ division .held _ ∙ ap (λ n. min 255 (div255 n)) (cc)
 
 returns : tie.Need-returns
 returns c = omega (arith, quotient (c .before))

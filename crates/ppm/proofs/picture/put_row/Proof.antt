@@ -4,10 +4,10 @@ use native.Mathlib.Omega.{arith}
 use lib.ListN.{length, length-set}
 use denote.Ref.{now}
 use borrow.Author.Needs.{needs}
-use Rattle.pixel.specs.Formats.{bytesOf}
-use Rattle.surface.specs.Drawn.{loaded}
+use Rattle.pixel.specs.Formats.{bytesPerPixel}
+use Rattle.surface.specs.Drawn.{loadPixel}
 use Rattle.surface.proofs.Rows.{next}
-use Rattle.ppm.specs.Picture.{shown}
+use Rattle.ppm.specs.Picture.{rowShown}
 use Rattle.ppm.proofs.Shown.{shown-none, shown-more}
 use Rattle.ppm.proofs.picture.put_row.Statement.{statement}
 use Rattle.ppm.proofs.picture.put_row.Tie as tie
@@ -15,9 +15,9 @@ use Rattle.ppm.proofs.picture.put_row.Tie as tie
 abbrev Inv-loop : tie.InvT-loop
 Inv-loop memory start format width out₀ bytes x₀ from₀ to₀ out x from to =
     (x ≤ width)
-    × (from ≡ start + x * bytesOf format)
+    × (from ≡ start + x * bytesPerPixel format)
     × (to ≡ 3 * x)
-    × (out ≡ shown (λ (x : ℕ). loaded format memory (start + x * bytesOf format)) to out₀)
+    × (out ≡ rowShown (λ (x : ℕ). loadPixel format memory (start + x * bytesPerPixel format)) to out₀)
     × (length out ≡ length out₀)
 
 abbrev μ-loop : tie.MeasureT-loop
@@ -31,10 +31,10 @@ loop-holds c = (search needs, search needs, search needs, shown-none _ _, refl)
 
 -- the pixel x lies in memory
 fits : (c : tie.In-loop Inv-loop μ-loop) →
-    c .before .loop .from + bytesOf (c .before .before .before .before .before .args .format) ≤ length (now (c .before .before .before .before .before .args .memory))
+    c .before .loop .from + bytesPerPixel (c .before .before .before .before .before .args .format) ≤ length (now (c .before .before .before .before .before .args .memory))
 fits c =
     let a = c .before .before .before .before .before .args in
-    omega (arith, next (c .before .loop .x) (a .width) (bytesOf (a .format)) (c .loop-test .taken))
+    omega (arith, next (c .before .loop .x) (a .width) (bytesPerPixel (a .format)) (c .loop-test .taken))
 
 load-requires : tie.Need-load-requires Inv-loop μ-loop
 load-requires c κs = fits c
@@ -60,7 +60,7 @@ loop-again c =
     let l = t .before .loop in
     let a = t .before .before .before .before .before .args in
     let put = c .before .before .put .ensures in
-    let colour = c .before .before .before .before .load .ensures ∙ ap (loaded (a .format) (now (a .memory))) (l .inv .1) in (
+    let colour = c .before .before .before .before .load .ensures ∙ ap (loadPixel (a .format) (now (a .memory))) (l .inv .1) in (
       search needs,
       omega (arith, t .before .before .bytes .ensures),
       search needs,

@@ -7,7 +7,7 @@ use borrow.Author.Needs.{needs}
 use borrow.Author.Tests.{leb-true, ltb-true, not-true, not-false}
 use Rattle.word.proofs.Tests.{and-true}
 use Rattle.range.specs.declared.Range.{Range}
-use Rattle.range.specs.Range.{runOf, inside}
+use Rattle.range.specs.Range.{rangeOf, containedIn}
 use Rattle.surface.specs.Surface.{span}
 use Rattle.ppm.specs.Rectangle.{isSide, surfaceOf, rectangleOf}
 use Rattle.ppm.proofs.rectangle.rectangle_of.Statement.{statement}
@@ -36,7 +36,7 @@ fits c = sized _ _ _ (good c)
 -- the run of bytes that the surface is held to is all of the memory
 lies : (c : tie.After-is-inside) →
     let a = c .before .before .before .before .before .args in
-    inside (span (surfaceOf (a .address) (a .stride) (a .width) (a .height) (a .format))) (runOf 0 65536) ≡ c .is-inside .result
+    containedIn (span (surfaceOf (a .address) (a .stride) (a .width) (a .height) (a .format))) (rangeOf 0 65536) ≡ c .is-inside .result
 lies c =
     let memory = c .before .new in
     let first : memory .result .start ≡ 0 = omega (arith, ap (λ (r : Range). r .start) (memory .ensures)) in

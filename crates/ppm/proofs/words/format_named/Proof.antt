@@ -4,51 +4,51 @@ use borrow.Author.Needs.{needs}
 use Rattle.ppm.proofs.words.format_named.Statement.{statement}
 use Rattle.ppm.proofs.words.format_named.Tie as tie
 
-slice-aggregate-is-word : tie.Need-slice-aggregate-is-word
-slice-aggregate-is-word c = search needs
+slice-aggregate-equals-ignoring-case : tie.Need-slice-aggregate-equals-ignoring-case
+slice-aggregate-equals-ignoring-case c = search needs
 
-is-word-requires : tie.Need-is-word-requires
-is-word-requires c κs = search needs
+equals-ignoring-case-requires : tie.Need-equals-ignoring-case-requires
+equals-ignoring-case-requires c κs = search needs
 
 returns : tie.Need-returns
 unfolding formatNamed
-returns c = rw (sym (c .before .is-word .ensures) ∙ c .if1 .taken)
+returns c = rw (sym (c .before .equals-ignoring-case .ensures) ∙ c .if1 .taken)
 
-slice-aggregate-is-word-2 : tie.Need-slice-aggregate-is-word-2
-slice-aggregate-is-word-2 c = search needs
+slice-aggregate-equals-ignoring-case-2 : tie.Need-slice-aggregate-equals-ignoring-case-2
+slice-aggregate-equals-ignoring-case-2 c = search needs
 
-is-word-requires-2 : tie.Need-is-word-requires-2
-is-word-requires-2 c κs = search needs
+equals-ignoring-case-requires-2 : tie.Need-equals-ignoring-case-requires-2
+equals-ignoring-case-requires-2 c κs = search needs
 
 returns-2 : tie.Need-returns-2
 unfolding formatNamed
-returns-2 c = rw (sym (c .before .before .before .before .is-word .ensures) ∙ c .before .before .before .if1 .left, sym (c .before .is-word2 .ensures) ∙ c .if2 .taken)
+returns-2 c = rw (sym (c .before .before .before .before .equals-ignoring-case .ensures) ∙ c .before .before .before .if1 .left, sym (c .before .equals-ignoring-case2 .ensures) ∙ c .if2 .taken)
 
-slice-aggregate-is-word-3 : tie.Need-slice-aggregate-is-word-3
-slice-aggregate-is-word-3 c = search needs
+slice-aggregate-equals-ignoring-case-3 : tie.Need-slice-aggregate-equals-ignoring-case-3
+slice-aggregate-equals-ignoring-case-3 c = search needs
 
-is-word-requires-3 : tie.Need-is-word-requires-3
-is-word-requires-3 c κs = search needs
+equals-ignoring-case-requires-3 : tie.Need-equals-ignoring-case-requires-3
+equals-ignoring-case-requires-3 c κs = search needs
 
 returns-3 : tie.Need-returns-3
 unfolding formatNamed
-returns-3 c = rw (sym (c .before .before .before .before .before .before .before .is-word .ensures) ∙ c .before .before .before .before .before .before .if1 .left, sym (c .before .before .before .before .is-word2 .ensures) ∙ c .before .before .before .if2 .left, sym (c .before .is-word3 .ensures) ∙ c .if3 .taken)
+returns-3 c = rw (sym (c .before .before .before .before .before .before .before .equals-ignoring-case .ensures) ∙ c .before .before .before .before .before .before .if1 .left, sym (c .before .before .before .before .equals-ignoring-case2 .ensures) ∙ c .before .before .before .if2 .left, sym (c .before .equals-ignoring-case3 .ensures) ∙ c .if3 .taken)
 
 returns-4 : tie.Need-returns-4
 unfolding formatNamed
-returns-4 c = rw (sym (c .before .before .before .before .before .before .before .is-word .ensures) ∙ c .before .before .before .before .before .before .if1 .left, sym (c .before .before .before .before .is-word2 .ensures) ∙ c .before .before .before .if2 .left, sym (c .before .is-word3 .ensures) ∙ c .if3 .left)
+returns-4 c = rw (sym (c .before .before .before .before .before .before .before .equals-ignoring-case .ensures) ∙ c .before .before .before .before .before .before .if1 .left, sym (c .before .before .before .before .equals-ignoring-case2 .ensures) ∙ c .before .before .before .if2 .left, sym (c .before .equals-ignoring-case3 .ensures) ∙ c .if3 .left)
 
 pub format-named-spec : {M : Type 1} → statement M
 format-named-spec =
     tie.close
     (tie.spec
-    slice-aggregate-is-word
-    is-word-requires
+    slice-aggregate-equals-ignoring-case
+    equals-ignoring-case-requires
     returns
-    slice-aggregate-is-word-2
-    is-word-requires-2
+    slice-aggregate-equals-ignoring-case-2
+    equals-ignoring-case-requires-2
     returns-2
-    slice-aggregate-is-word-3
-    is-word-requires-3
+    slice-aggregate-equals-ignoring-case-3
+    equals-ignoring-case-requires-3
     returns-3
     returns-4)

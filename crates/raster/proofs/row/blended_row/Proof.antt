@@ -2,10 +2,10 @@ use mathlib.Core.Path.{sym, ap, ap₂, _∙_}
 use Prim.Native.Nat.{ℕ, _+_, _*_}
 use native.Mathlib.Omega.{arith}
 use denote.Ref.{now}
-use Rattle.pixel.specs.Formats.{bytesOf}
-use Rattle.surface.specs.Drawn.{loaded}
+use Rattle.pixel.specs.Formats.{bytesPerPixel}
+use Rattle.surface.specs.Drawn.{loadPixel}
 use Rattle.rows.specs.Row.{colourAt}
-use Rattle.rows.specs.Mixed.{mixed}
+use Rattle.rows.specs.Mixed.{composite}
 use Rattle.raster.specs.Task.{destinationColour}
 use Rattle.raster.proofs.Pixel.{pixel-blended}
 use Rattle.raster.proofs.Place.{ordered, room, fetches, destination-row, length-window, row-fits, row-drawn}
@@ -90,9 +90,9 @@ returns c =
     row-drawn (s .pre .0 .ask) _ (t .row-start .result) (i .last .0) (t .row-start .ensures) (i .ensures)
     (λ x l.
     b .blend-row .ensures x l
-    ∙ (ap₂ (mixed (a .task .blending) (a .task .source .alpha) (a .task .destination .alpha))
+    ∙ (ap₂ (composite (a .task .blending) (a .task .source .alpha) (a .task .destination .alpha))
     (f .fetch-source .ensures x l)
-    (g .fetch-row .ensures x l ∙ ap (λ (i : ℕ). loaded (d .format) (now (a .memory)) (i + x * bytesOf (d .format))) (u .row-start2 .ensures))
+    (g .fetch-row .ensures x l ∙ ap (λ (i : ℕ). loadPixel (d .format) (now (a .memory)) (i + x * bytesPerPixel (d .format))) (u .row-start2 .ensures))
     ∙ sym (pixel-blended (a .task) (now (a .memory)) x (a .y) (s .pre .1))))
 
 pub blended-row-spec : {M : Type 1} → statement M

@@ -2,8 +2,8 @@ use mathlib.Core.Path.{sym, ap, _∙_}
 use denote.Ref.{now}
 use Rattle.register.specs.Task.{isBuffer}
 use Rattle.register.specs.declared.task.SourceMode.{SourceMode}
-use Rattle.rows.specs.Row.{originOf}
-use Rattle.raster.specs.Task.{colourBy, sourceColour}
+use Rattle.rows.specs.Row.{sourcePixelOf}
+use Rattle.raster.specs.Task.{sourceModeColour, sourceColour}
 use borrow.Author.Needs.{needs}
 use Rattle.raster.proofs.row.fetch_source.Statement.{statement}
 use Rattle.raster.proofs.row.fetch_source.Tie as tie
@@ -26,7 +26,7 @@ returns c =
     let a = t .before .before .before .before .args in
     λ x z.
     c .before .before .fetch-along .ensures x z
-    ∙ sym (ap (λ (m : SourceMode). colourBy m (a .source) (now (a .memory)) (originOf (a .source .surface) (a .source .transform) x (a .y))) (t .enum-told .given .1))
+    ∙ sym (ap (λ (m : SourceMode). sourceModeColour m (a .source) (now (a .memory)) (sourcePixelOf (a .source .surface) (a .source .transform) x (a .y))) (t .enum-told .given .1))
 
 enum-told-2 : tie.Need-enum-told-2
 enum-told-2 c = search needs
@@ -44,7 +44,7 @@ returns-2 c =
     let a = t .before .before .before .before .args in
     λ x z.
     c .before .before .spread .ensures x z
-    ∙ sym (ap (λ (m : SourceMode). colourBy m (a .source) (now (a .memory)) (originOf (a .source .surface) (a .source .transform) x (a .y))) (t .enum-told2 .given .1))
+    ∙ sym (ap (λ (m : SourceMode). sourceModeColour m (a .source) (now (a .memory)) (sourcePixelOf (a .source .surface) (a .source .transform) x (a .y))) (t .enum-told2 .given .1))
 
 pub fetch-source-spec : {M : Type 1} → statement M
 fetch-source-spec =

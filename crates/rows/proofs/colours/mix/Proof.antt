@@ -1,5 +1,5 @@
 use borrow.Author.Needs.{needs}
-use Rattle.rows.specs.Mixed.{mixed}
+use Rattle.rows.specs.Mixed.{composite}
 use Rattle.rows.proofs.colours.mix.Statement.{statement}
 use Rattle.rows.proofs.colours.mix.Tie as tie
 
@@ -16,7 +16,7 @@ blend-requires : tie.Need-blend-requires
 blend-requires c κs = search needs
 
 returns : tie.Need-returns
-unfolding mixed
+unfolding composite
 returns c = cc
 
 pub mix-spec : {M : Type 1} → statement M

@@ -1,12 +1,12 @@
 use mathlib.Core.Path.{ap, _∙_}
 use native.Mathlib.Omega.{arith}
 use borrow.Author.Needs.{needs}
-use Rattle.transform.specs.Transform.{Within}
+use Rattle.transform.specs.Transform.{InPicture}
 use Rattle.transform.specs.declared.Point.{Point}
 use Rattle.transform.proofs.Inside.{source-within}
 use Rattle.surface.specs.Surface.{pixelStart}
 use Rattle.register.specs.Size.{sizeOf}
-use Rattle.rows.specs.Row.{originOf}
+use Rattle.rows.specs.Row.{sourcePixelOf}
 use Rattle.rows.proofs.source.origin.Statement.{statement}
 use Rattle.rows.proofs.source.origin.Tie as tie
 
@@ -20,7 +20,7 @@ source-of-requires : tie.Need-source-of-requires
 source-of-requires c κs = search needs
 
 -- the source pixel is one of the surface's
-inside : (c : tie.After-source-of) → Within (sizeOf (c .before .before .before .args .s)) (c .source-of .result)
+inside : (c : tie.After-source-of) → InPicture (sizeOf (c .before .before .before .args .s)) (c .source-of .result)
 inside c =
     let s = c .before .before .before in
     let a = s .args in
@@ -36,7 +36,7 @@ pixel-start-requires : tie.Need-pixel-start-requires
 pixel-start-requires c κs = search needs
 
 returns : tie.Need-returns
-unfolding originOf
+unfolding sourcePixelOf
 returns c =
     let t = c .before .before .before in
     c .pixel-start .ensures ∙ ap (λ (p : Point). pixelStart (t .before .before .before .args .s) (p .x) (p .y)) (t .source-of .ensures)

@@ -1,5 +1,5 @@
 use mathlib.Core.Path.{sym, _∙_}
-use Rattle.rules.specs.Rules.{taskFault}
+use Rattle.rules.specs.Rules.{checkTask}
 use borrow.Author.Needs.{needs}
 use Rattle.rules.proofs.task.check_task.Statement.{statement}
 use Rattle.rules.proofs.task.check_task.Tie as tie
@@ -8,14 +8,14 @@ bad-surface-requires : tie.Need-bad-surface-requires
 bad-surface-requires c κs = search needs
 
 returns : tie.Need-returns
-unfolding taskFault
+unfolding checkTask
 returns c = rw (sym (c .before .bad-surface .ensures) ∙ c .if1 .taken)
 
 size-mismatch-requires : tie.Need-size-mismatch-requires
 size-mismatch-requires c κs = search needs
 
 returns-2 : tie.Need-returns-2
-unfolding taskFault
+unfolding checkTask
 returns-2 c =
     rw (sym (c .before .before .before .bad-surface .ensures) ∙ c .before .before .if1 .left, sym (c .before .size-mismatch .ensures) ∙ c .if2 .taken)
 
@@ -23,7 +23,7 @@ out-of-bounds-requires : tie.Need-out-of-bounds-requires
 out-of-bounds-requires c κs = search needs
 
 returns-3 : tie.Need-returns-3
-unfolding taskFault
+unfolding checkTask
 returns-3 c =
     let s = c .before .before in
     rw (sym (s .before .before .before .bad-surface .ensures) ∙ s .before .before .if1 .left, sym (s .before .size-mismatch .ensures) ∙ s .if2 .left, sym (c .before .out-of-bounds .ensures) ∙ c .if3 .taken)
@@ -32,14 +32,14 @@ overlaps-requires : tie.Need-overlaps-requires
 overlaps-requires c κs = search needs
 
 returns-4 : tie.Need-returns-4
-unfolding taskFault
+unfolding checkTask
 returns-4 c =
     let q = c .before .before in
     let s = q .before .before in
     rw (sym (s .before .before .before .bad-surface .ensures) ∙ s .before .before .if1 .left, sym (s .before .size-mismatch .ensures) ∙ s .if2 .left, sym (q .before .out-of-bounds .ensures) ∙ q .if3 .left, sym (c .before .overlaps .ensures) ∙ c .if4 .taken)
 
 returns-5 : tie.Need-returns-5
-unfolding taskFault
+unfolding checkTask
 returns-5 c =
     let q = c .before .before in
     let s = q .before .before in

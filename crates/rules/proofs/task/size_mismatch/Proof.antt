@@ -3,14 +3,14 @@ use borrow.Author.Needs.{needs}
 use Rattle.rules.proofs.task.size_mismatch.Statement.{statement}
 use Rattle.rules.proofs.task.size_mismatch.Tie as tie
 
-turned-colour-requires : tie.Need-turned-colour-requires
-turned-colour-requires c κs = search needs
+rotated-fill-requires : tie.Need-rotated-fill-requires
+rotated-fill-requires c κs = search needs
 
 size-of-requires : tie.Need-size-of-requires
 size-of-requires c κs = search needs
 
-turned-size-requires : tie.Need-turned-size-requires
-turned-size-requires c κs = search needs
+rotated-source-size-requires : tie.Need-rotated-source-size-requires
+rotated-source-size-requires c κs = search needs
 
 same-size-requires : tie.Need-same-size-requires
 same-size-requires c κs = search needs
@@ -30,9 +30,9 @@ returns c =
     let second = c .before in
     let first = second .before .before .before in
     simp (
-      first .before .before .before .turned-colour .ensures,
+      first .before .before .before .rotated-fill .ensures,
       first .same-size .ensures,
-      first .before .turned-size .ensures,
+      first .before .rotated-source-size .ensures,
       first .before .before .size-of .ensures,
       second .same-size2 .ensures,
       second .before .size-of3 .ensures,
@@ -43,9 +43,9 @@ pub size-mismatch-spec : {M : Type 1} → statement M
 size-mismatch-spec =
     tie.close
     (tie.spec
-    turned-colour-requires
+    rotated-fill-requires
     size-of-requires
-    turned-size-requires
+    rotated-source-size-requires
     same-size-requires
     size-of-requires-2
     size-of-requires-3

@@ -1,7 +1,7 @@
 use mathlib.Core.Path.{sym, ap, _∙_}
 use native.Mathlib.Nat.{not-suc-le-zero}
 use denote.Ref.{now}
-use Rattle.surface.specs.Drawn.{loaded}
+use Rattle.surface.specs.Drawn.{loadPixel}
 use Rattle.rows.specs.Row.{colourAt}
 use Rattle.rows.proofs.Straight.{side-by-side, side-by-side-in}
 use borrow.Author.Needs.{needs}
@@ -32,7 +32,7 @@ returns-2 c =
     let a = s .args in
     λ x z.
     c .before .before .fetch-row .ensures x z
-    ∙ ap (loaded (a .s .format) (now (a .memory))) (rw (o .origin .ensures) (sym (side-by-side (a .s) (a .transform) (s .pre .1) (s .pre .2) x (a .y))))
+    ∙ ap (loadPixel (a .s .format) (now (a .memory))) (rw (o .origin .ensures) (sym (side-by-side (a .s) (a .transform) (s .pre .1) (s .pre .2) x (a .y))))
 
 pub fetch-straight-spec : {M : Type 1} → statement M
 fetch-straight-spec =

@@ -3,8 +3,8 @@ use Prim.Native.Nat.{ℕ, _<_}
 use native.Mathlib.Nat.{not-suc-le-zero}
 use native.Mathlib.Omega.{arith}
 use denote.Ref.{now}
-use Rattle.transform.specs.Transform.{Within, rotatedSize}
-use Rattle.surface.specs.Drawn.{loaded}
+use Rattle.transform.specs.Transform.{InPicture, rotatedSize}
+use Rattle.surface.specs.Drawn.{loadPixel}
 use Rattle.register.specs.Size.{sizeOf}
 use Rattle.rows.specs.Row.{colourAt}
 use Rattle.rows.proofs.Stepping.{origin-stepped, origin-above, stepped-in}
@@ -26,7 +26,7 @@ is-back-requires c κs = search needs
 
 -- output pixel (x, y) is one of the rotated picture
 drawn : (c : tie.After-origin) (x : ℕ) → x < c .before .before .before .before .args .width →
-    Within (rotatedSize (c .before .before .before .before .args .transform .rotation) (sizeOf (c .before .before .before .before .args .s)))
+    InPicture (rotatedSize (c .before .before .before .before .args .transform .rotation) (sizeOf (c .before .before .before .before .args .s)))
     (record { x = x; y = c .before .before .before .before .args .y })
 drawn c x l =
     let p = c .before .before .before .before .pre in
@@ -59,7 +59,7 @@ returns-2 c =
     let a = o .before .before .before .before .args in
     λ x z.
     f .fetch-steps .ensures x z
-    ∙ ap (loaded (a .s .format) (now (a .memory)))
+    ∙ ap (loadPixel (a .s .format) (now (a .memory)))
     (rw (o .origin .ensures, n .step-of .ensures, b .is-back .ensures) (sym (origin-stepped (a .s) (a .transform) x (a .y) (drawn o x z))))
 
 pub fetch-turned-spec : {M : Type 1} → statement M

@@ -6,7 +6,7 @@ use denote.Ref.{now}
 use borrow.Rule.Slice.PartMut.{midOf}
 use Rattle.surface.proofs.Parts.{length-mid}
 use Rattle.rows.specs.Row.{colourIn}
-use Rattle.rows.specs.Mixed.{mixed}
+use Rattle.rows.specs.Mixed.{composite}
 use Rattle.scanline.proofs.Parts.{part-colour, mixed-small, part-spelt, planned-is}
 use borrow.Author.Needs.{needs}
 use Rattle.scanline.proofs.paint.blend_row.Statement.{statement}
@@ -54,9 +54,9 @@ returns c =
     let n : ℕ = a .width * 4 - 0 in
     let long : length (midOf 0 n (now (a .destination))) ≡ n = length-mid 0 n (now (a .destination)) (omega (arith, s .pre .1)) in
     λ x l.
-    part-spelt (λ x. mixed (a .blending) (a .source-alpha) (a .destination-alpha) (colourIn (now (a .source)) x) (colourIn (midOf 0 n (now (a .destination))) x))
+    part-spelt (λ x. composite (a .blending) (a .source-alpha) (a .destination-alpha) (colourIn (now (a .source)) x) (colourIn (midOf 0 n (now (a .destination))) x))
     (now (a .destination)) (f .last .0) (a .width) n (omega arith) (s .pre .1) (f .kept .0 ∙ long) (λ x. mixed-small (a .blending) (a .source-alpha) (a .destination-alpha) _ _) (f .ensures) x l
-    ∙ ap (mixed (a .blending) (a .source-alpha) (a .destination-alpha) (colourIn (now (a .source)) x)) (part-colour (now (a .destination)) n x (omega arith))
+    ∙ ap (composite (a .blending) (a .source-alpha) (a .destination-alpha) (colourIn (now (a .source)) x)) (part-colour (now (a .destination)) n x (omega arith))
 
 pub blend-row-spec : {M : Type 1} → statement M
 blend-row-spec =

@@ -4,7 +4,7 @@ use native.Mathlib.Omega.{arith}
 use lib.ListN.{length}
 use denote.Ref.{now}
 use borrow.Author.Needs.{needs}
-use Rattle.pixel.specs.Formats.{bytesOf}
+use Rattle.pixel.specs.Formats.{bytesPerPixel}
 use Rattle.surface.proofs.Rows.{next}
 use Rattle.scanline.proofs.Begun.{begun, none-begun, more-begun, all-begun}
 use Rattle.scanline.proofs.paint.fill_pixels.Statement.{statement}
@@ -12,7 +12,7 @@ use Rattle.scanline.proofs.paint.fill_pixels.Tie as tie
 
 abbrev Inv-loop : tie.InvT-loop
 Inv-loop row₀ width format c bytes x₀ at₀ row x at =
-    (x ≤ width) × (at ≡ x * bytesOf format) × (row ≡ begun format (λ x. c) x row₀) × (length row ≡ length row₀)
+    (x ≤ width) × (at ≡ x * bytesPerPixel format) × (row ≡ begun format (λ x. c) x row₀) × (length row ≡ length row₀)
 
 abbrev μ-loop : tie.MeasureT-loop
 μ-loop row₀ width format c bytes x₀ at₀ row x at = width - x
@@ -25,10 +25,10 @@ loop-holds c = (search needs, search needs, none-begun _ _ _, refl)
 
 -- the pixel x lies in the row
 fits : (c : tie.In-loop Inv-loop μ-loop) →
-    c .before .loop .at + bytesOf (c .before .before .before .before .args .format) ≤ length (c .before .loop .row)
+    c .before .loop .at + bytesPerPixel (c .before .before .before .before .args .format) ≤ length (c .before .loop .row)
 fits c =
     let a = c .before .before .before .before .args in
-    omega (arith, next (c .before .loop .x) (a .width) (bytesOf (a .format)) (c .loop-test .taken))
+    omega (arith, next (c .before .loop .x) (a .width) (bytesPerPixel (a .format)) (c .loop-test .taken))
 
 store-requires : tie.Need-store-requires Inv-loop μ-loop
 store-requires c κs = fits (c .before)

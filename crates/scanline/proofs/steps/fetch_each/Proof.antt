@@ -5,16 +5,16 @@ use lib.ListN.{length}
 use denote.Ref.{now}
 use borrow.Author.Count.{below-none}
 use borrow.Author.Needs.{needs}
-use Rattle.surface.specs.Drawn.{loaded}
-use Rattle.rows.specs.Row.{Spells}
-use Rattle.rows.specs.Step.{stepped}
+use Rattle.surface.specs.Drawn.{loadPixel}
+use Rattle.rows.specs.Row.{HoldsColours}
+use Rattle.rows.specs.Step.{stridedAddress}
 use Rattle.scanline.proofs.Words.{more-spelt}
 use Rattle.scanline.proofs.steps.fetch_each.Statement.{statement}
 use Rattle.scanline.proofs.steps.fetch_each.Tie as tie
 
 abbrev Inv-loop : tie.InvT-loop
 Inv-loop buffer₀ width memory start step back format x₀ buffer x =
-    (x ≤ width) × Spells buffer x (λ x. loaded format memory (stepped start step back x)) × (length buffer ≡ length buffer₀)
+    (x ≤ width) × HoldsColours buffer x (λ x. loadPixel format memory (stridedAddress start step back x)) × (length buffer ≡ length buffer₀)
 
 abbrev μ-loop : tie.MeasureT-loop
 μ-loop buffer₀ width memory start step back format x₀ buffer x = width - x
@@ -58,7 +58,7 @@ loop-again c =
     let a = s .args in (
       search needs,
       more-spelt _ (l .buffer) (d .store-word .last .0) (l .x) (w .load-as-word .result) (omega (arith, t .loop-test .taken, l .inv .2, s .pre .room)) (omega arith) (l .inv .1) (d .store-word .ensures)
-          (w .load-as-word .ensures ∙ ap (loaded (a .format) (now (a .memory))) (w .before .place .ensures)),
+          (w .load-as-word .ensures ∙ ap (loadPixel (a .format) (now (a .memory))) (w .before .place .ensures)),
       d .store-word .kept .0 ∙ l .inv .2,
     )
 

@@ -3,7 +3,7 @@ use mathlib.Core.Logic.{⊎-elim}
 use Prim.Native.Nat.{_+_, _-_, _*_}
 use native.Mathlib.Omega.{arith}
 use borrow.Author.Needs.{needs}
-use Rattle.pixel.specs.Formats.{bytesOf}
+use Rattle.pixel.specs.Formats.{bytesPerPixel}
 use Rattle.surface.specs.Surface.{span}
 use Rattle.surface.proofs.Sizes.{pixels-most, down-most}
 use Rattle.surface.proofs.Surface.span.Statement.{statement}
@@ -35,7 +35,7 @@ returns : tie.Need-returns
 unfolding span
 returns c =
     let self = c .before .before .before .before .before .args .self in
-    let end : c .before .row-start .result + c .row-length .result ≡ self .address + ((self .height - 1) * self .stride + self .width * bytesOf (self .format)) =
+    let end : c .before .row-start .result + c .row-length .result ≡ self .address + ((self .height - 1) * self .stride + self .width * bytesPerPixel (self .format)) =
     rw (c .row-length .ensures, c .before .row-start .ensures, last-row c) (omega arith) in
     rw end
 

@@ -1,7 +1,7 @@
 use mathlib.Core.Path.{_≡_, refl, sym, _∙_}
 use Prim.Native.Nat.{_-_, _≤_}
 use lib.ListN.{length, drop}
-use Rattle.text.specs.Line.{lineOf, typed}
+use Rattle.text.specs.Line.{lineOf, appended}
 use Rattle.text.proofs.Typing.{typed-none, typed-next}
 use borrow.Author.Needs.{needs}
 use Rattle.text.proofs.line.append.Statement.{statement}
@@ -9,7 +9,7 @@ use Rattle.text.proofs.line.append.Tie as tie
 
 abbrev Inv-loop : tie.InvT-loop
 Inv-loop line₀ n text end₀ i₀ line end i =
-    (i ≤ length text) × (length line ≡ length line₀) × (typed (lineOf line end) (drop i text) ≡ typed (lineOf line₀ n) text)
+    (i ≤ length text) × (length line ≡ length line₀) × (appended (lineOf line end) (drop i text) ≡ appended (lineOf line₀ n) text)
 
 abbrev μ-loop : tie.MeasureT-loop
 μ-loop line₀ n text end₀ i₀ line end i = length text - i

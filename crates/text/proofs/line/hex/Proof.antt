@@ -1,4 +1,4 @@
-use Rattle.text.specs.Line.{typed}
+use Rattle.text.specs.Line.{appended}
 use Rattle.text.specs.Hex.{hexByte}
 use borrow.Author.Needs.{needs}
 use Rattle.text.proofs.line.hex.Statement.{statement}
@@ -20,7 +20,7 @@ same-length : tie.Need-same-length
 same-length c = search needs
 
 returns : tie.Need-returns
-unfolding typed hexByte
+unfolding appended hexByte
 returns c = simp (c .before .before .push2 .ensures, c .before .before .before .digit2 .ensures, c .before .before .before .before .before .before .before .push .ensures, c .before .before .before .before .before .before .before .before .digit .ensures)
 
 pub hex-spec : {M : Type 1} → statement M

@@ -1,4 +1,4 @@
-use Rattle.transform.specs.Transform.{sourceOf}
+use Rattle.transform.specs.Transform.{sourcePixel}
 use Rattle.transform.proofs.Inside.{unrotated-within}
 use borrow.Author.Needs.{needs}
 use Rattle.transform.proofs.Transform.source_of.Statement.{statement}
@@ -14,7 +14,7 @@ origin-requires-2 c κs =
     rw (c .origin .ensures) (unrotated-within (a .self .rotation) (a .size) (a .at) (s .pre))
 
 returns : tie.Need-returns
-unfolding sourceOf
+unfolding sourcePixel
 returns c = cc
 
 pub source-of-spec : {M : Type 1} → statement M

@@ -1,7 +1,7 @@
 use mathlib.Core.Path.{sym, ap, _∙_}
 use Prim.Native.Nat.{_%_}
 use Rattle.batch.specs.declared.verdict.Verdict.{Verdict}
-use Rattle.batch.specs.Batch.{statusOf}
+use Rattle.batch.specs.Batch.{statusWordOf}
 use Rattle.batch.proofs.Tasks.{tasks-rest, fault-rest}
 use borrow.Author.Needs.{needs}
 use Rattle.batch.proofs.verdict.Verdict.status.Statement.{statement}
@@ -26,10 +26,10 @@ status-requires : tie.Need-status-requires
 status-requires c κs = search needs
 
 returns : tie.Need-returns
-returns c = tasks-rest (c .before .self .given .0 .0) ∙ ap (λ (v : Verdict). statusOf v % 4294967296) (sym (c .before .self .given .1))
+returns c = tasks-rest (c .before .self .given .0 .0) ∙ ap (λ (v : Verdict). statusWordOf v % 4294967296) (sym (c .before .self .given .1))
 
 returns-2 : tie.Need-returns-2
-returns-2 c = c .status .ensures ∙ fault-rest (c .before .before .self2 .given .0 .0) ∙ ap (λ (v : Verdict). statusOf v % 4294967296) (sym (c .before .before .self2 .given .1))
+returns-2 c = c .status .ensures ∙ fault-rest (c .before .before .self2 .given .0 .0) ∙ ap (λ (v : Verdict). statusWordOf v % 4294967296) (sym (c .before .before .self2 .given .1))
 
 pub status-spec : {M : Type 1} → statement M
 status-spec =

@@ -1,4 +1,4 @@
-use Rattle.register.specs.Task.{sourceOf}
+use Rattle.register.specs.Task.{sourceOfBank}
 use borrow.Author.Needs.{needs}
 use Rattle.register.proofs.bank.Bank.source.Statement.{statement}
 use Rattle.register.proofs.bank.Bank.source.Tie as tie
@@ -25,7 +25,7 @@ is-enabled-requires : tie.Need-is-enabled-requires
 is-enabled-requires c κs = search needs
 
 returns : tie.Need-returns
-unfolding sourceOf
+unfolding sourceOfBank
 returns c = simp (c .is-enabled .ensures, c .before .alpha .ensures, c .before .before .transform .ensures, c .before .before .before .unpack .ensures, c .before .before .before .before .from-code .ensures, c .before .before .before .before .before .bits .ensures, c .before .before .before .before .before .before .surface .ensures)
 
 pub source-spec : {M : Type 1} → statement M

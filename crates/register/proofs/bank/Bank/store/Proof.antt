@@ -1,4 +1,4 @@
-use Rattle.register.specs.Bank.{stored}
+use Rattle.register.specs.Bank.{bankAfterWrite}
 use borrow.Author.Needs.{needs}
 use Rattle.register.proofs.bank.Bank.store.Statement.{statement}
 use Rattle.register.proofs.bank.Bank.store.Tie as tie
@@ -19,7 +19,7 @@ hold-requires-2 : tie.Need-hold-requires-2
 hold-requires-2 c κs = search needs
 
 returns : tie.Need-returns
-unfolding stored
+unfolding bankAfterWrite
 returns c = simp (c .hold2 .ensures, c .before .hold .ensures, c .before .before .store3 .ensures, c .before .before .before .store2 .ensures, c .before .before .before .before .store .ensures)
 
 pub store-spec : {M : Type 1} → statement M

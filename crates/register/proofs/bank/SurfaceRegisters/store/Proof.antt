@@ -1,4 +1,4 @@
-use Rattle.register.specs.Bank.{storedSurface}
+use Rattle.register.specs.Bank.{surfaceAfterWrite}
 use borrow.Author.Needs.{needs}
 use Rattle.register.proofs.bank.SurfaceRegisters.store.Statement.{statement}
 use Rattle.register.proofs.bank.SurfaceRegisters.store.Tie as tie
@@ -25,7 +25,7 @@ hold-requires-4 : tie.Need-hold-requires-4
 hold-requires-4 c κs = search needs
 
 returns : tie.Need-returns
-unfolding storedSurface
+unfolding surfaceAfterWrite
 returns c = simp (c .hold4 .ensures, c .before .hold3 .ensures, c .before .before .hold2 .ensures, c .before .before .before .hold .ensures)
 
 pub store-spec : {M : Type 1} → statement M

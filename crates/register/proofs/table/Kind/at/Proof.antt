@@ -1,66 +1,66 @@
 use borrow.Author.Tests.{ne-eqb}
-use Rattle.register.specs.Table.{kindOf}
+use Rattle.register.specs.Table.{registerKindOf}
 use Rattle.register.proofs.table.Kind.at.Statement.{statement}
 use Rattle.register.proofs.table.Kind.at.Tie as tie
 
 returns : tie.Need-returns
-unfolding kindOf
+unfolding registerKindOf
 returns c = rw (c .match .keys1)
 
 returns-2 : tie.Need-returns-2
-unfolding kindOf
+unfolding registerKindOf
 returns-2 c = rw (c .match .keys2)
 
 returns-3 : tie.Need-returns-3
-unfolding kindOf
+unfolding registerKindOf
 returns-3 c = rw (c .match .keys3)
 
 returns-4 : tie.Need-returns-4
-unfolding kindOf
+unfolding registerKindOf
 returns-4 c = rw (c .match .keys4)
 
 returns-5 : tie.Need-returns-5
-unfolding kindOf
+unfolding registerKindOf
 returns-5 c = rw (c .match .keys5)
 
 returns-6 : tie.Need-returns-6
-unfolding kindOf
+unfolding registerKindOf
 returns-6 c = rw (c .match .keys6)
 
 returns-7 : tie.Need-returns-7
-unfolding kindOf
+unfolding registerKindOf
 returns-7 c = rw (c .match .keys7)
 
 returns-8 : tie.Need-returns-8
-unfolding kindOf
+unfolding registerKindOf
 returns-8 c = rw (c .match .keys8)
 
 returns-9 : tie.Need-returns-9
-unfolding kindOf
+unfolding registerKindOf
 returns-9 c = rw (c .match .keys9)
 
 returns-10 : tie.Need-returns-10
-unfolding kindOf
+unfolding registerKindOf
 returns-10 c = rw (c .match .keys10)
 
 returns-11 : tie.Need-returns-11
-unfolding kindOf
+unfolding registerKindOf
 returns-11 c = rw (c .match .keys11)
 
 returns-12 : tie.Need-returns-12
-unfolding kindOf
+unfolding registerKindOf
 returns-12 c = rw (c .match .keys12)
 
 returns-13 : tie.Need-returns-13
-unfolding kindOf
+unfolding registerKindOf
 returns-13 c = rw (c .match .keys13)
 
 returns-14 : tie.Need-returns-14
-unfolding kindOf
+unfolding registerKindOf
 returns-14 c = rw (c .match .keys14)
 
 returns-15 : tie.Need-returns-15
-unfolding kindOf
+unfolding registerKindOf
 returns-15 c =
     let r = c .match .rest in
     let o = c .before .args .offset in

@@ -5,8 +5,8 @@ use Rattle.register.proofs.table.Kind.takes.Tie as tie
 enum-told : tie.Need-enum-told
 enum-told c = search needs
 
-source-takes-requires : tie.Need-source-takes-requires
-source-takes-requires c κs = search needs
+source-control-accepts-requires : tie.Need-source-control-accepts-requires
+source-control-accepts-requires c κs = search needs
 
 enum-told-2 : tie.Need-enum-told-2
 enum-told-2 c = search needs
@@ -45,7 +45,7 @@ enum-told-8 : tie.Need-enum-told-8
 enum-told-8 c = search needs
 
 returns : tie.Need-returns
-returns c = rw (c .before .enum-told .given .1) (c .source-takes .ensures)
+returns c = rw (c .before .enum-told .given .1) (c .source-control-accepts .ensures)
 
 returns-2 : tie.Need-returns-2
 returns-2 c = rw (c .before .enum-told2 .given .1) (c .destination-takes .ensures)
@@ -73,7 +73,7 @@ takes-spec =
     tie.close
     (tie.spec
     enum-told
-    source-takes-requires
+    source-control-accepts-requires
     enum-told-2
     destination-takes-requires
     enum-told-3

@@ -1,0 +1,54 @@
+-- Demand 2 holds.
+use mathlib.Core.Path.{_≡_}
+use mathlib.Core.List.{List}
+use Prim.Native.Nat.{ℕ, _<_}
+use native.Mathlib.Omega.{arith}
+use Rattle.register.specs.declared.bank.Bank.{Bank}
+use Rattle.register.specs.Bank.{resetBank}
+use Rattle.rules.specs.declared.fault.Fault.{Fault}
+use Rattle.rules.specs.declared.task.Bounds.{Bounds}
+use Rattle.batch.specs.declared.verdict.Verdict.the-variants.{Faulty}
+use Rattle.batch.proofs.Ways.{words-fit}
+use Rattle.batch.proofs.Tasks.{faultless-marks}
+use Rattle.batch.proofs.Offsets.{fault-inside}
+use Rattle.encoder.proofs.Buffer.{front, others, length-after}
+use Rattle.encoder.proofs.ReadsBack.{reads-back}
+use Rattle.raster.proofs.Fold.{faultless-batch, faulty-batch}
+use Rattle.raster.proofs.Outside.{writes}
+use Rattle.queue.specs.Refusals.{firstRefusal}
+use Rattle.engine.specs.Run.{oldest, boundsOfClient, oldestWords, oldestVerdict}
+use Rattle.model.specs.Calls.{run}
+use Rattle.claims.specs.Engine.{State, performCall}
+use Rattle.claims.specs.Demand1.{refusalTableOf}
+use Rattle.claims.specs.Demand2.{OfBatch, executed, Demand2}
+use Rattle.claims.proofs.Confined.{confined}
+use Rattle.claims.proofs.Cases.{either, by-number}
+
+of-batch : (bounds : Bounds) (bank : Bank) (words memory : List ℕ) → OfBatch bounds bank words memory
+of-batch bounds bank words memory = record {
+  faultless = faultless-batch bounds bank words memory;
+  faulty = faulty-batch bounds bank words memory;
+  writes = writes bounds bank words memory;
+  tasks = faultless-marks bounds bank words;
+  place = fault-inside bounds bank words;
+}
+
+module _ (s : State) where
+  executes : firstRefusal (refusalTableOf run s) ≡ 0 → performCall run s ≡ executed s
+  unfolding either
+  executes z = rw (by-number run s, z)
+
+  place : (fault : Fault) (offset : ℕ) → oldestVerdict (s .engine) (s .ring) ≡ Faulty fault offset → offset < oldest (s .engine) .length
+  place fault offset e =
+      let batch = oldest (s .engine) in
+      let low = fault-inside (boundsOfClient (s .engine) (batch .client)) resetBank (oldestWords (s .engine) (s .ring)) fault offset e in
+      omega (arith, low, words-fit (s .ring) (batch .offset) (batch .length))
+
+pub demand2 : Demand2
+demand2 = record {
+  batch = of-batch;
+  confined = confined;
+  runs = λ s. record { executes = executes s; place = place s };
+  filled = λ fields buffer. record { size = length-after fields buffer; front = front fields buffer; others = others fields buffer };
+  reads-back = reads-back;
+}

@@ -1,0 +1,74 @@
+-- Demand 2: a batch is read, judged and drawn exactly as the papers say. How it is read, judged and drawn is defined in crates batch (`decodeBatch`,
+-- `verdictOf`) and raster (`drawBatch`); this says that run answers and draws by them on any record, ring and memory, and what holds of them for any
+-- batch. proofs/Demand2.antt proves it.
+use mathlib.Core.Path.{_≡_}
+use mathlib.Core.List.{List}
+use Prim.Native.Nat.{ℕ, _*_, _<_}
+use lib.ListN.{length, take, drop}
+use Rattle.register.specs.declared.bank.Bank.{Bank}
+use Rattle.register.specs.Bank.{resetBank}
+use Rattle.rules.specs.declared.fault.Fault.{Fault}
+use Rattle.rules.specs.declared.task.Bounds.{Bounds}
+use Rattle.batch.specs.declared.verdict.Verdict.the-variants.{Faultless, Faulty}
+use Rattle.batch.specs.Batch.{decodeBatch, verdictOf}
+use Rattle.batch.specs.Marks.{taskEndCount}
+use Rattle.encoder.specs.declared.Answer.the-variants.{Written}
+use Rattle.encoder.specs.declared.fields.Fields.{Fields}
+use Rattle.encoder.specs.Encoder.{answerOf, taskBytes, bufferAfter}
+use Rattle.encoder.specs.ReadsBack.{EncodeDecodeRoundTrip}
+use Rattle.raster.specs.Task.{drawTasks}
+use Rattle.raster.specs.Batch.{drawBatch}
+use Rattle.raster.specs.WriteFrame.{WriteFrame}
+use Rattle.queue.specs.Refusals.{firstRefusal}
+use Rattle.engine.specs.Run.{oldest, boundsOfClient, oldestWords, oldestVerdict, withoutOldest}
+use Rattle.model.specs.Calls.{run, completed}
+use Rattle.model.specs.BatchSemantics.{Confined}
+use Rattle.claims.specs.BatchSemantics.{completionStatusOf, semanticsFrom}
+use Rattle.claims.specs.Engine.{State, mkState, CallResult, performCall}
+use Rattle.claims.specs.Demand1.{refusalTableOf}
+
+-- what holds of any batch of these words, read from any bank on, within any bounds, drawn in any memory
+pub record OfBatch (bounds : Bounds) (bank : Bank) (words memory : List ℕ) : Type 0 where
+  -- "draws it if faultless": all its tasks, each on what the tasks before it left
+  pub faultless : (number : ℕ) → verdictOf (decodeBatch bounds bank words) ≡ Faultless number →
+      drawTasks (decodeBatch bounds bank words .tasks) memory ≡ drawBatch bounds bank words memory
+  -- "A faulty batch draws nothing at all"
+  pub faulty : (fault : Fault) (offset : ℕ) → verdictOf (decodeBatch bounds bank words) ≡ Faulty fault offset → drawBatch bounds bank words memory ≡ memory
+  -- "no byte outside a task's output rows changes": what is written, with what, and what is not
+  pub writes : WriteFrame bounds bank words memory
+  -- the task number "is the task-end marks in the batch"
+  pub tasks : (number : ℕ) → verdictOf (decodeBatch bounds bank words) ≡ Faultless number → number ≡ taskEndCount words
+  -- a fault's place, in bytes, lies in the batch
+  pub place : (fault : Fault) (offset : ℕ) → verdictOf (decodeBatch bounds bank words) ≡ Faulty fault offset → offset < 4 * length words
+
+-- what run answers and leaves: the oldest batch, read from the reset values on and within its client's bounds, is judged and drawn
+abbrev pub executed : State → CallResult
+executed s =
+    let batch = oldest (s .engine) in
+    record {
+      answer = completed (batch .client) (batch .ticket) (completionStatusOf (oldestVerdict (s .engine) (s .ring)));
+      after =
+          mkState (withoutOldest (s .engine)) (s .ring)
+          (drawBatch (boundsOfClient (s .engine) (batch .client)) resetBank (oldestWords (s .engine) (s .ring)) (s .memory));
+    }
+
+pub record OfRun (s : State) : Type 0 where
+  -- a run that is not refused: its verdict and its drawing
+  pub executes : firstRefusal (refusalTableOf run s) ≡ 0 → performCall run s ≡ executed s
+  -- a fault's place lies in the batch as it was submitted
+  pub place : (fault : Fault) (offset : ℕ) → oldestVerdict (s .engine) (s .ring) ≡ Faulty fault offset → offset < oldest (s .engine) .length
+
+-- "fills the first 80 bytes, no others"; of a refusal Demand1 says that it changes none
+pub record Filled (fields : Fields) (buffer : List ℕ) : Type 0 where
+  pub size : length (bufferAfter fields buffer) ≡ length buffer
+  pub front : answerOf fields (length buffer) ≡ Written → take 80 (bufferAfter fields buffer) ≡ taskBytes fields
+  pub others : answerOf fields (length buffer) ≡ Written → drop 80 (bufferAfter fields buffer) ≡ drop 80 buffer
+
+pub record Demand2 : Type 0 where
+  pub batch : (bounds : Bounds) (bank : Bank) (words memory : List ℕ) → OfBatch bounds bank words memory
+  -- a batch is drawn out of its client's window and common alone, and changes the window alone
+  pub confined : (bank : Bank) → Confined (semanticsFrom bank)
+  pub runs : (s : State) → OfRun s
+  pub filled : (fields : Fields) (buffer : List ℕ) → Filled fields buffer
+  -- "what the task writer writes reads back as the same task"
+  pub reads-back : (bounds : Bounds) (bank : Bank) → EncodeDecodeRoundTrip bounds bank

@@ -1,0 +1,62 @@
+-- The queue (01, "Engine, desks, queue"), of the engine after any list of calls from an accepted set up: where a batch is put, which one run takes,
+-- and that the others wait on with their bytes. proofs/Queue.antt proves `Promise`.
+use mathlib.Core.Path.{_≡_}
+use mathlib.Core.Bool.{true}
+use mathlib.Core.List.{List, [], _∷_, _++_}
+use Prim.Native.Nat.{ℕ, _+_, _-_}
+use lib.ListN.{length}
+use Rattle.word.specs.Word.{words}
+use Rattle.ring.specs.Segment.{segment, wrapOffset}
+use Rattle.record.specs.declared.Batch.{Batch}
+use Rattle.record.specs.Slots.{totalLength}
+use Rattle.record.specs.Clients.{openWindows}
+use Rattle.record.specs.Queue.{freeBytes, writeOffset, waiting}
+use Rattle.record.specs.Rules.{valid}
+use Rattle.queue.specs.Refusals.{firstRefusal}
+use Rattle.queue.specs.Calls.{newBatch}
+use Rattle.engine.specs.Run.{oldest, oldestWords}
+use Rattle.model.specs.Windows.{Window}
+use Rattle.model.specs.Calls.{Setup, Call, opens, submit, run}
+use Rattle.claims.specs.Engine.{State, performCall, SetUpAccepted}
+use Rattle.claims.specs.Demand1.{refusalTableOf}
+use Rattle.claims.specs.Demand3.{finalState}
+
+-- the bytes of a batch in the ring; of batches, in order
+abbrev pub bytesIn : (ring : List ℕ) → Batch → List ℕ
+bytesIn ring b = segment ring (b .offset) (b .length)
+
+unfoldable pub contents : (ring : List ℕ) → List Batch → List (List ℕ)
+contents ring [] = []
+contents ring (b ∷ bs) = bytesIn ring b ∷ contents ring bs
+
+-- before and after an accepted submit: the batch is the last to wait, the ring holds its bytes, and the others keep theirs
+pub record Submitted (client : ℕ) (bytes : List ℕ) (s after : State) : Type 0 where
+  pub last : waiting (after .engine) ≡ waiting (s .engine) ++ newBatch (s .engine) client (length bytes) ∷ []
+  pub copied : contents (after .ring) (waiting (after .engine)) ≡ contents (s .ring) (waiting (s .engine)) ++ bytes ∷ []
+
+-- before and after a run that is not refused: it took the first that waited, which lay at the read offset; the others wait on, with their bytes
+pub record Taken (s after : State) : Type 0 where
+  pub first : waiting (s .engine) ≡ oldest (s .engine) ∷ waiting (after .engine)
+  pub at-read : oldest (s .engine) .offset ≡ s .engine .read
+  pub whole : oldestWords (s .engine) (s .ring) ≡ words (bytesIn (s .ring) (oldest (s .engine)))
+  pub kept : contents (s .ring) (waiting (s .engine)) ≡ bytesIn (s .ring) (oldest (s .engine)) ∷ contents (after .ring) (waiting (after .engine))
+
+pub record Queue (s : State) : Type 0 where
+  -- the record keeps its rules: 11 never comes
+  pub sound : valid (s .engine) ≡ true
+  -- "A desk is opened with a window": it is the last
+  pub opened : (w : Window) → firstRefusal (refusalTableOf (opens w) s) ≡ 0 →
+      openWindows (performCall (opens w) s .after .engine) ≡ openWindows (s .engine) ++ record { start = w .start; length = w .length } ∷ []
+  -- "Submit copies the batch into the ring after the newest one (at the read offset if none is ready)"
+  pub after-newest : (batches : List Batch) (newest : Batch) → waiting (s .engine) ≡ batches ++ newest ∷ [] →
+      writeOffset (s .engine) ≡ wrapOffset (s .engine .setup .ring) (newest .offset + newest .length)
+  pub none-ready : waiting (s .engine) ≡ [] → writeOffset (s .engine) ≡ s .engine .read
+  pub submitted : (client : ℕ) (bytes : List ℕ) → firstRefusal (refusalTableOf (submit client bytes) s) ≡ 0 →
+      Submitted client bytes s (performCall (submit client bytes) s .after)
+  -- "Run takes the oldest batch .. frees its slot and ring bytes"
+  pub taken : firstRefusal (refusalTableOf run s) ≡ 0 → Taken s (performCall run s .after)
+  -- "free ring bytes are the ring less the waiting lengths"
+  pub free : freeBytes (s .engine) ≡ s .engine .setup .ring - totalLength (waiting (s .engine))
+
+abbrev pub Promise : Type 0
+Promise = (setup : Setup) (ring : List ℕ) → SetUpAccepted setup → (calls : List Call) (memory : List ℕ) → Queue (finalState setup ring calls memory)

@@ -1,0 +1,123 @@
+use mathlib.Core.Path.{_≡_, refl, sym, _∙_}
+use mathlib.Core.Bool.{true}
+use Prim.Native.Nat.{_+_, _≤_, _<_}
+use native.Mathlib.Omega.{arith}
+use borrow.Author.Needs.{needs}
+use borrow.Author.Tests.{not-true, not-false}
+use Rattle.record.proofs.Walk.{walk, walk-missing, walk-unfit, walk-next, walk-done, Fitting, fitting, fitsIn, walk-rules}
+use Rattle.record.specs.Rules.{batchRules}
+use Rattle.ring.proofs.Wrapped.{wrapped-below}
+use Rattle.record.proofs.batches_valid.Statement.{statement}
+use Rattle.record.proofs.batches_valid.Tie as tie
+
+abbrev Inv-loop : tie.InvT-loop
+Inv-loop engine slots next ring k₀ offset₀ room₀ k offset room = (k ≤ 8) × (offset < ring) × (room ≤ ring) × (walk ring (engine .opened) k next slots offset room ≡ walk ring (engine .opened) k₀ next slots offset₀ room₀)
+
+abbrev μ-loop : tie.MeasureT-loop
+μ-loop engine slots next ring k₀ offset₀ room₀ k offset room = k
+
+-- the walk from the start on decides the rules
+decided : (c : tie.After-taken-slots Inv-loop μ-loop) →
+    walk (c .before .before .before .args .engine .setup .ring) (c .before .before .before .args .engine .opened) (c .taken-slots .result) (c .before .before .before .args .engine .next) (c .before .before .before .args .engine .slots) (c .before .before .before .args .engine .read) (c .before .before .before .args .engine .setup .ring)
+    ≡ batchRules (c .before .before .before .args .engine)
+decided c = rw (c .taken-slots .ensures .0) (walk-rules (c .before .before .before .args .engine) _ _ _ _ _ _)
+
+-- what the test of a batch tells
+told : (c : tie.After-fits-in Inv-loop μ-loop) → c .fits-in .result ≡ fitsIn (c .before .before .before .before .before .before .before .before .before .before .before .args .engine .setup .ring) (c .before .before .before .before .before .before .before .before .before .before .before .args .engine .opened) (c .before .before .before .before .before .before .before .loop .offset) (c .before .before .before .before .before .before .before .loop .room) (c .before .before .batch-of .result)
+told c = c .fits-in .ensures ∙ rw (c .before .is-open .ensures)
+
+fit : (c : tie.Else2 Inv-loop μ-loop) → fitsIn (c .before .before .before .before .before .before .before .before .before .before .before .before .args .engine .setup .ring) (c .before .before .before .before .before .before .before .before .before .before .before .before .args .engine .opened) (c .before .before .before .before .before .before .before .before .loop .offset) (c .before .before .before .before .before .before .before .before .loop .room) (c .before .before .before .batch-of .result) ≡ true
+fit c = sym (told (c .before)) ∙ not-false _ (c .if2 .left)
+
+fits : (c : tie.Else2 Inv-loop μ-loop) → Fitting (c .before .before .before .before .before .before .before .before .before .before .before .before .args .engine .setup .ring) (c .before .before .before .before .before .before .before .before .before .before .before .before .args .engine .opened) (c .before .before .before .before .before .before .before .before .loop .offset) (c .before .before .before .before .before .before .before .before .loop .room) (c .before .before .before .batch-of .result)
+fits c = fitting _ _ _ _ _ (fit c)
+
+taken-slots-requires : tie.Need-taken-slots-requires Inv-loop μ-loop
+taken-slots-requires c κs = search needs
+
+loop-holds : tie.Need-loop-holds Inv-loop μ-loop
+loop-holds c = (c .taken-slots .ensures .1, c .before .before .before .pre .1, omega arith, refl)
+
+slot-of-age-requires : tie.Need-slot-of-age-requires Inv-loop μ-loop
+slot-of-age-requires c κs = omega arith
+
+returns : tie.Need-returns Inv-loop μ-loop
+returns c = let l = c .before .before .before in
+    let p = c .before .slot-of-age in
+    walk-missing _ _ _ _ _ _ _ (c .before .before .loop-test .taken) (p .result) (p .ensures) (omega (arith, c .before .before .before .before .taken-slots .ensures .2)) ∙ l .loop .inv .3 ∙ decided (c .before .before .before .before)
+
+mul-batch-of : tie.Need-mul-batch-of Inv-loop μ-loop
+mul-batch-of c = omega arith
+
+array-copy-out-batch-of : tie.Need-array-copy-out-batch-of Inv-loop μ-loop
+array-copy-out-batch-of c = omega arith
+
+batch-of-requires : tie.Need-batch-of-requires Inv-loop μ-loop
+batch-of-requires c κs = search needs
+
+is-open-requires : tie.Need-is-open-requires Inv-loop μ-loop
+is-open-requires c κs = search needs
+
+fits-in-requires : tie.Need-fits-in-requires Inv-loop μ-loop
+fits-in-requires c κs = search needs
+
+returns-2 : tie.Need-returns-2 Inv-loop μ-loop
+returns-2 c = let l = c .before .before .before .before .before .before .before .before in
+    let p = c .before .before .before .before .before .before .slot-of-age in
+    let j = c .before .before .before .batch-of in
+    let e = sym (told (c .before)) ∙ not-true _ (c .if2 .taken) in
+    walk-unfit _ _ _ _ _ _ _ (c .before .before .before .before .before .before .before .loop-test .taken) (p .result) (p .ensures) (omega (arith, c .before .before .before .before .before .before .before .before .before .taken-slots .ensures .2)) (j .result) (j .ensures) e ∙ l .loop .inv .3 ∙ decided (c .before .before .before .before .before .before .before .before .before)
+
+add-wrap : tie.Need-add-wrap Inv-loop μ-loop
+add-wrap c = let f = fits c .within in omega arith
+
+wrap-requires : tie.Need-wrap-requires Inv-loop μ-loop
+wrap-requires c κs = search needs
+
+sub-room : tie.Need-sub-room Inv-loop μ-loop
+sub-room c = fits (c .before) .within
+
+sub-k : tie.Need-sub-k Inv-loop μ-loop
+sub-k c = omega arith
+
+loop-less : tie.Need-loop-less Inv-loop μ-loop
+loop-less c = omega arith
+
+loop-again : tie.Need-loop-again Inv-loop μ-loop
+loop-again c = let l = c .before .before .before .before .before .before .before .before .before in
+    let p = c .before .before .before .before .before .before .before .slot-of-age in
+    let j = c .before .before .before .before .batch-of in
+    let f = fits (c .before) .within in
+    let small = c .before .before .before .before .before .before .before .before .before .before .before .before .before .pre in (
+      omega arith,
+      rw (c .wrap .ensures) (wrapped-below (c .before .before .before .before .before .before .before .before .before .before .before .before .before .args .engine .setup .ring) (l .loop .offset + j .result .length) (omega arith)),
+      omega arith,
+      walk-next _ _ _ _ _ _ _ (c .before .before .before .before .before .before .before .before .loop-test .taken) (p .result) (p .ensures) (omega (arith, c .before .before .before .before .before .before .before .before .before .before .taken-slots .ensures .2)) (j .result) (j .ensures) (fit (c .before)) (c .wrap .result) (c .wrap .ensures) ∙ l .loop .inv .3,
+    )
+
+returns-3 : tie.Need-returns-3 Inv-loop μ-loop
+returns-3 c = walk-done _ _ _ _ _ _ _ (c .loop-test .left) ∙ c .before .loop .inv .3 ∙ decided (c .before .before)
+
+pub batches-valid-spec : {M : Type 1} → statement M
+batches-valid-spec =
+    tie.close
+    (tie.spec
+    Inv-loop
+    μ-loop
+    taken-slots-requires
+    loop-holds
+    slot-of-age-requires
+    returns
+    mul-batch-of
+    array-copy-out-batch-of
+    batch-of-requires
+    is-open-requires
+    fits-in-requires
+    returns-2
+    add-wrap
+    wrap-requires
+    sub-room
+    sub-k
+    loop-less
+    loop-again
+    returns-3)

@@ -1,0 +1,38 @@
+-- Internal: what the code's value of a call stands for, given the script's bytes that begin with the call.
+use mathlib.Core.Path.{_≡_}
+use mathlib.Core.List.{List}
+use Prim.Native.Nat.{ℕ, _-_, _≤_}
+use lib.ListN.{length, take, drop}
+use Rattle.model.specs.Calls.{Call, opens, submit, run, pending}
+use Rattle.session.specs.declared.script.Request.{Request}
+use Rattle.session.specs.declared.script.Request.the-variants.{Open, Submit, Run, Pending}
+use Rattle.session.specs.declared.script.Next.{Next}
+use Rattle.session.specs.declared.script.Next.the-variants.{End, Call as Begins}
+use Rattle.session.specs.Script.{Parsed, ended, parsed}
+
+-- submit's batch is the bytes `from` to `to`
+abbrev pub callOf : List ℕ → Request → Call
+callOf bytes (Open start length) = opens (record { start = start; length = length })
+callOf bytes (Submit client from to) = submit client (take (to - from) (drop from bytes))
+callOf bytes Run = run
+callOf bytes (Pending client) = pending client
+
+-- these bytes lie inside the script
+abbrev pub BatchInBounds : (size : ℕ) → Request → Type 0
+BatchInBounds size (Open start length) = Unit {0}
+BatchInBounds size (Submit client from to) = (from ≤ to) × (to ≤ size)
+BatchInBounds size Run = Unit {0}
+BatchInBounds size (Pending client) = Unit {0}
+
+abbrev pub parsedOf : List ℕ → Next → Parsed
+parsedOf bytes End = ended
+parsedOf bytes (Begins found) = parsed (callOf bytes (found .request)) (drop (found .size) bytes)
+
+abbrev pub CallInBounds : (size : ℕ) → Next → Type 0
+CallInBounds size End = Unit {0}
+CallInBounds size (Begins found) = (found .size ≤ size) × BatchInBounds size (found .request)
+
+-- the code's value stands for what is parsed, and lies in the bytes
+pub record ParsesAs (bytes : List ℕ) (p : Parsed) (r : Next) : Type 0 where
+  pub means : parsedOf bytes r ≡ p
+  pub within : CallInBounds (length bytes) r

@@ -1,0 +1,86 @@
+//! The tables of the papers as lines of text, as this program acts by them: registers with their allowed bits and reset values,
+//! blend modes, faults with their status words, and each call's refusals in their order.
+use crate::batch::Fault;
+use crate::calls::{call, Buffers, Call};
+use crate::engine::Numbers;
+use crate::pixel::RULES;
+use crate::registers::{allowed_bits, offsets, Bank};
+use crate::tint::tinted;
+use crate::writer::{reset_with, written};
+
+pub fn register_line(offset: u32, bits: u32, reset: u32) -> String {
+    format!("register 0x{offset:03X}: bits 0x{bits:08X}, reset 0x{reset:08X}")
+}
+
+pub fn fault_line(number: u32, status: u32) -> String {
+    format!("fault {number}: status 0x{status:08X}")
+}
+
+pub fn blend_line(name: &str, source: u8, destination: u8) -> String {
+    format!("blend mode {name}: factors {source}, {destination}")
+}
+
+pub fn refusal_line(call: &str, numbers: &[u32]) -> String {
+    format!("{call}: refusals {numbers:?}")
+}
+
+pub fn lines() -> Vec<String> {
+    let reset = Bank::reset();
+    let registers = offsets().into_iter().map(|offset| register_line(offset, allowed_bits(offset), reset.word(offset)));
+    let blends = RULES.iter().map(|(name, source, destination)| blend_line(name, *source, *destination));
+    let faults = (20..=28).map(|number| fault_line(number, Fault { number, place: 0 }.status()));
+    registers.chain(blends).chain(faults).chain(refusals()).collect()
+}
+
+const GOOD: Numbers = Numbers { ring: 128, memory: 1024, common: 256 };
+
+/// An engine with some clients open, and some batches of 16 bytes ready.
+fn buffers(clients: u32, batches: usize) -> Buffers {
+    let mut buffers = Buffers { engine: vec![0; 272], ring: vec![0; 128], memory: vec![0; 1024] };
+    let mut accepted = |asked: &Call| assert_eq!(call(asked, &mut buffers).number, 0);
+    accepted(&Call::SetUp(GOOD));
+    (0..clients).for_each(|client| accepted(&Call::Open { start: 256 + 64 * client, length: 64 }));
+    (0..batches).for_each(|_| accepted(&Call::Submit { client: 0, batch: &[0; 16] }));
+    buffers
+}
+
+fn number(asked: &Call, mut on: Buffers) -> u32 {
+    call(asked, &mut on).number
+}
+
+/// Of each call: first everything is wrong with it, then one thing after the other is put right.
+fn refusals() -> Vec<String> {
+    let none = || Buffers { engine: vec![0; 272], ..buffers(0, 0) };
+    let no_room = || Buffers { engine: vec![], ..buffers(0, 0) };
+    let other_ring = |clients, batches| Buffers { ring: vec![0; 64], ..buffers(clients, batches) };
+    let set_up = |ring| Call::SetUp(Numbers { ring, memory: 1 << 25, common: 0 });
+    let open = Call::Open { start: 0, length: 1 };
+    let submit = |client, batch| Call::Submit { client, batch };
+    let pending = Call::Pending { client: 4 };
+    let of_submit = [
+        number(&submit(4, &[]), none()),
+        number(&submit(4, &[]), other_ring(4, 8)),
+        number(&submit(4, &[]), buffers(4, 8)),
+        number(&submit(0, &[]), buffers(4, 8)),
+        number(&submit(0, &[0; 20]), buffers(4, 8)),
+        number(&submit(0, &[0; 20]), buffers(4, 7)),
+    ];
+    let of_run = [none(), other_ring(0, 0), buffers(0, 0)].map(|on| number(&Call::Run, on));
+    vec![
+        refusal_line("set up", &[number(&set_up(0), no_room()), number(&set_up(0), none()), number(&set_up(128), none())]),
+        refusal_line("open", &[none(), buffers(4, 0), buffers(3, 0)].map(|on| number(&open, on))),
+        refusal_line("submit", &of_submit),
+        refusal_line("run", &of_run),
+        refusal_line("pending", &[none(), buffers(4, 0)].map(|on| number(&pending, on))),
+        refusal_line("encode", &[8192, 1].map(|width| encode(width, 0))),
+        refusal_line("encode tint", &[(f32::NAN, 8192), (1.0, 8192), (1.0, 1)].map(|(score, width)| tint(score, width, 0))),
+    ]
+}
+
+fn encode(width: u32, room: usize) -> u32 {
+    written(&reset_with(&[(0, width)]), room).err().unwrap_or(0)
+}
+
+fn tint(score: f32, width: u32, room: usize) -> u32 {
+    tinted(score.to_bits(), [0; 3], [width, 1, 8, 0, 0], room).err().unwrap_or(0)
+}
