@@ -20,9 +20,10 @@ load-row-requires : tie.Need-load-row-requires
 load-row-requires c κs =
     let s = c .before .before .before .before .before in
     let a = s .args in
-    let p = s .pre .0 in
-    (rw (c .origin .ensures) (side-by-side-in (a .s) (a .transform) (s .pre .1) (s .pre .2) (a .y) (a .width) _ (rw (s .pre .1) at (p .down)) (rw (s .pre .1) at (p .across)) (p .inside)),
-    narrower (a .s .format) (a .width) (length (now (a .buffer))) (p .room))
+    let p = s .pre .0 in (
+      rw (c .origin .ensures) (side-by-side-in (a .s) (a .transform) (s .pre .1) (s .pre .2) (a .y) (a .width) _ (rw (s .pre .1) at (p .down)) (rw (s .pre .1) at (p .across)) (p .inside)),
+      narrower (a .s .format) (a .width) (length (now (a .buffer))) (p .room),
+    )
 
 same-length : tie.Need-same-length
 same-length c = search needs
