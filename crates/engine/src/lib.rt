@@ -22,6 +22,7 @@ use record::Record;
 use record::Slot;
 use record::SlotState;
 use register::Bank;
+use reset::ResetRule;
 use rules::Bounds;
 
 // What run answers of the batch that it took. The verdict holds the fault, if there is one.
@@ -42,11 +43,11 @@ pub struct Ran {
     pub engine: Record,
 }
 
-// Set up with the lengths of ring, memory and common.
-pub fn set_up(ring: usize, memory: usize, common: usize) -> Reply
-    ensures { λ r. ⌜ r ≡ setUpResult ring memory common ⌝ }
+// Set up with the lengths of ring, memory and common, and the reset rule.
+pub fn set_up(ring: usize, memory: usize, common: usize, reset: ResetRule) -> Reply
+    ensures { λ r. ⌜ r ≡ setUpResult ring memory common reset ⌝ }
 {
-    queue::set_up(ring, memory, common)
+    queue::set_up(ring, memory, common, reset)
 }
 
 // Opens a client with a window.
@@ -173,6 +174,7 @@ pub fn run_by(engine: Record, ring: &[u8], memory: &mut [u8], slow: bool) -> Ran
             engine: engine,
         };
     }
+    let setup = engine.setup;
     let slots = engine.slots;
     let at = oldest_slot(engine);
     let batch = record::batch_of(slots[at]);
@@ -183,7 +185,7 @@ pub fn run_by(engine: Record, ring: &[u8], memory: &mut [u8], slow: bool) -> Ran
         batch.offset,
         batch.length,
         bounds,
-        Bank::reset(),
+        Bank::reset(setup.reset),
         slow,
     );
     let completion = Completion {
