@@ -11,7 +11,7 @@ ghost use Rattle.record.specs.Queue.{takenSlots};
 ghost use Rattle.record.specs.Rules.{valid};
 ghost use Rattle.queue.specs.Refusals.{firstRefusal};
 ghost use Rattle.queue.specs.Calls.{setUpResult, openResult, submitResult, submitRing, pendingAnswer};
-ghost use Rattle.engine.specs.Run.{runTable, oldestTicket, oldest, boundsOfClient, pendingLowered, withoutOldest, runResult, runMemory};
+ghost use Rattle.engine.specs.Run.{runTable, oldestTicket, oldest, boundsOfClient, resetOf, pendingLowered, withoutOldest, runResult, runMemory};
 use batch::Verdict;
 use queue::Answer;
 use queue::Reply;
@@ -107,6 +107,15 @@ fn bounds_for(engine: Record, client: u32) -> Bounds
     }
 }
 
+// The registers at the start of every batch.
+fn bank_for(engine: Record) -> Bank
+    ensures { λ r. ⌜ r ≡ resetOf engine ⌝ }
+{
+    let setup = engine.setup;
+    let rule = setup.reset;
+    Bank::reset(rule)
+}
+
 // One batch fewer pending for a client.
 fn lower(clients: [Client; 4], client: u32) -> [Client; 4]
     requires { ⌜ (client < 4) × (1 ≤ getD clients client noClient .pending) ⌝ }
@@ -174,7 +183,6 @@ pub fn run_by(engine: Record, ring: &[u8], memory: &mut [u8], slow: bool) -> Ran
             engine: engine,
         };
     }
-    let setup = engine.setup;
     let slots = engine.slots;
     let at = oldest_slot(engine);
     let batch = record::batch_of(slots[at]);
@@ -185,7 +193,7 @@ pub fn run_by(engine: Record, ring: &[u8], memory: &mut [u8], slow: bool) -> Ran
         batch.offset,
         batch.length,
         bounds,
-        Bank::reset(setup.reset),
+        bank_for(engine),
         slow,
     );
     let completion = Completion {
