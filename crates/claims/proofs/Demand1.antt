@@ -6,7 +6,6 @@ use Prim.Native.Nat.{ℕ, zero, suc}
 use native.Mathlib.Omega.{arith}
 use lib.ListN.{length}
 use lib.Dec.{ltb}
-use Rattle.register.specs.Bank.{resetBank}
 use Rattle.rules.specs.declared.fault.Fault.{Fault}
 use Rattle.rules.specs.Faults.{faultNumber, faultStatus}
 use Rattle.batch.specs.declared.verdict.Verdict.the-variants.{Faulty}
@@ -18,7 +17,7 @@ use Rattle.encoder.specs.Fields.{allowed}
 use Rattle.encoder.specs.Encoder.{answerOf, bufferOnAnswer, bufferAfter, taskBytes, encodeRefusalOf as encoderNumber}
 use Rattle.queue.specs.Refusals.{firstRefusal}
 use Rattle.queue.proofs.Stays.{set-up-number}
-use Rattle.engine.specs.Run.{oldest, boundsOfClient, oldestWords, oldestVerdict, withoutOldest}
+use Rattle.engine.specs.Run.{oldest, boundsOfClient, oldestWords, resetOf, oldestVerdict, withoutOldest}
 use Rattle.model.specs.Calls.{Call, run, completed, refused}
 use Rattle.claims.specs.Engine.{State, mkState, CallResult, performCall}
 use Rattle.claims.specs.Demand1.{refusalTableOf, encoderTable, OfCalls, OfEncoder, Demand1}
@@ -51,7 +50,7 @@ module _ (s : State) where
       }
   unfolding either
   faulty fault place z e =
-      let same = faulty-batch (boundsOfClient (s .engine) (oldest (s .engine) .client)) resetBank (oldestWords (s .engine) (s .ring)) (s .memory) fault place e in
+      let same = faulty-batch (boundsOfClient (s .engine) (oldest (s .engine) .client)) (resetOf (s .engine)) (oldestWords (s .engine) (s .ring)) (s .memory) fault place e in
       rw (by-number run s, z, same, e)
 
   of-calls : OfCalls s

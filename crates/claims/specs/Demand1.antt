@@ -61,6 +61,6 @@ pub record OfEncoder (fields : Fields) (buffer : List ℕ) : Type 0 where
 
 pub record Demand1 : Type 0 where
   -- set up's refusal, 0 for none, is by its table; it is lent nothing
-  pub set-up : (setup : Setup) → refusalNumberOf (setUpResult (setup .ring) (setup .memory) (setup .common) .answer) ≡ firstRefusal (setUpTable setup)
+  pub set-up : (setup : Setup) → refusalNumberOf (setUpResult (setup .ring) (setup .memory) (setup .common) (setup .reset) .answer) ≡ firstRefusal (setUpTable setup)
   pub calls : (s : State) → OfCalls s
   pub encoder : (fields : Fields) (buffer : List ℕ) → OfEncoder fields buffer

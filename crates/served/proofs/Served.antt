@@ -183,13 +183,13 @@ both-zero false n e = absurd (omega arith)
 
 module _ (setup : Setup) (before bytes ring memory : List ℕ) (u : SetsUp before (setup .ring) (setup .memory) (setup .common) 0 bytes) where
   abbrev made : Record
-  made = setUpResult (setup .ring) (setup .memory) (setup .common) .engine
+  made = setUpResult (setup .ring) (setup .memory) (setup .common) (setup .reset) .engine
 
   abbrev numbers : Numbers
   numbers = record { ring = setup .ring; memory = setup .memory; common = setup .common }
 
   taken : SetUpAccepted setup
-  taken = both-zero (eqb (length before) 272) (refusalNumberOf (setUpResult (setup .ring) (setup .memory) (setup .common) .answer)) (u .number-is)
+  taken = both-zero (eqb (length before) 272) (refusalNumberOf (setUpResult (setup .ring) (setup .memory) (setup .common) (setup .reset) .answer)) (u .number-is)
 
   typed-made : Typed made
   unfolding setUpResult

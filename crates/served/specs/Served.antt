@@ -79,8 +79,8 @@ AllPlain (c ∷ cs) = Plain c × AllPlain cs
 -- ---- the promise: every answer and every byte of memory is the reference model's, every byte of the ring the engine's
 
 pub record Served (setup : Setup) (ring memory : List ℕ) (calls : List Call) (said : List Answer) (last : Lent) : Type 0 where
-  pub every-answer : said ≡ answers batchSemantics setup (length ring) calls (initialModel memory)
-  pub every-byte : last .memory ≡ modelAfterAll batchSemantics setup (length ring) calls memory .memory
+  pub every-answer : said ≡ answers (batchSemantics setup) setup (length ring) calls (initialModel memory)
+  pub every-byte : last .memory ≡ modelAfterAll (batchSemantics setup) setup (length ring) calls memory .memory
   pub ring-end : last .ring ≡ stateAfter calls (initialState setup ring memory) .ring
 
 abbrev pub Promise : Type 0
