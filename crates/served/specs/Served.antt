@@ -85,7 +85,7 @@ pub record Served (setup : Setup) (ring memory : List ℕ) (calls : List Call) (
 
 abbrev pub Promise : Type 0
 Promise = (setup : Setup) (before bytes ring memory : List ℕ) (calls : List Call) (said : List Answer) (last : Lent) →
-    SetsUp before (setup .ring) (setup .memory) (setup .common) 0 bytes →
+    SetsUp before (setup .ring) (setup .memory) (setup .common) (setup .reset) 0 bytes →
     AllPlain calls →
     ServesAll calls (record { bytes = bytes; ring = ring; memory = memory }) said last →
     Served setup ring memory calls said last

@@ -9,6 +9,7 @@ use lib.Seq.{drop-drop, drop-length}
 use lib.Dec.{eqb}
 use borrow.Author.Tests.{lt-ltb, le-ltb, eq-eqb, ne-eqb}
 use borrow.Rule.Slice.PartMut.{putMid}
+use Rattle.reset.specs.declared.ResetRule.{ResetRule}
 use Rattle.word.specs.Word.{wordsBytes}
 use Rattle.word.specs.Splice.{spliced}
 use Rattle.word.proofs.Splice.{length-spliced, take-spliced, drop-spliced}
@@ -37,13 +38,13 @@ unfolding answerUnlessRefused
 value-set zero = refl
 value-set (suc n) = refl
 
-set-up-value : (ring memory common : ℕ) → valueOf (setUpResult ring memory common .answer) ≡ 0
+set-up-value : (ring memory common : ℕ) (reset : ResetRule) → valueOf (setUpResult ring memory common reset .answer) ≡ 0
 unfolding setUpResult
-set-up-value ring memory common = value-set (firstRefusal (setUpTable (record { ring = ring; memory = memory; common = common })))
+set-up-value ring memory common reset = value-set (firstRefusal (setUpTable (record { ring = ring; memory = memory; common = common; reset = reset })))
 
 pub set-up-words : (setup : Setup) (r : Reply) (words : List ℕ) → r ≡ setUpResult (setup .ring) (setup .memory) (setup .common) (setup .reset) →
     words ≡ shortAnswer (refusalNumberOf (r .answer)) (valueOf (r .answer)) → words ≡ shortAnswer (setUpNumber setup) 0
-set-up-words setup r words e w = w ∙ rw (e, set-up-value (setup .ring) (setup .memory) (setup .common))
+set-up-words setup r words e w = w ∙ rw (e, set-up-value (setup .ring) (setup .memory) (setup .common) (setup .reset))
 
 -- ---- no call is played
 
