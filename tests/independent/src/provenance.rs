@@ -2,7 +2,7 @@
 //! that says of each byte who drew it last.
 use crate::batch::{self, Reading};
 use crate::engine::Book;
-use crate::registers::{Bank, Task};
+use crate::registers::{Bank, Task, UNBLENDED};
 use crate::replay::{opened, records, Record, MEMORY};
 use crate::ring;
 use std::collections::BTreeMap;
@@ -67,7 +67,7 @@ impl Answers {
         let done = book.run().expect("a batch to run");
         self.tickets += 1;
         let words = ring::words(record.batch, 0, record.batch.len() as u64);
-        let reading = batch::read(&words, &book.bounds(done.client as usize), &Bank::reset());
+        let reading = batch::read(&words, &book.bounds(done.client as usize), &Bank::reset(UNBLENDED));
         if done.fault == 0 {
             self.draw(done.ticket, &reading);
         } else {
@@ -116,8 +116,9 @@ fn explained(words: &[u32], reading: &Reading, fault: u32, place: u32) -> String
 #[cfg(test)]
 mod tests {
     use super::*;
-    use crate::batch_cases::{bytes, WORKED};
     use crate::replay::record;
+    use crate::words::bytes;
+    use crate::writer::WORKED;
 
     fn file(batches: &[&[u32]]) -> Vec<u8> {
         let mut file = vec![1];
