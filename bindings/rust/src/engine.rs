@@ -123,7 +123,7 @@ impl Engine {
         Ok(ticket)
     }
 
-    /// Takes the oldest batch, judges it and, if it is faultless, draws it. A faulty batch is no refusal.
+    /// Takes the oldest batch, judges it and draws its tasks, those before a fault too. A faulty batch is no refusal.
     ///
     /// ```
     /// # use wenditsal::{Engine, Fault, Refusal, ResetRule, Setup};

@@ -23,7 +23,7 @@
 //! assert_eq!((done.client, done.ticket, done.fault), (client, ticket, None));
 //! assert_eq!(&engine.memory()[16384..16392], &[0, 0, 0xFF, 0x80, 0, 0, 0xFF, 0x80]);
 //!
-//! // A batch that draws outside its client's window is accepted, and draws nothing when it is run.
+//! // A batch that draws outside its client's window is accepted, and faulty when it is run.
 //! let outside = Task::fill(0x80FF_0000, Surface { address: 64, ..page }).encode()?;
 //! engine.submit(client, &outside)?;
 //! let done = engine.run()?;

@@ -3,8 +3,9 @@
 -- definitions, with the reset rule of the set up (ModelProperties). The model is in crates/model/specs. One hypothesis: set up was accepted. proofs/Theorem.antt proves it.
 use mathlib.Core.Path.{_≡_}
 use mathlib.Core.List.{List, [], _∷_, List·Memᴰ}
-use Prim.Native.Nat.{ℕ, _≤_, _<_}
+use Prim.Native.Nat.{ℕ, _/_, _≤_, _<_}
 use lib.ListN.{length, take}
+use Rattle.raster.specs.Task.{drawTasks}
 use Rattle.record.specs.Queue.{waiting}
 use Rattle.engine.specs.Run.{oldest}
 use Rattle.model.specs.Windows.{byte}
@@ -15,7 +16,7 @@ use Rattle.model.specs.ReplayedAlone.{replayedAlone}
 use Rattle.model.specs.Noninterference.{Pointwise, LowEqualAnswer, LowEquivalent}
 use Rattle.claims.specs.ModelProperties.{batchSemantics}
 use Rattle.claims.specs.Engine.{State, CallResult, performCall, answersOf, stateAfter, SetUpAccepted, initialState}
-use Rattle.claims.specs.Demand1.{RefusalNoOp}
+use Rattle.claims.specs.Demand1.{RefusalNoOp, standing}
 
 -- the completions among the answers, in order: the successful runs
 unfoldable pub completedOf : List Answer → List Answer
@@ -56,10 +57,12 @@ module _ (setup : Setup) (ring : List ℕ) where
         8 ≤ completions (answersOf later (submitted .after)) →
         (v : CompletionStatus) × List·Memᴰ (completed client ticket v) (take 8 (completedOf (answersOf later (submitted .after))))
 
-    -- e: a faulty batch leaves memory as it was, and the queue without it
-    abbrev pub FaultyBatchNoOp : Type 0
-    FaultyBatchNoOp = (client ticket : ℕ) (v : CompletionStatus) → performCall run finalState .answer ≡ completed client ticket v → ¬ (v .fault ≡ 0) →
-        (performCall run finalState .after .memory ≡ finalState .memory) × (waiting (finalState .engine) ≡ oldest (finalState .engine) ∷ waiting (performCall run finalState .after .engine))
+    -- e: a faulty batch leaves memory with the tasks before its fault drawn, as many as the upper half of its status says (02, 5), and the queue without it
+    abbrev pub FaultyBatchStands : Type 0
+    FaultyBatchStands = (client ticket : ℕ) (v : CompletionStatus) → performCall run finalState .answer ≡ completed client ticket v → ¬ (v .fault ≡ 0) →
+        (performCall run finalState .after .memory ≡ drawTasks (standing finalState) (finalState .memory))
+        × (length (standing finalState) ≡ v .status / 65536)
+        × (waiting (finalState .engine) ≡ oldest (finalState .engine) ∷ waiting (performCall run finalState .after .engine))
 
   -- c: two runs that differ only in the bytes of one client's batches and in what its window holds at the start, and in what the rings hold. Every
   -- answer is the same but for status, fault and offset of that client's own batches, and so is every byte of memory outside that one window. Both
@@ -78,7 +81,7 @@ pub record Demand3 (setup : Setup) (ring : List ℕ) : Type 0 where
   pub in-time : (calls later : List Call) (memory : List ℕ) → BoundedWaiting setup ring calls memory later
   -- e: a refused call changes nothing (demand 1)
   pub harmless : (call : Call) (s : State) → RefusalNoOp call s
-  pub fruitless : (calls : List Call) (memory : List ℕ) → FaultyBatchNoOp setup ring calls memory
+  pub stands : (calls : List Call) (memory : List ℕ) → FaultyBatchStands setup ring calls memory
 
 -- The promise.
 abbrev pub Demand3Holds : Type 0

@@ -1,6 +1,6 @@
--- Run (01, "Engine, desks, queue": "Run takes the oldest batch, judges all of it, draws it if faultless, frees its slot and ring bytes, and
--- answers desk, ticket, status, fault and place"), for every record, ring and memory. A refusal leaves record and memory as they were. The
--- ring is lent to be read: "Run changes no ring byte."
+-- Run (01, "Engine, desks, queue": "Run takes the oldest batch", judges it and draws it, "frees its slot and ring bytes, and answers desk,
+-- ticket, status, fault and place"), for every record, ring and memory. Of a faulty batch "tasks before the faulty one stand" (02, 5). A refusal
+-- leaves record and memory as they were. The ring is lent to be read: "Run changes no ring byte."
 use mathlib.Core.List.{List, [], _∷_}
 use mathlib.Core.Bool.{_||_, not}
 use Prim.Native.Nat.{ℕ, zero, suc, _+_, _-_}
@@ -93,7 +93,7 @@ runResult engine ring memory =
       engine = unlessRefused number engine (withoutOldest engine);
     }
 
--- memory after it: the batch drawn with its client's window; a faulty one draws nothing
+-- memory after it: the batch drawn with its client's window; of a faulty one the tasks before the fault
 unfoldable pub runMemory : Record → (ring memory : List ℕ) → List ℕ
 runMemory engine ring memory =
     unlessRefused (runNumber engine ring memory) memory (drawBatch (boundsOfClient engine (oldest engine .client)) (resetOf engine) (oldestWords engine ring) memory)

@@ -170,8 +170,8 @@ fn without_oldest(engine: Record, at: usize, batch: Batch) -> Record
     after
 }
 
-// Takes the oldest batch: it is judged whole, drawn if it is faultless, and its slot and ring bytes are free again. The slow engine (02, request 13), which
-// is there to check the fast one by, draws each pixel by itself; what it promises is the same.
+// Takes the oldest batch: it is judged and drawn, the tasks before a fault too, and its slot and ring bytes are free again. The slow engine (02, request
+// 13), which is there to check the fast one by, draws each pixel by itself; what it promises is the same.
 pub fn run_by(engine: Record, ring: &[u8], memory: &mut [u8], slow: bool) -> Ran
     ensures { λ r. ⌜ (r ≡ runResult engine (now (ring .entry)) (now (memory .entry)))
         × (now (memory .exit) ≡ runMemory engine (now (ring .entry)) (now (memory .entry))) ⌝ }

@@ -126,7 +126,7 @@ pub fn explain(ring: &[u8], offset: usize, size: usize, bounds: Bounds) -> Why
     let bank = judged.bank;
     match verdict {
         Verdict::Faultless(_) => Why::NoFault,
-        Verdict::Faulty(fault, place) => {
+        Verdict::Faulty(_, fault, place) => {
             let k = place / 4;
             let register = register_at(ring, offset, size, k);
             Why::Faulted(Explanation {

@@ -81,9 +81,9 @@ pub fn after_batch(
                 at = next;
                 number = number + 1;
             }
-            // a faulty batch draws nothing
+            // the tasks before a fault are drawn
             Step::Faulty(_, _, _) => {
-                return found;
+                return last;
             }
             Step::End => {
                 return last;

@@ -100,9 +100,9 @@ extern "C" {
  *
  * ---- Faults
  *
- * All of a batch is checked before any of it is drawn, and a faulty one draws nothing. The first fault is reported, in this order: of a
- * header 20, 21; then of each word 23, 24; after a task's last group 25 to 28, the lowest first; after the last group 22. Its place is a byte
- * offset in the batch.
+ * The first fault ends a batch: the tasks before it stand, and nothing after them is drawn. It is looked for in this order: of a header 20, 21;
+ * then of each word 23, 24; after a task's last group 25 to 28, the lowest first; after the last group 22. Its place is a byte offset in the
+ * batch. The status is that of the table, with the number of the tasks that stand in the upper half: two good tasks and then 23 give 0x00020002.
  *    no  place      status      when
  *   20  header     0x00000002  header bit 1, 16 or 17 set
  *   21  header     0x00000100  group length 0 or past the batch's end
@@ -198,9 +198,9 @@ struct wenditsal_completion {
 };
 
 /*
- * Takes the oldest ready batch, whichever client's it is, judges it, draws it into memory if it is faultless, and frees its slot and its room in
- * the ring. A faulty batch is no refusal: 0 is returned, and the fault is in *completion. No byte changes outside the output rows of the batch's
- * tasks, and none outside its client's window.
+ * Takes the oldest ready batch, whichever client's it is, judges it, draws its tasks into memory, of a faulty batch those before the fault, and
+ * frees its slot and its room in the ring. A faulty batch is no refusal: 0 is returned, and the fault is in *completion. No byte changes outside
+ * the output rows of the tasks that are drawn, and none outside its client's window.
  * Refusals: 11, 10, 9.
  */
 uint32_t wenditsal_run(

@@ -1,4 +1,4 @@
-//! A batch read and judged (01, "Groups and registers" and "Faults of a taken batch"; 02, request 7). A batch is taken apart into groups
+//! A batch read and judged (01, "Groups and registers" and "Faults of a taken batch"; 02, requests 5 and 7). A batch is taken apart into groups
 //! first; the groups are then gone through in order.
 use crate::registers::{size, Bank, Refusal, Task};
 use crate::surface::{is_inside, Run, Surface};
@@ -36,11 +36,13 @@ pub struct Reading {
 }
 
 impl Reading {
-    /// Status, fault number and place as run answers them.
+    /// Status, fault number and place as run answers them. The upper half of the status is the number of tasks, before a fault too; the
+    /// finish bit is clear then (02, request 5).
     pub fn answer(&self) -> [u32; 3] {
+        let tasks = self.tasks.len() as u32 * 65536;
         match self.fault {
-            Some(fault) => [fault.status(), fault.number, fault.place],
-            None => [self.tasks.len() as u32 * 65536 + 1, 0, 0],
+            Some(fault) => [tasks + fault.status(), fault.number, fault.place],
+            None => [tasks + 1, 0, 0],
         }
     }
 

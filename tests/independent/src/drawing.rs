@@ -43,10 +43,9 @@ pub fn drawn(task: &Task, memory: &[u8]) -> Vec<u8> {
     after
 }
 
-/// Memory after a batch that was read: a faulty one draws nothing at all.
+/// Memory after a batch that was read: the tasks before a fault stand (02, request 5).
 pub fn drawn_reading(reading: &Reading, memory: &[u8]) -> Vec<u8> {
-    let tasks = if reading.fault.is_none() { &reading.tasks[..] } else { &[] };
-    tasks.iter().fold(memory.to_vec(), |memory, task| drawn(task, &memory))
+    reading.tasks.iter().fold(memory.to_vec(), |memory, task| drawn(task, &memory))
 }
 
 /// Memory after a batch, by a reset rule. Status, fault and place beside it.
@@ -69,5 +68,20 @@ mod tests {
         assert_eq!(answer, [0x00010001, 0, 0]);
         assert_eq!(memory[16383..16393], [0, 0, 0, 255, 128, 0, 0, 255, 128, 0]);
         assert_eq!(memory.iter().filter(|byte| **byte != 0).count(), 4);
+    }
+
+    /// 02, request 5: two good tasks, then 23; and 21 after two good tasks. What they drew stands, and nothing after the fault is drawn.
+    #[test]
+    fn tasks_before_a_fault_stand() {
+        let bounds = Bounds { window: 16384..28672, common: 16384 };
+        let words = |last: &[u32]| [&WORKED[..], &[0x0110_0005, 0x5000], last].concat();
+        let after = |last: &[u32]| drawn_batch(&words(last), &bounds, UNBLENDED, &[0; 65536]);
+        let (answer, memory) = after(&[0x0024_0005, 0, 0x0110_0005, 0x6000]);
+        assert_eq!(answer, [0x00020002, 23, 92]);
+        assert_eq!(
+            [&memory[16384..16388], &memory[0x5000..0x5004], &memory[0x6000..0x6004]].concat(),
+            [0, 0, 255, 128, 0, 0, 255, 128, 0, 0, 0, 0]
+        );
+        assert_eq!(after(&[0x0010_0014]).0, [0x00020100, 21, 88]);
     }
 }

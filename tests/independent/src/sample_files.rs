@@ -131,11 +131,16 @@ pub fn cut() -> Vec<u8> {
     whole[..whole.len() - 7].to_vec()
 }
 
-/// A good task and then one that reaches past the window: neither is drawn.
-pub fn judged_first() -> Vec<u8> {
+/// Two good tasks and then 23; two and then 21; one, one that reaches past the window, and one after that.
+pub fn before_a_fault() -> Vec<u8> {
     let sheet = sheet(16, 8);
     let beyond = Place { address: window_start(1) - 4, ..sheet };
-    file(&[(0, batch(&[fill(sheet, 0xFFE0_4040), fill(beyond, 0xFF40_40E0)]))])
+    let then = |tasks: &[Fields], words: &[u32]| (0, [batch(tasks), bytes(words)].concat());
+    file(&[
+        then(&[fill(sheet, 0xFFE0_4040), fill(sheet.part(4, 2, 8, 4), 0xFF40_E040)], &[0x0024_0005, 0]),
+        then(&[fill(sheet.part(0, 0, 2, 8), 0xFF40_40E0), fill(sheet.part(14, 0, 2, 8), 0xFF40_40E0)], &[0x0010_0014]),
+        then(&[fill(sheet.part(6, 3, 4, 2), 0xFFE0_E040), fill(beyond, 0xFF00_0000), fill(sheet, 0xFF00_0000)], &[]),
+    ])
 }
 
 /// Two batches of 20,000 bytes in a ring of 32,768: the second goes on at byte 0. Each task sets a pixel of its own.

@@ -64,7 +64,7 @@ returns-2 c =
     let s = c .before .before .before .before .before .before .before .before .before .before .before in
     let j = c .before .before .before .before .before .before .before .before in
     rw (c .before .before .number .ensures, c .before .word-at .ensures, c .detail-of .ensures, c .before .before .before .register-at .ensures)
-    (explained-fault (Ws s) (said s) (j .judge .result) (judged j) _ _ (c .before .before .before .before .before .verdict .given .1))
+    (explained-fault (Ws s) (said s) (j .judge .result) (judged j) _ _ _ (c .before .before .before .before .before .verdict .given .1))
 
 pub explain-spec : {M : Type 1} → statement M
 explain-spec =
