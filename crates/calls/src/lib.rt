@@ -40,13 +40,7 @@ fn report(bytes: &mut [u8], ran: Ran, five: &mut [u32; 5]) -> u32
 }
 
 // Sets up an engine and writes its record.
-pub fn set_up(
-    bytes: &mut [u8],
-    ring: usize,
-    memory: usize,
-    common: usize,
-    reset: ResetRule,
-) -> u32
+pub fn set_up(bytes: &mut [u8], ring: usize, memory: usize, common: usize, reset: ResetRule) -> u32
     ensures { λ r. ⌜ SetsUp (now (bytes .entry)) ring memory common reset r (now (bytes .exit)) ⌝ }
 {
     if bytes.len() != 272 {

@@ -68,7 +68,7 @@ module _ (setup : Setup) (n : ℕ) (s : State) (S : Sound setup n s) (count : �
   run-like = (
     ap (λ (r : ResetRule). completed (oldest (s .engine) .client) (oldest (s .engine) .ticket)
         (completionStatusOf (verdictOf (decodeBatch (boundsOfClient (s .engine) (oldest (s .engine) .client)) (resetBank r) (oldestWords (s .engine) (s .ring)))))) rule
-    ∙ ap₂ (λ (b : Bounds) (ws : List ℕ). completed (oldest (s .engine) .client) (oldest (s .engine) .ticket) (completionStatusOf (verdictOf (decodeBatch b (resetBank (setup .reset)) ws)))) bounds read,
+        ∙ ap₂ (λ (b : Bounds) (ws : List ℕ). completed (oldest (s .engine) .client) (oldest (s .engine) .ticket) (completionStatusOf (verdictOf (decodeBatch b (resetBank (setup .reset)) ws)))) bounds read,
     record {
       sound = run-sound;
       next = run-next;

@@ -121,7 +121,13 @@ fn detail_of(fault: Fault, register: u32, bank: Bank) -> Detail
 pub fn explain(ring: &[u8], offset: usize, size: usize, bounds: Bounds) -> Why
     ensures { λ r. ⌜ r ≡ explained (batchWords (now (ring .entry)) offset size) (decodeBatch bounds fileReset (batchWords (now (ring .entry)) offset size)) ⌝ }
 {
-    let judged = judge(ring, offset, size, bounds, Bank::reset(ResetRule::Unblended));
+    let judged = judge(
+        ring,
+        offset,
+        size,
+        bounds,
+        Bank::reset(ResetRule::Unblended),
+    );
     let verdict = judged.verdict;
     let bank = judged.bank;
     match verdict {
