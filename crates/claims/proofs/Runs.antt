@@ -14,7 +14,7 @@ use Rattle.record.specs.Queue.{waiting}
 use Rattle.engine.specs.Run.{oldest, boundsOfClient, oldestWords, withoutOldest}
 use Rattle.engine.proofs.Refusals.{RunAllowed, run-allowed}
 use Rattle.engine.proofs.Stays.{run-sized, run-valid, oldest-owner, run-windows, oldest-words, run-held}
-use Rattle.model.specs.Calls.{Setup, run, completed}
+use Rattle.model.specs.Calls.{Setup, run, Answer, completed}
 use Rattle.model.specs.State.{Batch, windowOf}
 use Rattle.model.specs.Model.{runStep, effect}
 use Rattle.claims.specs.BatchSemantics.{boundsOf, completionStatusOf}
@@ -64,11 +64,13 @@ module _ (setup : Setup) (n : ℕ) (s : State) (S : Sound setup n s) (count : �
   unfolding withoutOldest
   run-next = next
 
+  abbrev told : Bounds → ResetRule → List ℕ → Answer
+  told b r ws = completed (oldest (s .engine) .client) (oldest (s .engine) .ticket) (completionStatusOf (verdictOf (decodeBatch b (resetBank r) ws)))
+
   run-like : Alike setup n (done run s) (runStep (batchSemantics setup) (setup .common) (seen count s) (first ∷ rest))
   run-like = (
-    ap (λ (r : ResetRule). completed (oldest (s .engine) .client) (oldest (s .engine) .ticket)
-        (completionStatusOf (verdictOf (decodeBatch (boundsOfClient (s .engine) (oldest (s .engine) .client)) (resetBank r) (oldestWords (s .engine) (s .ring)))))) rule
-        ∙ ap₂ (λ (b : Bounds) (ws : List ℕ). completed (oldest (s .engine) .client) (oldest (s .engine) .ticket) (completionStatusOf (verdictOf (decodeBatch b (resetBank (setup .reset)) ws)))) bounds read,
+    ap (λ (r : ResetRule). told (boundsOfClient (s .engine) (oldest (s .engine) .client)) r (oldestWords (s .engine) (s .ring))) rule
+        ∙ ap₂ (λ (b : Bounds) (ws : List ℕ). told b (setup .reset) ws) bounds read,
     record {
       sound = run-sound;
       next = run-next;
