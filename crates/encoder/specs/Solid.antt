@@ -27,7 +27,7 @@ abbrev pub resetDestination : DestinationFields
 resetDestination = record { surface = resetSurface; alpha = resetAlpha; enable = 0 }
 
 abbrev pub resetBlending : BlendingFields
-resetBlending = record { source = 2; destination = 3; on = 0 }
+resetBlending = record { source = 2; destination = 3; on = 0; premultiplied = 0 }
 
 abbrev pub resetFields : Fields
 resetFields = record { source = resetSource; destination = resetDestination; output = resetSurface; colour = 0; blending = resetBlending }

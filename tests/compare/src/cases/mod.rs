@@ -7,6 +7,7 @@ mod examples;
 mod faults;
 mod headers;
 mod pixels;
+mod premultiplied;
 mod queue;
 mod records;
 mod registers;
@@ -25,7 +26,7 @@ use crate::trials::{Agreed, Trials};
 /// A subject's name, and what tries its cases.
 type Subject = (&'static str, fn(&mut Trials) -> Agreed);
 
-const SUBJECTS: [Subject; 15] = [
+const SUBJECTS: [Subject; 16] = [
     ("examples of the scope paper", examples::compare),
     ("registers", registers::compare),
     ("headers and groups", headers::compare),
@@ -35,6 +36,7 @@ const SUBJECTS: [Subject; 15] = [
     ("pixels", pixels::compare),
     ("alphas", alphas::compare),
     ("blends", blends::compare),
+    ("premultiplied sources", premultiplied::compare),
     ("transforms", transforms::compare),
     ("batches of several tasks", batches::compare),
     ("queue", queue::compare),
