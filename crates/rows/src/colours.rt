@@ -10,7 +10,11 @@ use unpremultiply::unpremultiply;
 fn prepare(blending: Blending, c: Colour) -> Colour
     ensures { λ r. ⌜ r ≡ sourceForBlending blending c ⌝ }
 {
-    if blending.premultiplied { unpremultiply(c) } else { c }
+    if blending.premultiplied {
+        unpremultiply(c)
+    } else {
+        c
+    }
 }
 
 // A colour with its alpha by a surface's alpha mode.

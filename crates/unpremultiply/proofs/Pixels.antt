@@ -38,15 +38,15 @@ pixel-divided row i b g r z h eb eg er = record {
       under-or j (i + 2)
       (λ p. under-or j (i + 1)
       (λ q. let e : j ≡ i = omega arith in rw e
-          (set-under two (i + 2) i r (omega arith) ∙ (set-under one (i + 1) i g (omega arith) ∙ (getD-set-same row i b 0 (omega arith)
-          ∙ (eb ∙ sym (at-colour row i (i + 3) (omega arith) (omega arith)))))))
+      (set-under two (i + 2) i r (omega arith) ∙ (set-under one (i + 1) i g (omega arith) ∙ (getD-set-same row i b 0 (omega arith)
+      ∙ (eb ∙ sym (at-colour row i (i + 3) (omega arith) (omega arith)))))))
       (λ q. let e : j ≡ i + 1 = omega arith in rw e
-          (set-under two (i + 2) (i + 1) r (omega arith) ∙ (getD-set-same one (i + 1) g 0 (simp length-set (omega arith))
-          ∙ (eg ∙ sym (at-colour row (i + 1) (i + 3) (omega arith) (omega arith)))))))
+      (set-under two (i + 2) (i + 1) r (omega arith) ∙ (getD-set-same one (i + 1) g 0 (simp length-set (omega arith))
+      ∙ (eg ∙ sym (at-colour row (i + 1) (i + 3) (omega arith) (omega arith)))))))
       (λ p. under-or j (i + 3)
       (λ q. let e : j ≡ i + 2 = omega arith in rw e
-          (getD-set-same two (i + 2) r 0 (simp length-set (omega arith))
-          ∙ (er ∙ sym (at-colour row (i + 2) (i + 3) (omega arith) (omega arith)))))
+      (getD-set-same two (i + 2) r 0 (simp length-set (omega arith))
+      ∙ (er ∙ sym (at-colour row (i + 2) (i + 3) (omega arith) (omega arith)))))
       (λ q. past j (omega arith) ∙ sym (at-alpha row j (omega arith))));
   under = λ j l. set-under two (i + 2) j r (omega arith) ∙ (set-under one (i + 1) j g (omega arith) ∙ set-under row i j b l);
   past = λ j l. past j (omega arith);
