@@ -6,7 +6,7 @@ use register::Alpha;
 use register::Blending;
 use unpremultiply::unpremultiply;
 
-// The colour with which a source pixel goes into blending.
+// The colour with which a source pixel goes into blending: divided by its alpha where it is premultiplied.
 fn prepare(blending: Blending, c: Colour) -> Colour
     ensures { λ r. ⌜ r ≡ sourceForBlending blending c ⌝ }
 {

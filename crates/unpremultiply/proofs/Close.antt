@@ -7,7 +7,7 @@ use native.Mathlib.Omega.{arith}
 use Rattle.lanes.proofs.Laws.{under-or}
 use borrow.Author.Tests.{eq-eqb, ne-eqb}
 use Rattle.unpremultiply.specs.Unpremultiply.{reciprocalOf, unpremultipliedChannel}
-use Rattle.unpremultiply.specs.Close.{Close, Division}
+use Rattle.unpremultiply.specs.Close.{Close, DivisionByAlpha}
 
 -- of every alpha but 0
 module _ (a : ℕ) (above : 0 < a) where
@@ -62,9 +62,9 @@ close a c above small le =
       not-held = held;
     }
 
-pub division : Division
+pub division-by-alpha : DivisionByAlpha
 unfolding unpremultipliedChannel reciprocalOf
-division = record {
+division-by-alpha = record {
   close = close;
   entry = refl;
   worked = refl;

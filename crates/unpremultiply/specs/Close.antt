@@ -11,7 +11,7 @@ pub record Close (a c : ℕ) : Type 0 where
   -- such a colour is never held at 255
   pub not-held : unpremultipliedChannel a c ≡ (c * reciprocalOf a + 32768) / 65536
 
-pub record Division : Type 0 where
+pub record DivisionByAlpha : Type 0 where
   pub close : (a c : ℕ) → 0 < a → a < 256 → c ≤ a → Close a c
   -- "T(128) is 130,560; c 64 at a 128 gives 128"
   pub entry : reciprocalOf 128 ≡ 130560

@@ -1,5 +1,5 @@
--- What a byte of a row of ARGB8888 pixels becomes where the row is divided by its alphas (02, request 12). Such a pixel lies in memory as
--- B, G, R, A.
+-- Internal: used only in contracts of helper functions. What a byte of a row of ARGB8888 pixels becomes where the row is divided by its
+-- alphas (02, request 12). Such a pixel lies in memory as B, G, R, A.
 use Prim.Native.Nat.{ℕ, _+_, _*_, _/_, _%_}
 use mathlib.Core.Bool.{Bool, cond}
 use mathlib.Core.List.{List}
