@@ -148,12 +148,13 @@ module _ (d e : List ℕ) (width : ℕ) (in-d : Row d) (in-e : Row e) (long-d : 
 
 -- the passes of a row: a premultiplied source divided, alpha modes on both rows, then the rule
 pub mix-is : (blending : Blending) (source destination : Alpha) (rule : Rule) (s t s′ d d′ e : List ℕ) (width : ℕ) → Row s → Row t → Row s′ → Row d → Row d′ → Row e →
+    Done (preparedAt (blending .premultiplied) s) s t 0 (width * 4) →
     width * 4 ≤ length s → length t ≡ length s → length s′ ≡ length t → length d ≡ width * 4 → length d′ ≡ length d → length e ≡ length d → rule ≡ blending .rule →
-    Done (preparedAt (blending .premultiplied) s) s t 0 (width * 4) → Done (modeAt (source .mode) (source .global) t) t s′ 0 (width * 4) → Done (modeAt (destination .mode) (destination .global) d) d d′ 0 (width * 4) →
+    Done (modeAt (source .mode) (source .global) t) t s′ 0 (width * 4) → Done (modeAt (destination .mode) (destination .global) d) d d′ 0 (width * 4) →
     Done (blendAt rule s′ d′) d′ e 0 (length d′) →
     e ≡ rowStored Argb8888 (λ x. composite blending source destination (colourIn s x) (colourIn d x)) d
 unfolding composite
-mix-is blending source destination rule s t s′ d d′ e width in-s in-t in-s′ in-d in-d′ in-e ls lt ls′ ld ld′ le is-rule on-t on-s on-d did =
+mix-is blending source destination rule s t s′ d d′ e width in-s in-t in-s′ in-d in-d′ in-e on-t ls lt ls′ ld ld′ le is-rule on-s on-d did =
     row-is d e width in-d in-e (omega arith) (omega arith) _ le ld
     (λ x l.
     blend-colour d′ e width in-d′ in-e (omega arith) (omega arith) rule s′ in-s′ (omega arith)

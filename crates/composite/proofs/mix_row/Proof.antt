@@ -36,8 +36,9 @@ returns c =
     let a = o₀ .before .before in
     mix-is (a .args .blending) (a .args .source) (a .args .destination) (a .args .p .rule) (a .args .s .now) (o .prepare-row .last .0) (t .alpha-row .last .0) (a .args .d .now) (u .alpha-row2 .last .0) (v .blend-row .last .0) (a .args .width)
     (λ j. omega (arith, o₀ .slice-known2 .given j)) (λ j. omega (arith, t₀ .slice-known3 .given j)) (λ j. omega (arith, u₀ .slice-known4 .given j)) (λ j. omega (arith, o₀ .before .slice-known .given j)) (λ j. omega (arith, v₀ .slice-known5 .given j)) (λ j. omega (arith, c .slice-known6 .given j))
+    (o .prepare-row .ensures)
     (a .pre .room) (o .prepare-row .kept .0) (t .alpha-row .kept .0) (a .pre .wide) (u .alpha-row2 .kept .0) (v .blend-row .kept .0 ∙ u .alpha-row2 .kept .0) (a .pre .rule)
-    (o .prepare-row .ensures) (t .alpha-row .ensures) (u .alpha-row2 .ensures) (v .blend-row .ensures)
+    (t .alpha-row .ensures) (u .alpha-row2 .ensures) (v .blend-row .ensures)
 
 pub mix-row-spec : {M : Type 1} → statement M
 mix-row-spec =
