@@ -1,5 +1,5 @@
 -- The rule of the table of reciprocals: one test computed over the whole table, and lifted to each entry.
-use mathlib.Core.Path.{_≡_}
+use mathlib.Core.Path.{_≡_, refl}
 use mathlib.Core.Bool.{Bool, true, false, cond}
 use mathlib.Core.List.{List, [], _∷_}
 use Prim.Native.Nat.{ℕ, _/_, _≤_, _<_}
@@ -7,7 +7,7 @@ use native.Mathlib.Nat.{div-le-self}
 use native.Mathlib.Omega.{arith}
 use lib.Dec.{eqb, eqb→eq}
 use lib.ListN.{length, getD}
-use Rattle.unpremultiply.specs.Unpremultiply.{reciprocalOf}
+use Rattle.unpremultiply.specs.Unpremultiply.{reciprocalOf, Reciprocals}
 use Rattle.unpremultiply.proofs.Table.{at}
 
 unfoldable pub entries : List ℕ
@@ -32,9 +32,13 @@ entries =
 right : ℕ → ℕ → Bool
 right a t = eqb t (reciprocalOf a)
 
-pub entry-is : (a : ℕ) → a < 256 → getD entries a 0 ≡ reciprocalOf a
+entry-is : (a : ℕ) → a < 256 → getD entries a 0 ≡ reciprocalOf a
 unfolding entries right reciprocalOf
 entry-is a l = eqb→eq (getD entries a 0) (reciprocalOf a) (at right entries tt a l)
+
+pub entries-are : Reciprocals entries
+unfolding entries
+entries-are = (refl, entry-is)
 
 pub reciprocal-small : (a : ℕ) → reciprocalOf a ≤ 16711680
 unfolding reciprocalOf

@@ -3,7 +3,7 @@ ghost use mathlib.Core.Path.{_≡_};
 ghost use Prim.Native.Nat.{ℕ, _+_, _*_, _/_, _%_, _≤_, min};
 ghost use lib.ListN.{length};
 ghost use Rattle.lanes.specs.Lanes.{Done};
-ghost use Rattle.unpremultiply.specs.Unpremultiply.{unpremultiplied};
+ghost use Rattle.unpremultiply.specs.Unpremultiply.{Reciprocals, unpremultiplied};
 ghost use Rattle.unpremultiply.specs.Prepared.{dividedAt, preparedAt};
 
 pub mod reciprocals;
@@ -24,7 +24,8 @@ fn scaled(c: u8, t: u32) -> u8
 pub fn unpremultiply(c: Colour) -> Colour
     ensures { λ r. ⌜ r ≡ unpremultiplied c ⌝ }
 {
-    let t = reciprocal(c.alpha);
+    let table = reciprocals::all();
+    let t = reciprocal(&table, c.alpha);
     Colour {
         alpha: c.alpha,
         red: scaled(c.red, t),
@@ -34,11 +35,11 @@ pub fn unpremultiply(c: Colour) -> Colour
 }
 
 // The pixel at a byte offset.
-fn divide_pixel(row: &mut [u8], at: usize)
-    requires { ⌜ (at % 4 ≡ 0) × (at + 4 ≤ length (now row)) ⌝ }
+fn divide_pixel(row: &mut [u8], at: usize, table: &[u32])
+    requires { ⌜ ((at % 4 ≡ 0) × (at + 4 ≤ length (now row))) × Reciprocals (now table) ⌝ }
     ensures { λ _. ⌜ Done (dividedAt (now (row .entry))) (now (row .entry)) (now (row .exit)) at (at + 4) ⌝ }
 {
-    let t = reciprocal(row[at + 3]);
+    let t = reciprocal(table, row[at + 3]);
     let blue = scaled(row[at], t);
     let green = scaled(row[at + 1], t);
     let red = scaled(row[at + 2], t);
@@ -51,9 +52,10 @@ fn divide_row(row: &mut [u8], width: usize)
     requires { ⌜ width * 4 ≤ length (now row) ⌝ }
     ensures { λ _. ⌜ Done (dividedAt (now (row .entry))) (now (row .entry)) (now (row .exit)) 0 (width * 4) ⌝ }
 {
+    let table = reciprocals::all();
     let mut x = 0;
     while x < width {
-        divide_pixel(row, x * 4);
+        divide_pixel(row, x * 4, &table);
         x += 1;
     }
 }

@@ -1,7 +1,7 @@
 // A table of reciprocals: 255 x 65,536 / a for every alpha, and 0 for 0.
 ghost use mathlib.Core.Path.{_≡_};
 ghost use Prim.Native.Nat.{_≤_};
-ghost use Rattle.unpremultiply.specs.Unpremultiply.{reciprocalOf};
+ghost use Rattle.unpremultiply.specs.Unpremultiply.{reciprocalOf, Reciprocals};
 
 const RECIPROCALS: [u32; 256] = [
     0,
@@ -262,8 +262,17 @@ const RECIPROCALS: [u32; 256] = [
     65536,
 ];
 
-pub fn reciprocal(a: u8) -> u32
+// All of it. A constant array is laid out anew wherever it is named, so that who divides many colours takes it once and lends it.
+pub fn all() -> [u32; 256]
+    ensures { λ r. ⌜ Reciprocals r ⌝ }
+{
+    RECIPROCALS
+}
+
+// The entry of an alpha.
+pub fn reciprocal(table: &[u32], a: u8) -> u32
+    requires { ⌜ Reciprocals (now table) ⌝ }
     ensures { λ r. ⌜ (r ≡ reciprocalOf a) × (r ≤ 16711680) ⌝ }
 {
-    RECIPROCALS[a as usize]
+    table[a as usize]
 }

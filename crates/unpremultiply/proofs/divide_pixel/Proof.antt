@@ -60,9 +60,9 @@ same-length c = search needs
 returns : tie.Need-returns
 unfolding unpremultipliedChannel
 returns c =
-    let a = c .before .before .before .before .before .before .before .before .before in
+    let a = c .before .before .before .before .before .before .before .before .before .before in
     let t = c .before .before .before .before .before .before .reciprocal .ensures .0 in
-    pixel-divided (a .args .row .now) (a .args .at) _ _ _ (a .pre .0) (a .pre .1)
+    pixel-divided (a .args .row .now) (a .args .at) _ _ _ (a .pre .0 .0) (a .pre .0 .1)
     (simp (c .before .before .before .before .scaled .ensures, t)) (simp (c .before .before .scaled2 .ensures, t)) (simp (c .scaled3 .ensures, t))
 
 pub divide-pixel-spec : {M : Type 1} → statement M

@@ -3,6 +3,12 @@ use borrow.Author.Needs.{needs}
 use Rattle.unpremultiply.proofs.unpremultiply.Statement.{statement}
 use Rattle.unpremultiply.proofs.unpremultiply.Tie as tie
 
+all-requires : tie.Need-all-requires
+all-requires c κs = search needs
+
+slice-aggregate-reciprocal : tie.Need-slice-aggregate-reciprocal
+slice-aggregate-reciprocal c = search needs
+
 reciprocal-requires : tie.Need-reciprocal-requires
 reciprocal-requires c κs = search needs
 
@@ -22,4 +28,11 @@ returns c = simp (c .scaled3 .ensures, c .before .scaled2 .ensures, c .before .b
 pub unpremultiply-spec : {M : Type 1} → statement M
 unpremultiply-spec =
     tie.close
-    (tie.spec reciprocal-requires scaled-requires scaled-requires-2 scaled-requires-3 returns)
+    (tie.spec
+    all-requires
+    slice-aggregate-reciprocal
+    reciprocal-requires
+    scaled-requires
+    scaled-requires-2
+    scaled-requires-3
+    returns)
