@@ -1,11 +1,10 @@
 -- How near the division by the table comes.
-use mathlib.Core.Path.{_≡_, refl, sym, ap, _∙_}
-use mathlib.Core.Bool.{Bool, true, false, cond}
-use Prim.Native.Nat.{ℕ, _+_, _*_, _/_, _%_, _≤_, _<_, min}
-use native.Mathlib.Nat.{mul-le-mul-left, mul-le-mul-right, mul-assoc, mul-right-comm, mul-add, add-mul, mod-lt, mod-add-div'}
+use mathlib.Core.Path.{_≡_, refl}
+use Prim.Native.Nat.{ℕ, _+_, _*_, _/_, _≤_, _<_, min}
+use native.Mathlib.Nat.{mul-le-mul-left, mul-le-mul-right, mod-lt, mod-add-div'}
 use native.Mathlib.Omega.{arith}
 use Rattle.lanes.proofs.Laws.{under-or}
-use borrow.Author.Tests.{eq-eqb, ne-eqb}
+use borrow.Author.Tests.{ne-eqb}
 use Rattle.unpremultiply.specs.Unpremultiply.{reciprocalOf, unpremultipliedChannel}
 use Rattle.unpremultiply.specs.Close.{Close, DivisionByAlpha}
 

@@ -11,7 +11,7 @@ use Rattle.pixel.specs.declared.colour.Colour.{Colour}
 unfoldable pub reciprocalOf : ℕ → ℕ
 reciprocalOf a = cond (eqb a 0) 0 (16711680 / a)
 
--- a list is that of the 256 reciprocals
+-- Internal: a list is that of the 256 reciprocals
 abbrev pub Reciprocals : List ℕ → Type 0
 Reciprocals table = (length table ≡ 256) × ((a : ℕ) → a < 256 → getD table a 0 ≡ reciprocalOf a)
 

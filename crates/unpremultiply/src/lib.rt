@@ -1,6 +1,6 @@
 // Premultiplied colours divided by their alpha: one colour, and a row of ARGB8888 bytes.
 ghost use mathlib.Core.Path.{_≡_};
-ghost use Prim.Native.Nat.{ℕ, _+_, _*_, _/_, _%_, _≤_, min};
+ghost use Prim.Native.Nat.{_+_, _*_, _/_, _%_, _≤_, min};
 ghost use lib.ListN.{length};
 ghost use Rattle.lanes.specs.Lanes.{Done};
 ghost use Rattle.unpremultiply.specs.Unpremultiply.{Reciprocals, unpremultiplied};

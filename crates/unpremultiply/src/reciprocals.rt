@@ -1,4 +1,4 @@
-// A table of reciprocals: 255 x 65,536 / a for every alpha, and 0 for 0.
+// A table of reciprocals: the whole part of 255 x 65,536 / a for every alpha a, and 0 for 0.
 ghost use mathlib.Core.Path.{_≡_};
 ghost use Prim.Native.Nat.{_≤_};
 ghost use Rattle.unpremultiply.specs.Unpremultiply.{reciprocalOf, Reciprocals};
