@@ -13,7 +13,3 @@ pub mod Outside
 pub mod Judged
 -- a batch drawn a step of the walk at a time
 pub mod Fold
--- two drawings as one
-pub mod Twice
--- the same drawing exactly for the same orientation
-pub mod Orientation

@@ -1,8 +1,8 @@
 // What other languages link. The header for C is include/wenditsal.h.
 ghost use mathlib.Core.Path.{_≡_};
 ghost use lib.ListN.{length};
-ghost use Rattle.transform.specs.Compose.{compose, inverse};
-ghost use Rattle.transform.specs.Bits.{settingOf, bitsOf};
+ghost use Rattle.orientation.specs.Compose.{compose, inverse};
+ghost use Rattle.orientation.specs.Bits.{settingOf, bitsOf};
 ghost use Rattle.encoder.specs.Encoder.{encodeRefusalOf, answerOf, bufferAfter};
 ghost use Rattle.session.specs.Played.{ScriptResult};
 ghost use Rattle.calls.specs.Calls.{SetsUp, Opens, Submits, Pends, Runs};
@@ -139,7 +139,7 @@ pub extern "C" fn wenditsal_encode_tint(
 pub extern "C" fn wenditsal_compose(first: u32, second: u32) -> u32
     ensures { λ r. ⌜ r ≡ bitsOf (compose (settingOf first) (settingOf second)) ⌝ }
 {
-    transform::compose_bits(first, second)
+    compose::compose_bits(first, second)
 }
 
 // The setting that undoes one.
@@ -147,5 +147,5 @@ pub extern "C" fn wenditsal_compose(first: u32, second: u32) -> u32
 pub extern "C" fn wenditsal_inverse(setting: u32) -> u32
     ensures { λ r. ⌜ r ≡ bitsOf (inverse (settingOf setting)) ⌝ }
 {
-    transform::inverse_bits(setting)
+    compose::inverse_bits(setting)
 }
