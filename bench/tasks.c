@@ -41,7 +41,7 @@ static void make_batch(uint32_t side, int copies, size_t tasks, size_t zeros)
     memset(batch, 0, sizeof batch);
     for (i = 0; i < tasks; i++)
         put_task(batch + i * WENDITSAL_TASK_SIZE, side, copies);
-    wenditsal_set_up(engine, sizeof engine, RING, MEMORY, COMMON);
+    wenditsal_set_up(engine, sizeof engine, RING, MEMORY, COMMON, WENDITSAL_RESET_SRC_OVER);
     wenditsal_open(engine, sizeof engine, COMMON, MEMORY - COMMON, &value);
     wenditsal_submit(engine, sizeof engine, ring, sizeof ring, 0, batch, size, &value);
     memcpy(saved, engine, sizeof engine);

@@ -3,11 +3,12 @@
 use Prim.Native.Nat.{ℕ}
 use mathlib.Core.Path.{_≡_, refl}
 use mathlib.Core.List.{List, [], _∷_, _++_}
+use Rattle.reset.specs.declared.ResetRule.the-variants.{Unblended, SrcOver}
 use Rattle.surface.specs.Surface.{span}
 use Rattle.register.specs.Table.{registerKindOf}
 use Rattle.register.specs.Bank.{resetBank, surfaceAfterWrite, bankAfterWrite, writeRegister}
 use Rattle.register.specs.Task.{surfaceOf, transformOf, alphaOf, sourceOfBank, destinationOf, blendingOf, taskOf}
-use Rattle.rules.specs.declared.fault.Fault.the-variants.{ReservedBits, GroupLength, OpenTask, NotWritable, Forbidden, OutOfBounds}
+use Rattle.rules.specs.declared.fault.Fault.the-variants.{ReservedBits, GroupLength, OpenTask, NotWritable, Forbidden, BadSurface, OutOfBounds}
 use Rattle.rules.specs.declared.task.Bounds.{Bounds}
 use Rattle.rules.specs.Rules.{badSides, badStride, badSource, badOutput, badDestination, badSurface, sizeMismatch, outOfBounds, aliases, outputOverlaps, checkTask}
 use Rattle.batch.specs.declared.verdict.Verdict.{Verdict}
@@ -29,7 +30,7 @@ words address =
     ∷ 0x01100005 ∷ address ∷ []
 
 abbrev pub verdict : List ℕ → Verdict
-verdict ws = verdictOf (decodeBatch bounds resetBank ws)
+verdict ws = verdictOf (decodeBatch bounds (resetBank Unblended) ws)
 
 -- the worked words are one task, and with address 64 the fault is 27 at 72
 pub one : verdict (words 0x4000) ≡ Faultless 1
@@ -75,3 +76,18 @@ unwritable = refl
 pub forbidden : verdict (0x00140005 ∷ 0x80000000 ∷ []) ≡ Faulty 0 Forbidden 4
 unfolding decodeFrom writeRegister registerKindOf bankAfterWrite surfaceAfterWrite taskOf sourceOfBank destinationOf blendingOf surfaceOf transformOf alphaOf checkTask badSurface badSource badOutput badDestination badSides badStride sizeMismatch outOfBounds aliases outputOverlaps span
 forbidden = refl
+
+-- the worked words without 0x050, 0x060 and 0x090: a task under the old reset rule; under the new one it blends, and its destination is disabled
+abbrev pub silent : List ℕ
+silent =
+    0x00100014 ∷ 0x00000005 ∷ 0x00010002 ∷ 0x00000000 ∷ 0x80FF0000 ∷ 0x00000000
+    ∷ 0x0100000C ∷ 0x00000000 ∷ 0x00010002 ∷ 0x00000008
+    ∷ 0x01100005 ∷ 0x4000 ∷ []
+
+pub silent-unblended : verdictOf (decodeBatch bounds (resetBank Unblended) silent) ≡ Faultless 1
+unfolding decodeFrom writeRegister registerKindOf bankAfterWrite surfaceAfterWrite taskOf sourceOfBank destinationOf blendingOf surfaceOf transformOf alphaOf checkTask badSurface badSource badOutput badDestination badSides badStride sizeMismatch outOfBounds aliases outputOverlaps span
+silent-unblended = refl
+
+pub silent-blended : verdictOf (decodeBatch bounds (resetBank SrcOver) silent) ≡ Faulty 0 BadSurface 40
+unfolding decodeFrom writeRegister registerKindOf bankAfterWrite surfaceAfterWrite taskOf sourceOfBank destinationOf blendingOf surfaceOf transformOf alphaOf checkTask badSurface badSource badOutput badDestination badSides badStride sizeMismatch outOfBounds aliases outputOverlaps span
+silent-blended = refl

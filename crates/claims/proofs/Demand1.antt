@@ -6,7 +6,6 @@ use Prim.Native.Nat.{ℕ, zero, suc, _+_, _*_}
 use native.Mathlib.Omega.{arith}
 use lib.ListN.{length}
 use lib.Dec.{ltb}
-use Rattle.register.specs.Bank.{resetBank}
 use Rattle.rules.specs.declared.fault.Fault.{Fault}
 use Rattle.rules.specs.Faults.{faultNumber, faultStatus}
 use Rattle.batch.specs.declared.verdict.Verdict.the-variants.{Faulty}
@@ -21,7 +20,7 @@ use Rattle.encoder.specs.Fields.{allowed}
 use Rattle.encoder.specs.Encoder.{answerOf, bufferOnAnswer, bufferAfter, taskBytes, encodeRefusalOf as encoderNumber}
 use Rattle.queue.specs.Refusals.{firstRefusal}
 use Rattle.queue.proofs.Stays.{set-up-number}
-use Rattle.engine.specs.Run.{oldest, boundsOfClient, oldestWords, oldestVerdict, withoutOldest}
+use Rattle.engine.specs.Run.{oldest, boundsOfClient, oldestWords, resetOf, oldestVerdict, withoutOldest}
 use Rattle.model.specs.Calls.{Call, run, completed, refused}
 use Rattle.claims.specs.Engine.{State, mkState, CallResult, performCall}
 use Rattle.claims.specs.Demand1.{refusalTableOf, encoderTable, standing, OfCalls, OfEncoder, Demand1}
@@ -55,8 +54,8 @@ module _ (s : State) where
   unfolding either
   faulty tasks fault place z e =
       let bounds = boundsOfClient (s .engine) (oldest (s .engine) .client) in
-      let same = batch-tasks bounds resetBank (oldestWords (s .engine) (s .ring)) (s .memory) in
-      (rw (by-number run s, z, same, e), sym (faulty-stopped tasks fault place (decodeBatch bounds resetBank (oldestWords (s .engine) (s .ring))) e .1))
+      let same = batch-tasks bounds (resetOf (s .engine)) (oldestWords (s .engine) (s .ring)) (s .memory) in
+      (rw (by-number run s, z, same, e), sym (faulty-stopped tasks fault place (decodeBatch bounds (resetOf (s .engine)) (oldestWords (s .engine) (s .ring))) e .1))
 
   of-calls : OfCalls s
   of-calls = record { listed = listed; only = only; harmless = λ c. harmless c s; faulty = faulty }

@@ -4,7 +4,6 @@ use mathlib.Core.List.{List}
 use Prim.Native.Nat.{ℕ, _<_}
 use native.Mathlib.Omega.{arith}
 use Rattle.register.specs.declared.bank.Bank.{Bank}
-use Rattle.register.specs.Bank.{resetBank}
 use Rattle.rules.specs.declared.fault.Fault.{Fault}
 use Rattle.rules.specs.declared.task.Bounds.{Bounds}
 use Rattle.batch.specs.declared.verdict.Verdict.the-variants.{Faulty}
@@ -16,7 +15,7 @@ use Rattle.encoder.proofs.ReadsBack.{reads-back}
 use Rattle.raster.proofs.Fold.{batch-tasks}
 use Rattle.raster.proofs.Outside.{writes}
 use Rattle.queue.specs.Refusals.{firstRefusal}
-use Rattle.engine.specs.Run.{oldest, boundsOfClient, oldestWords, oldestVerdict}
+use Rattle.engine.specs.Run.{oldest, boundsOfClient, oldestWords, resetOf, oldestVerdict}
 use Rattle.model.specs.Calls.{run}
 use Rattle.claims.specs.Engine.{State, performCall}
 use Rattle.claims.specs.Demand1.{refusalTableOf}
@@ -42,7 +41,7 @@ module _ (s : State) where
   place : (tasks : ℕ) (fault : Fault) (offset : ℕ) → oldestVerdict (s .engine) (s .ring) ≡ Faulty tasks fault offset → offset < oldest (s .engine) .length
   place tasks fault offset e =
       let batch = oldest (s .engine) in
-      let low = fault-inside (boundsOfClient (s .engine) (batch .client)) resetBank (oldestWords (s .engine) (s .ring)) tasks fault offset e in
+      let low = fault-inside (boundsOfClient (s .engine) (batch .client)) (resetOf (s .engine)) (oldestWords (s .engine) (s .ring)) tasks fault offset e in
       omega (arith, low, words-fit (s .ring) (batch .offset) (batch .length))
 
 pub demand2 : Demand2

@@ -4,13 +4,12 @@ use mathlib.Core.List.{List, _∷_}
 use Prim.Native.Nat.{ℕ, zero, suc, _/_}
 use native.Mathlib.Omega.{arith}
 use lib.ListN.{length}
-use Rattle.register.specs.Bank.{resetBank}
 use Rattle.batch.specs.Batch.{BatchEnd, finished, faulty, DecodedBatch, decodeBatch, verdictAfter, verdictOf, statusWordOf, faultNumberOf, tasksDrawn}
 use Rattle.batch.proofs.Tasks.{fault-small}
 use Rattle.raster.specs.Task.{drawTasks}
 use Rattle.raster.proofs.Fold.{batch-tasks}
 use Rattle.record.specs.Queue.{waiting}
-use Rattle.engine.specs.Run.{oldest, boundsOfClient, oldestWords, oldestVerdict}
+use Rattle.engine.specs.Run.{oldest, boundsOfClient, oldestWords, resetOf, oldestVerdict}
 use Rattle.engine.proofs.Refusals.{run-allowed}
 use Rattle.engine.proofs.Stays.{run-waiting}
 use Rattle.model.specs.Calls.{Setup, Call, run, CompletionStatus, completed}
@@ -49,8 +48,8 @@ stands-run setup n s S client ticket v e h =
     let status : statusWordOf (oldestVerdict (s .engine) (s .ring)) ≡ v .status = ap (λ (x : CompletionStatus). x .status) same in
     let bounds = boundsOfClient (s .engine) (oldest (s .engine) .client) in
     rw done-is (
-      batch-tasks bounds resetBank (oldestWords (s .engine) (s .ring)) (s .memory),
-      upper-half (decodeBatch bounds resetBank (oldestWords (s .engine) (s .ring))) (λ f. h (fault ∙ f)) ∙ ap (λ (x : ℕ). x / 65536) status,
+      batch-tasks bounds (resetOf (s .engine)) (oldestWords (s .engine) (s .ring)) (s .memory),
+      upper-half (decodeBatch bounds (resetOf (s .engine)) (oldestWords (s .engine) (s .ring))) (λ f. h (fault ∙ f)) ∙ ap (λ (x : ℕ). x / 65536) status,
       run-waiting (s .engine) (S .sized) (length (s .ring)) (length (s .memory)) (run-allowed (s .engine) (length (s .ring)) (length (s .memory)) z),
     )
 

@@ -27,7 +27,7 @@ module _ (setup : Setup) (A : SetUpAccepted setup) where
       }
 
   unmoved : (client : ℕ) (ring ring′ : List ℕ) (calls calls′ : List Call) (memory memory′ : List ℕ) → length ring ≡ length ring′ →
-      LowEquivalent batchSemantics setup (length ring) client calls calls′ memory memory′ → Noninterference setup ring client ring′ calls calls′ memory memory′
+      LowEquivalent (batchSemantics setup) setup (length ring) client calls calls′ memory memory′ → Noninterference setup ring client ring′ calls calls′ memory memory′
   unmoved client ring ring′ calls calls′ memory memory′ long t =
       let one = like-model setup ring A calls memory in
       let two = like-model setup ring′ A calls′ memory′ in

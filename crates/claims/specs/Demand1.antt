@@ -9,7 +9,6 @@ use lib.Dec.{ltb}
 use Rattle.record.specs.declared.Setup.{Setup}
 use Rattle.rules.specs.declared.fault.Fault.{Fault}
 use Rattle.rules.specs.Faults.{faultNumber, faultStatus}
-use Rattle.register.specs.Bank.{resetBank}
 use Rattle.register.specs.declared.task.Task.{Task}
 use Rattle.batch.specs.declared.verdict.Verdict.the-variants.{Faulty}
 use Rattle.batch.specs.Batch.{decodeBatch, tasksDrawn}
@@ -20,7 +19,7 @@ use Rattle.encoder.specs.Encoder.{answerOf, bufferAfter, encodeRefusalOf as enc
 use Rattle.queue.specs.Answers.{refusalNumberOf}
 use Rattle.queue.specs.Refusals.{RefusalRow, _when_, firstRefusal, setUpTable, openTable, submitTable, pendingTable}
 use Rattle.queue.specs.Calls.{setUpResult}
-use Rattle.engine.specs.Run.{runTable, oldest, boundsOfClient, oldestWords, oldestVerdict, withoutOldest}
+use Rattle.engine.specs.Run.{runTable, oldest, boundsOfClient, oldestWords, resetOf, oldestVerdict, withoutOldest}
 use Rattle.model.specs.Calls.{Call, opens, submit, run, pending, completed, refused}
 use Rattle.claims.specs.Engine.{State, mkState, performCall}
 
@@ -40,7 +39,7 @@ encoderTable fields size =
 
 -- the tasks of the oldest batch that are drawn: of a faulty one those before its fault
 abbrev pub standing : State → List Task
-standing s = tasksDrawn (decodeBatch (boundsOfClient (s .engine) (oldest (s .engine) .client)) resetBank (oldestWords (s .engine) (s .ring)))
+standing s = tasksDrawn (decodeBatch (boundsOfClient (s .engine) (oldest (s .engine) .client)) (resetOf (s .engine)) (oldestWords (s .engine) (s .ring)))
 
 -- a refused call leaves record, ring and memory as they were, whatever they are
 abbrev pub RefusalNoOp : Call → State → Type 0
@@ -70,6 +69,6 @@ pub record OfEncoder (fields : Fields) (buffer : List ℕ) : Type 0 where
 
 pub record Demand1 : Type 0 where
   -- set up's refusal, 0 for none, is by its table; it is lent nothing
-  pub set-up : (setup : Setup) → refusalNumberOf (setUpResult (setup .ring) (setup .memory) (setup .common) .answer) ≡ firstRefusal (setUpTable setup)
+  pub set-up : (setup : Setup) → refusalNumberOf (setUpResult (setup .ring) (setup .memory) (setup .common) (setup .reset) .answer) ≡ firstRefusal (setUpTable setup)
   pub calls : (s : State) → OfCalls s
   pub encoder : (fields : Fields) (buffer : List ℕ) → OfEncoder fields buffer

@@ -6,7 +6,6 @@ use mathlib.Core.List.{List}
 use Prim.Native.Nat.{ℕ, _*_, _<_, _≤_}
 use lib.ListN.{length, take, drop}
 use Rattle.register.specs.declared.bank.Bank.{Bank}
-use Rattle.register.specs.Bank.{resetBank}
 use Rattle.rules.specs.declared.fault.Fault.{Fault}
 use Rattle.rules.specs.declared.task.Bounds.{Bounds}
 use Rattle.batch.specs.declared.verdict.Verdict.the-variants.{Faultless, Faulty}
@@ -20,7 +19,7 @@ use Rattle.raster.specs.Task.{drawTasks}
 use Rattle.raster.specs.Batch.{drawBatch}
 use Rattle.raster.specs.WriteFrame.{WriteFrame}
 use Rattle.queue.specs.Refusals.{firstRefusal}
-use Rattle.engine.specs.Run.{oldest, boundsOfClient, oldestWords, oldestVerdict, withoutOldest}
+use Rattle.engine.specs.Run.{oldest, boundsOfClient, oldestWords, resetOf, oldestVerdict, withoutOldest}
 use Rattle.model.specs.Calls.{run, completed}
 use Rattle.model.specs.BatchSemantics.{Confined}
 use Rattle.claims.specs.BatchSemantics.{completionStatusOf, semanticsFrom}
@@ -48,7 +47,7 @@ pub record OfBatch (bounds : Bounds) (bank : Bank) (words memory : List ℕ) : T
   -- a fault's place, in bytes, lies in the batch
   pub place : (tasks : ℕ) (fault : Fault) (offset : ℕ) → verdictOf (decodeBatch bounds bank words) ≡ Faulty tasks fault offset → offset < 4 * length words
 
--- what run answers and leaves: the oldest batch, read from the reset values on and within its client's bounds, is judged and drawn
+-- what run answers and leaves: the oldest batch, read from the record's reset values on and within its client's bounds, is judged and drawn
 abbrev pub executed : State → CallResult
 executed s =
     let batch = oldest (s .engine) in
@@ -56,7 +55,7 @@ executed s =
       answer = completed (batch .client) (batch .ticket) (completionStatusOf (oldestVerdict (s .engine) (s .ring)));
       after =
           mkState (withoutOldest (s .engine)) (s .ring)
-          (drawBatch (boundsOfClient (s .engine) (batch .client)) resetBank (oldestWords (s .engine) (s .ring)) (s .memory));
+          (drawBatch (boundsOfClient (s .engine) (batch .client)) (resetOf (s .engine)) (oldestWords (s .engine) (s .ring)) (s .memory));
     }
 
 pub record OfRun (s : State) : Type 0 where

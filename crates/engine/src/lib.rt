@@ -11,7 +11,7 @@ ghost use Rattle.record.specs.Queue.{takenSlots};
 ghost use Rattle.record.specs.Rules.{valid};
 ghost use Rattle.queue.specs.Refusals.{firstRefusal};
 ghost use Rattle.queue.specs.Calls.{setUpResult, openResult, submitResult, submitRing, pendingAnswer};
-ghost use Rattle.engine.specs.Run.{runTable, oldestTicket, oldest, boundsOfClient, pendingLowered, withoutOldest, runResult, runMemory};
+ghost use Rattle.engine.specs.Run.{runTable, oldestTicket, oldest, boundsOfClient, resetOf, pendingLowered, withoutOldest, runResult, runMemory};
 use batch::Verdict;
 use queue::Answer;
 use queue::Reply;
@@ -22,6 +22,7 @@ use record::Record;
 use record::Slot;
 use record::SlotState;
 use register::Bank;
+use reset::ResetRule;
 use rules::Bounds;
 
 // What run answers of the batch that it took. The verdict holds the fault, if there is one.
@@ -42,11 +43,11 @@ pub struct Ran {
     pub engine: Record,
 }
 
-// Set up with the lengths of ring, memory and common.
-pub fn set_up(ring: usize, memory: usize, common: usize) -> Reply
-    ensures { λ r. ⌜ r ≡ setUpResult ring memory common ⌝ }
+// Set up with the lengths of ring, memory and common, and the reset rule.
+pub fn set_up(ring: usize, memory: usize, common: usize, reset: ResetRule) -> Reply
+    ensures { λ r. ⌜ r ≡ setUpResult ring memory common reset ⌝ }
 {
-    queue::set_up(ring, memory, common)
+    queue::set_up(ring, memory, common, reset)
 }
 
 // Opens a client with a window.
@@ -104,6 +105,15 @@ fn bounds_for(engine: Record, client: u32) -> Bounds
         window: window_of(clients, client),
         common: setup.common,
     }
+}
+
+// The registers at the start of every batch.
+fn bank_for(engine: Record) -> Bank
+    ensures { λ r. ⌜ r ≡ resetOf engine ⌝ }
+{
+    let setup = engine.setup;
+    let rule = setup.reset;
+    Bank::reset(rule)
 }
 
 // One batch fewer pending for a client.
@@ -183,7 +193,7 @@ pub fn run_by(engine: Record, ring: &[u8], memory: &mut [u8], slow: bool) -> Ran
         batch.offset,
         batch.length,
         bounds,
-        Bank::reset(),
+        bank_for(engine),
         slow,
     );
     let completion = Completion {

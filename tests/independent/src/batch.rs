@@ -169,6 +169,7 @@ pub fn judge(task: &Task, bounds: &Bounds) -> Option<u32> {
 #[cfg(test)]
 mod tests {
     use super::*;
+    use crate::registers::UNBLENDED;
     use crate::writer::WORKED;
 
     /// The worked words are one task of a desk with this window.
@@ -178,21 +179,21 @@ mod tests {
 
     #[test]
     fn worked_words() {
-        assert_eq!(read(&WORKED, &bounds(), &Bank::reset()).answer(), [0x00010001, 0, 0]);
+        assert_eq!(read(&WORKED, &bounds(), &Bank::reset(UNBLENDED)).answer(), [0x00010001, 0, 0]);
         let mut words = WORKED;
         words[19] = 64;
-        assert_eq!(read(&words, &bounds(), &Bank::reset()).answer(), [0x00000002, 27, 72]);
+        assert_eq!(read(&words, &bounds(), &Bank::reset(UNBLENDED)).answer(), [0x00000002, 27, 72]);
     }
 
     #[test]
     fn three_tasks() {
         let words = [WORKED, WORKED, WORKED].concat();
-        assert_eq!(read(&words, &bounds(), &Bank::reset()).answer(), [0x00030001, 0, 0]);
+        assert_eq!(read(&words, &bounds(), &Bank::reset(UNBLENDED)).answer(), [0x00030001, 0, 0]);
     }
 
     #[test]
     fn half_written() {
-        assert_eq!(read(&WORKED[..18], &bounds(), &Bank::reset()).answer(), [0x00000100, 22, 56]);
-        assert_eq!(read(&WORKED[..19], &bounds(), &Bank::reset()).answer(), [0x00000100, 21, 72]);
+        assert_eq!(read(&WORKED[..18], &bounds(), &Bank::reset(UNBLENDED)).answer(), [0x00000100, 22, 56]);
+        assert_eq!(read(&WORKED[..19], &bounds(), &Bank::reset(UNBLENDED)).answer(), [0x00000100, 21, 72]);
     }
 }

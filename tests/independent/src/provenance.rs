@@ -2,7 +2,7 @@
 //! that says of each byte who drew it last.
 use crate::batch::{self, Reading};
 use crate::engine::Book;
-use crate::registers::{Bank, Task};
+use crate::registers::{Bank, Task, UNBLENDED};
 use crate::replay::{opened, records, Record, MEMORY};
 use crate::ring;
 use std::collections::BTreeMap;
@@ -67,7 +67,7 @@ impl Answers {
         let done = book.run().expect("a batch to run");
         self.tickets += 1;
         let words = ring::words(record.batch, 0, record.batch.len() as u64);
-        let reading = batch::read(&words, &book.bounds(done.client as usize), &Bank::reset());
+        let reading = batch::read(&words, &book.bounds(done.client as usize), &Bank::reset(UNBLENDED));
         self.draw(done.ticket, &reading);
         if done.fault != 0 {
             self.faults.insert(done.ticket, explained(&words, &reading, done.fault, done.place));

@@ -2,7 +2,7 @@
 use crate::made_batches::difference;
 use crate::made_tasks::Fields;
 use crate::pixel::RULES;
-use crate::registers::Bank;
+use crate::registers::{Bank, UNBLENDED};
 use crate::replay::{record, window_start};
 use crate::sample_tasks::{batch, blended, copy, file, fill, Place, ARGB8888, RGB565, RGB888};
 use crate::words::bytes;
@@ -90,7 +90,7 @@ pub fn four_clients() -> Vec<u8> {
 /// The words that take the registers from reset to a task's, or from one task's to the next one's.
 fn change(before: Option<&Fields>, after: &Fields) -> Vec<u32> {
     let bank = |fields: &Fields| registers(fields).expect("allowed fields");
-    difference(&before.map_or_else(Bank::reset, bank), &bank(after))
+    difference(&before.map_or_else(|| Bank::reset(UNBLENDED), bank), &bank(after))
 }
 
 pub fn left_over() -> Vec<u8> {

@@ -1,5 +1,5 @@
 //! The task writer (01, "Writer and replay"): a task's fields as the 80 bytes of one task.
-use crate::registers::Bank;
+use crate::registers::{Bank, UNBLENDED};
 
 /// Each field's register, its lowest bit and its width, in the order in which fields are given.
 pub const FIELDS: [(u32, u32, u32); 29] = [
@@ -81,7 +81,7 @@ pub const WORKED: [u32; 20] = [
 
 /// What a task's registers hold, if every field fits its bits and its register's rule.
 pub fn registers(fields: &[u32; 29]) -> Option<Bank> {
-    let mut bank = Bank::reset();
+    let mut bank = Bank::reset(UNBLENDED);
     for (offset, words) in gathered(fields)? {
         bank.write(offset, words).ok()?;
     }
@@ -116,7 +116,7 @@ pub fn written(fields: &[u32; 29], room: usize) -> Result<Vec<u8>, u32> {
     Ok(bytes)
 }
 
-/// The fields of a task with everything but the given ones as at reset.
+/// The fields of a task with everything but the given ones as at reset by the old rule.
 pub fn reset_with(changes: &[(usize, u32)]) -> [u32; 29] {
     let mut fields = [0; 29];
     fields[26] = 2;

@@ -10,6 +10,7 @@ mod pixels;
 mod queue;
 mod records;
 mod registers;
+mod resets;
 mod rules;
 mod spans;
 mod transforms;
@@ -25,11 +26,12 @@ use crate::trials::{Agreed, Trials};
 /// A subject's name, and what tries its cases.
 type Subject = (&'static str, fn(&mut Trials) -> Agreed);
 
-const SUBJECTS: [Subject; 15] = [
+const SUBJECTS: [Subject; 16] = [
     ("examples of the scope paper", examples::compare),
     ("registers", registers::compare),
     ("headers and groups", headers::compare),
     ("faults at every place", faults::compare),
+    ("reset rules", resets::compare),
     ("rules of a task", rules::compare),
     ("spans", spans::compare),
     ("pixels", pixels::compare),

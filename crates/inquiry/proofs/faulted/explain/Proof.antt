@@ -3,7 +3,7 @@ use Prim.Native.Nat.{ℕ}
 use mathlib.Core.Path.{_≡_, sym, ap, _∙_}
 use mathlib.Core.List.{List}
 use Rattle.ring.specs.Segment.{batchWords}
-use Rattle.register.specs.Bank.{resetBank}
+use Rattle.replay.specs.Lines.{fileReset}
 use Rattle.register.specs.declared.bank.Bank.{Bank}
 use Rattle.batch.specs.Batch.{DecodedBatch, decodeBatch, validationOf}
 use Rattle.inquiry.proofs.Batch.{explained-none, explained-fault}
@@ -23,7 +23,7 @@ abbrev Ws : tie.Start → List ℕ
 Ws c = batchWords (c .args .ring .now) (c .args .offset) (c .args .size)
 
 abbrev said : tie.Start → DecodedBatch
-said c = decodeBatch (c .args .bounds) resetBank (Ws c)
+said c = decodeBatch (c .args .bounds) fileReset (Ws c)
 
 judged : (c : tie.After-judge) → c .judge .result ≡ validationOf (said (c .before .before .before))
 judged c =

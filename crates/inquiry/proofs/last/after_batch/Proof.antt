@@ -5,7 +5,7 @@ use mathlib.Core.List.{List}
 use native.Mathlib.Omega.{arith}
 use lib.ListN.{length}
 use Rattle.ring.specs.Segment.{batchWords}
-use Rattle.register.specs.Bank.{resetBank}
+use Rattle.replay.specs.Lines.{fileReset}
 use Rattle.register.specs.declared.bank.Bank.{Bank}
 use Rattle.batch.specs.Batch.{decodeBatch, tasksDrawn}
 use Rattle.batch.specs.Walk.{decodeRest}
@@ -49,7 +49,7 @@ onward c =
 abbrev answerFrom : tie.Start Inv-loop μ-loop → Bank → Touched
 answerFrom s b = lastFrom (s .args .found) (s .args .i) (numbered (s .args .ticket) 0 (tasksDrawn (decodeBatch (s .args .bounds) b (Ws s))))
 
-from-reset : (c : tie.After-reset Inv-loop μ-loop) → answerFrom (c .before .before) resetBank ≡ answerFrom (c .before .before) (c .reset .result)
+from-reset : (c : tie.After-reset Inv-loop μ-loop) → answerFrom (c .before .before) fileReset ≡ answerFrom (c .before .before) (c .reset .result)
 from-reset c = ap (answerFrom (c .before .before)) (sym (c .reset .ensures))
 
 reset-requires : tie.Need-reset-requires Inv-loop μ-loop
