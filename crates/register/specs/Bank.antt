@@ -2,6 +2,7 @@
 use Prim.Native.Nat.{ℕ, _+_}
 use mathlib.Core.Bool.{cond}
 use lib.Dec.{eqb}
+use Rattle.gradient.specs.declared.Steps.{Steps}
 use Rattle.register.specs.declared.bank.SurfaceRegisters.{SurfaceRegisters}
 use Rattle.register.specs.declared.bank.Bank.{Bank}
 use Rattle.register.specs.declared.bank.WriteFault.the-variants.{NotWritable, Forbidden}
@@ -12,6 +13,9 @@ use Rattle.register.specs.Table.{registerKindOf, isWritable, acceptsWord
 abbrev pub resetSurface : SurfaceRegisters
 resetSurface = record { control = 0; size = 0; stride = 0; address = 0 }
 
+abbrev pub resetSteps : Steps
+resetSteps = record { alpha = 0; red = 0; green = 0; blue = 0 }
+
 -- reset is 0, but 0x090 resets to 0x00001300 (01 decides; 002 prints 0 for the word and 2 and 3 for its fields)
 abbrev pub resetBank : Bank
 resetBank = record {
@@ -19,6 +23,7 @@ resetBank = record {
   destination = resetSurface;
   output = resetSurface;
   colour = 0;
+  steps = resetSteps;
   blending = 0x00001300;
 }
 
@@ -35,6 +40,15 @@ surfaceAfterWrite base offset word s = record {
   address = registerAfterWrite (base + 0x10) offset word (s .address);
 }
 
+-- the steps of a gradient (02, request 3): A, R, G, B at 0x030, 0x034, 0x038 and 0x03C
+unfoldable pub stepsAfterWrite : ℕ → ℕ → Steps → Steps
+stepsAfterWrite offset word s = record {
+  alpha = registerAfterWrite 0x030 offset word (s .alpha);
+  red = registerAfterWrite 0x034 offset word (s .red);
+  green = registerAfterWrite 0x038 offset word (s .green);
+  blue = registerAfterWrite 0x03C offset word (s .blue);
+}
+
 -- the bank with a word in the register at an offset, all other registers as they were
 unfoldable pub bankAfterWrite : Bank → ℕ → ℕ → Bank
 bankAfterWrite bank offset word = record {
@@ -42,6 +56,7 @@ bankAfterWrite bank offset word = record {
   destination = surfaceAfterWrite 0x050 offset word (bank .destination);
   output = surfaceAfterWrite 0x100 offset word (bank .output);
   colour = registerAfterWrite 0x01C offset word (bank .colour);
+  steps = stepsAfterWrite offset word (bank .steps);
   blending = registerAfterWrite 0x090 offset word (bank .blending);
 }
 
