@@ -11,6 +11,16 @@ pub struct Steps {
     pub blue: u32,
 }
 
+impl Steps {
+    // No step: the colour is the same all along.
+    pub const RESET: Steps = Steps {
+        alpha: 0,
+        red: 0,
+        green: 0,
+        blue: 0,
+    };
+}
+
 // The number that a step's word stands for, in parts of 65,536.
 fn signed(word: u32) -> i64
     ensures { λ r. ⌜ r ≡ signedStep word ⌝ }

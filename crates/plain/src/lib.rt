@@ -7,6 +7,7 @@ ghost use Rattle.surface.specs.Drawn.{storePixel};
 ghost use Rattle.raster.specs.Task.{sourceColour, destinationColour, pixelColour, drawTask};
 ghost use Rattle.raster.specs.Row.{drawRow};
 ghost use Rattle.plain.specs.Pixel.{SourcePixel, DestinationPixel, Pixel, Row, Whole};
+use gradient::colour_at;
 use pixel::Colour;
 use register::Destination;
 use register::Source;
@@ -14,6 +15,7 @@ use register::SourceMode;
 use register::Task;
 use rows::mix;
 use rows::origin;
+use rows::source_point;
 use surface::load;
 use surface::store;
 
@@ -30,6 +32,14 @@ fn source_colour(memory: &[u8], source: Source, x: usize, y: usize) -> Colour
             load(memory, origin(surface, source.transform, x, y), format)
         }
         SourceMode::Colour => source.colour,
+        SourceMode::GradientX => {
+            let p = source_point(source.surface, source.transform, x, y);
+            colour_at(source.colour, source.steps, p.x as u16)
+        }
+        SourceMode::GradientY => {
+            let p = source_point(source.surface, source.transform, x, y);
+            colour_at(source.colour, source.steps, p.y as u16)
+        }
     }
 }
 

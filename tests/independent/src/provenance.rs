@@ -77,7 +77,7 @@ impl Answers {
 
     fn draw(&mut self, ticket: u32, reading: &Reading) {
         for (number, task) in reading.tasks.iter().enumerate() {
-            let writer = Writer { ticket, task: number, mode: u32::from(task.is_colour) };
+            let writer = Writer { ticket, task: number, mode: task.mode };
             bytes_drawn(task).for_each(|at| self.writers[at] = Some(writer));
         }
     }
@@ -116,7 +116,8 @@ fn explained(words: &[u32], reading: &Reading, fault: u32, place: u32) -> String
 #[cfg(test)]
 mod tests {
     use super::*;
-    use crate::batch_cases::{bytes, WORKED};
+    use crate::words::bytes;
+    use crate::writer::WORKED;
     use crate::replay::record;
 
     fn file(batches: &[&[u32]]) -> Vec<u8> {

@@ -1,9 +1,11 @@
 use mathlib.Core.Path.{sym, ap, _∙_}
+use native.Mathlib.Omega.{arith}
 use denote.Ref.{now}
 use Rattle.surface.specs.Drawn.{loadPixel}
 use Rattle.register.specs.Task.{isBuffer}
 use Rattle.register.specs.declared.task.SourceMode.{SourceMode}
 use Rattle.rows.specs.Row.{colourAt, sourcePixelOf}
+use Rattle.rows.proofs.Straight.{point-within}
 use Rattle.raster.specs.Task.{sourceModeColour, sourceColour}
 use Rattle.plain.proofs.Inside.{source-read}
 use borrow.Author.Needs.{needs}
@@ -40,6 +42,64 @@ returns-2 c =
     let a = c .before .before .before .before .args in
     sym (ap (λ (m : SourceMode). sourceModeColour m (a .source) (now (a .memory)) (sourcePixelOf (a .source .surface) (a .source .transform) (a .x) (a .y))) (c .before .enum-told2 .given .1))
 
+enum-told-3 : tie.Need-enum-told-3
+enum-told-3 c = search needs
+
+source-point-requires : tie.Need-source-point-requires
+source-point-requires c κs = search needs
+
+-- the place is one of the source's picture
+cast-colour-at : tie.Need-cast-colour-at
+cast-colour-at c =
+    let s = c .before .before .before .before .before in
+    let a = s .args in
+    let w = point-within (a .source .surface) (a .source .transform) (a .x) (a .y) (s .pre .within) in
+    omega (arith, rw (c .source-point .ensures) (w .across))
+
+colour-at-requires : tie.Need-colour-at-requires
+colour-at-requires c κs = search needs
+
+returns-3 : tie.Need-returns-3
+unfolding sourceColour
+returns-3 c = ?
+
+enum-told-4 : tie.Need-enum-told-4
+enum-told-4 c = search needs
+
+source-point-requires-2 : tie.Need-source-point-requires-2
+source-point-requires-2 c κs = search needs
+
+cast-colour-at-2 : tie.Need-cast-colour-at-2
+cast-colour-at-2 c =
+    let s = c .before .before .before .before .before in
+    let a = s .args in
+    let w = point-within (a .source .surface) (a .source .transform) (a .x) (a .y) (s .pre .within) in
+    omega (arith, rw (c .source-point2 .ensures) (w .down))
+
+colour-at-requires-2 : tie.Need-colour-at-requires-2
+colour-at-requires-2 c κs = search needs
+
+returns-4 : tie.Need-returns-4
+unfolding sourceColour
+returns-4 c = ?
+
 pub source-colour-spec : {M : Type 1} → statement M
 source-colour-spec =
-    tie.close (tie.spec enum-told origin-requires load-requires enum-told-2 returns returns-2)
+    tie.close
+    (tie.spec
+    enum-told
+    origin-requires
+    load-requires
+    enum-told-2
+    enum-told-3
+    source-point-requires
+    cast-colour-at
+    colour-at-requires
+    enum-told-4
+    source-point-requires-2
+    cast-colour-at-2
+    colour-at-requires-2
+    returns
+    returns-2
+    returns-3
+    returns-4)

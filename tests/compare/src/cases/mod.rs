@@ -5,6 +5,7 @@ mod blends;
 mod encoder;
 mod examples;
 mod faults;
+mod gradients;
 mod headers;
 mod pixels;
 mod queue;
@@ -25,7 +26,7 @@ use crate::trials::{Agreed, Trials};
 /// A subject's name, and what tries its cases.
 type Subject = (&'static str, fn(&mut Trials) -> Agreed);
 
-const SUBJECTS: [Subject; 15] = [
+const SUBJECTS: [Subject; 16] = [
     ("examples of the scope paper", examples::compare),
     ("registers", registers::compare),
     ("headers and groups", headers::compare),
@@ -36,6 +37,7 @@ const SUBJECTS: [Subject; 15] = [
     ("alphas", alphas::compare),
     ("blends", blends::compare),
     ("transforms", transforms::compare),
+    ("gradients", gradients::compare),
     ("batches of several tasks", batches::compare),
     ("queue", queue::compare),
     ("records", records::compare),

@@ -1,8 +1,8 @@
 use mathlib.Core.Path.{sym, _∙_}
 use native.Mathlib.Omega.{arith}
 use denote.Ref.{now}
-use Rattle.raster.proofs.Pixel.{pixel-plain, source-solid}
-use Rattle.raster.proofs.Place.{ordered, room, length-window, row-fits, row-drawn}
+use Rattle.raster.proofs.Pixel.{pixel-plain, source-uniform}
+use Rattle.raster.proofs.Place.{ordered, room, uniform-down, length-window, row-fits, row-drawn}
 use borrow.Author.Needs.{needs}
 use Rattle.raster.proofs.row.filled_row.Statement.{statement}
 use Rattle.raster.proofs.row.filled_row.Tie as tie
