@@ -1,11 +1,12 @@
 // The encoder (the papers' writer): a task's fields in, the bytes of a batch of that one task out. The first form has 80 bytes and no steps, the second 100.
 ghost use mathlib.Core.Path.{_≡_};
 ghost use lib.ListN.{length};
-ghost use Rattle.encoder.specs.Words.{taskWords, shadedWords};
-ghost use Rattle.encoder.specs.Forms.{firstForm, secondForm};
+ghost use Rattle.encoder.specs.Words.{taskWords};
+ghost use Rattle.encoder.specs.Forms.{firstForm};
 ghost use Rattle.encoder.specs.Encoder.{encodeRefusalOf, answerOf, bufferAfter};
 
 pub mod fields;
+pub mod shaded;
 
 pub use fields::AlphaFields;
 pub use fields::BlendingFields;
@@ -14,7 +15,7 @@ pub use fields::Fields;
 pub use fields::SourceFields;
 pub use fields::SurfaceFields;
 pub use fields::TransformFields;
-use fields::steps_allowed;
+pub use shaded::encode_shaded;
 use gradient::Steps;
 use register::Bank;
 
@@ -71,43 +72,6 @@ fn words_of(bank: Bank) -> [u32; 20]
     ]
 }
 
-// The same with the steps: their group comes right after the first.
-fn shaded_words_of(bank: Bank) -> [u32; 25]
-    ensures { λ r. ⌜ r ≡ shadedWords bank ⌝ }
-{
-    let source = bank.source;
-    let steps = bank.steps;
-    let destination = bank.destination;
-    let output = bank.output;
-    [
-        0x00100014,
-        source.control,
-        source.size,
-        source.stride,
-        bank.colour,
-        source.address,
-        0x00300010,
-        steps.alpha,
-        steps.red,
-        steps.green,
-        steps.blue,
-        0x0050000C,
-        destination.control,
-        destination.size,
-        destination.stride,
-        0x00600004,
-        destination.address,
-        0x00900004,
-        bank.blending,
-        0x0100000C,
-        output.control,
-        output.size,
-        output.stride,
-        0x01100005,
-        output.address,
-    ]
-}
-
 // Writes the batch of the one task with these fields to the first 80 bytes of a buffer, or refuses and writes nothing.
 pub fn encode(fields: Fields, buffer: &mut [u8]) -> Answer
     ensures { λ r. ⌜
@@ -124,26 +88,6 @@ pub fn encode(fields: Fields, buffer: &mut [u8]) -> Answer
         return Answer::ShortBuffer;
     }
     let words = words_of(fields.registers(Steps::RESET));
-    word::write_le_words(buffer, 0, &words);
-    Answer::Written
-}
-
-// The same in the second form, with steps, to the first 100 bytes.
-pub fn encode_shaded(fields: Fields, steps: Steps, buffer: &mut [u8]) -> Answer
-    ensures { λ r. ⌜
-        (r ≡ answerOf (secondForm fields steps) (length (now (buffer .entry))))
-        × (now (buffer .exit) ≡ bufferAfter (secondForm fields steps) (now (buffer .entry)))
-        ⌝ }
-{
-    let size = buffer.len();
-    let allowed = fields.is_allowed() & steps_allowed(steps);
-    if !allowed {
-        return Answer::Forbidden;
-    }
-    if size < 100 {
-        return Answer::ShortBuffer;
-    }
-    let words = shaded_words_of(fields.registers(steps));
     word::write_le_words(buffer, 0, &words);
     Answer::Written
 }

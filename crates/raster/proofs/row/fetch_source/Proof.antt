@@ -45,19 +45,35 @@ same-length-2 : tie.Need-same-length-2
 same-length-2 c = search needs
 
 returns-2 : tie.Need-returns-2
-returns-2 c = ?
+returns-2 c =
+    let t = c .before .before .before .before .before in
+    let s = t .before .before .before .before in
+    let a = s .args in
+    λ x z.
+    c .before .before .spread .ensures x z
+    ∙ (c .before .before .before .uniform-colour .ensures
+    ∙ source-uniform (a .source) (now (a .memory)) x (a .y) (ap isUniform (t .enum-told2 .given .1)) (s .pre .upright))
 
 enum-told-3 : tie.Need-enum-told-3
 enum-told-3 c = search needs
 
 fetch-gradient-requires : tie.Need-fetch-gradient-requires
-fetch-gradient-requires c κs = ?
+fetch-gradient-requires c κs =
+    let s = c .before .before .before .before .before in
+    (s .pre .room, upright-across (s .args .source) (s .pre .upright (ap isBuffer (c .before .enum-told3 .given .1))) (s .args .width) (s .pre .across))
 
 same-length-3 : tie.Need-same-length-3
 same-length-3 c = search needs
 
 returns-3 : tie.Need-returns-3
-returns-3 c = ?
+returns-3 c =
+    let t = c .before .before .before .before in
+    let s = t .before .before .before .before in
+    let a = s .args in
+    let is = t .enum-told3 .given .1 in
+    λ x z.
+    c .before .before .fetch-gradient .ensures x z
+    ∙ source-across (a .source) (now (a .memory)) x (a .y) is (s .pre .upright (ap isBuffer is))
 
 enum-told-4 : tie.Need-enum-told-4
 enum-told-4 c = search needs
@@ -74,7 +90,14 @@ same-length-4 : tie.Need-same-length-4
 same-length-4 c = search needs
 
 returns-4 : tie.Need-returns-4
-returns-4 c = ?
+returns-4 c =
+    let t = c .before .before .before .before .before in
+    let s = t .before .before .before .before in
+    let a = s .args in
+    λ x z.
+    c .before .before .spread2 .ensures x z
+    ∙ (c .before .before .before .uniform-colour2 .ensures
+    ∙ source-uniform (a .source) (now (a .memory)) x (a .y) (ap isUniform (t .enum-told4 .given .1)) (s .pre .upright))
 
 pub fetch-source-spec : {M : Type 1} → statement M
 fetch-source-spec =

@@ -30,24 +30,30 @@ mirror-requires c κs = search needs
 -- the place is one of the source's rows
 cast-colour-at : tie.Need-cast-colour-at
 cast-colour-at c =
-    let a = c .before .before .before .before .before .before .args in
-    let l = mirrored-below (a .source .transform .flip .vertical) (a .source .surface .height) (a .y) (c .before .before .before .before .before .before .pre) in
+    let s = c .before .before .before .before .before .before .before in
+    let a = s .args in
+    let l = mirrored-below (a .source .transform .flip .vertical) (a .source .surface .height) (a .y) (s .pre) in
     omega (arith, c .mirror .ensures)
 
 colour-at-requires : tie.Need-colour-at-requires
 colour-at-requires c κs = search needs
 
 returns : tie.Need-returns
-returns c = rw (c .before .enum-told .given .1)
+returns c = rw (c .enum-told .given .1)
 
 returns-2 : tie.Need-returns-2
-returns-2 c = rw (c .before .enum-told2 .given .1)
+returns-2 c = rw (c .enum-told2 .given .1)
 
 returns-3 : tie.Need-returns-3
-returns-3 c = rw (c .before .enum-told3 .given .1)
+returns-3 c = rw (c .enum-told3 .given .1)
 
 returns-4 : tie.Need-returns-4
-returns-4 c = ?
+returns-4 c =
+    let t = c .before .before .before .before .before in
+    let a = t .before .before .before .args in
+    c .colour-at .ensures
+    ∙ (ap (λ (i : ℕ). gradientColour (a .source .colour) (a .source .steps) i) (c .before .mirror .ensures)
+    ∙ sym (ap (λ (m : SourceMode). uniformColour m (a .source) (a .y)) (t .enum-told4 .given .1)))
 
 pub uniform-colour-spec : {M : Type 1} → statement M
 uniform-colour-spec =

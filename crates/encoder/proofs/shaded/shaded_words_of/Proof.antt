@@ -1,7 +1,7 @@
 use mathlib.Core.Path.{refl}
 use Rattle.encoder.specs.Words.{shadedWords}
-use Rattle.encoder.proofs.shaded_words_of.Statement.{statement}
-use Rattle.encoder.proofs.shaded_words_of.Tie as tie
+use Rattle.encoder.proofs.shaded.shaded_words_of.Statement.{statement}
+use Rattle.encoder.proofs.shaded.shaded_words_of.Tie as tie
 
 returns : tie.Need-returns
 unfolding shadedWords

@@ -10,8 +10,8 @@ use Rattle.encoder.specs.Words.{shadedWords}
 use Rattle.encoder.specs.Forms.{secondForm, formAllowed}
 use Rattle.encoder.proofs.RoundTrip.{fields-allowed}
 use Rattle.encoder.proofs.Written.{forbidden, short, fitting}
-use Rattle.encoder.proofs.encode_shaded.Statement.{statement}
-use Rattle.encoder.proofs.encode_shaded.Tie as tie
+use Rattle.encoder.proofs.shaded.encode_shaded.Statement.{statement}
+use Rattle.encoder.proofs.shaded.encode_shaded.Tie as tie
 
 -- past the first test fields and steps are allowed
 yes : (c : tie.Else1) → formAllowed (secondForm (c .before .before .before .before .args .fields) (c .before .before .before .before .args .steps)) ≡ true
