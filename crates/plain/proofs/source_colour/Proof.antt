@@ -1,11 +1,11 @@
 use mathlib.Core.Path.{sym, ap, _∙_}
-use native.Mathlib.Omega.{arith}
+use Prim.Native.Nat.{ℕ}
 use denote.Ref.{now}
+use Rattle.gradient.specs.Gradient.{gradientColour}
 use Rattle.surface.specs.Drawn.{loadPixel}
 use Rattle.register.specs.Task.{isBuffer}
 use Rattle.register.specs.declared.task.SourceMode.{SourceMode}
 use Rattle.rows.specs.Row.{colourAt, sourcePixelOf}
-use Rattle.rows.proofs.Straight.{point-within}
 use Rattle.raster.specs.Task.{sourceModeColour, sourceColour}
 use Rattle.plain.proofs.Inside.{source-read}
 use borrow.Author.Needs.{needs}
@@ -45,43 +45,40 @@ returns-2 c =
 enum-told-3 : tie.Need-enum-told-3
 enum-told-3 c = search needs
 
-source-point-requires : tie.Need-source-point-requires
-source-point-requires c κs = search needs
-
--- the place is one of the source's picture
-cast-colour-at : tie.Need-cast-colour-at
-cast-colour-at c =
-    let s = c .before .before .before .before .before in
-    let a = s .args in
-    let w = point-within (a .source .surface) (a .source .transform) (a .x) (a .y) (s .pre .within) in
-    omega (arith, rw (c .source-point .ensures) (w .across))
+column-of-requires : tie.Need-column-of-requires
+column-of-requires c κs = search needs
 
 colour-at-requires : tie.Need-colour-at-requires
 colour-at-requires c κs = search needs
 
 returns-3 : tie.Need-returns-3
 unfolding sourceColour
-returns-3 c = ?
+returns-3 c =
+    let p = c .before in
+    let t = p .before in
+    let a = t .before .before .before .args in
+    c .colour-at .ensures
+    ∙ (ap (λ (i : ℕ). gradientColour (a .source .colour) (a .source .steps) i) (p .column-of .ensures)
+    ∙ sym (ap (λ (m : SourceMode). sourceModeColour m (a .source) (now (a .memory)) (sourcePixelOf (a .source .surface) (a .source .transform) (a .x) (a .y))) (t .enum-told3 .given .1)))
 
 enum-told-4 : tie.Need-enum-told-4
 enum-told-4 c = search needs
 
-source-point-requires-2 : tie.Need-source-point-requires-2
-source-point-requires-2 c κs = search needs
-
-cast-colour-at-2 : tie.Need-cast-colour-at-2
-cast-colour-at-2 c =
-    let s = c .before .before .before .before .before in
-    let a = s .args in
-    let w = point-within (a .source .surface) (a .source .transform) (a .x) (a .y) (s .pre .within) in
-    omega (arith, rw (c .source-point2 .ensures) (w .down))
+row-of-requires : tie.Need-row-of-requires
+row-of-requires c κs = search needs
 
 colour-at-requires-2 : tie.Need-colour-at-requires-2
 colour-at-requires-2 c κs = search needs
 
 returns-4 : tie.Need-returns-4
 unfolding sourceColour
-returns-4 c = ?
+returns-4 c =
+    let p = c .before in
+    let t = p .before in
+    let a = t .before .before .before .args in
+    c .colour-at2 .ensures
+    ∙ (ap (λ (i : ℕ). gradientColour (a .source .colour) (a .source .steps) i) (p .row-of .ensures)
+    ∙ sym (ap (λ (m : SourceMode). sourceModeColour m (a .source) (now (a .memory)) (sourcePixelOf (a .source .surface) (a .source .transform) (a .x) (a .y))) (t .enum-told4 .given .1)))
 
 pub source-colour-spec : {M : Type 1} → statement M
 source-colour-spec =
@@ -92,12 +89,10 @@ source-colour-spec =
     load-requires
     enum-told-2
     enum-told-3
-    source-point-requires
-    cast-colour-at
+    column-of-requires
     colour-at-requires
     enum-told-4
-    source-point-requires-2
-    cast-colour-at-2
+    row-of-requires
     colour-at-requires-2
     returns
     returns-2
