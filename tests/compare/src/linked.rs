@@ -230,8 +230,7 @@ pub fn encode_shaded(fields: &Fields, steps: &Steps, buffer: &[u8], guards: usiz
     let mut lent = Lent::new(buffer, guards);
     let (fields, [alpha, red, green, blue]) = (HeaderFields::of(fields), *steps);
     // The pointer is followed by the number of bytes that lie there.
-    let number =
-        unsafe { library::wenditsal_encode_shaded(fields, alpha, red, green, blue, lent.pointer(), lent.length) };
+    let number = unsafe { library::wenditsal_encode_shaded(fields, alpha, red, green, blue, lent.pointer(), lent.length) };
     Some((number, lent.returned()?))
 }
 

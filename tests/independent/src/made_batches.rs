@@ -78,7 +78,8 @@ fn spoil(random: &mut Random, words: &mut Vec<u32>, fault: u32) {
             words[last] &= !1;
         }
         23 => {
-            let offset = random.pick(&[0x00C, 0x024, 0x02C, 0x040, 0x04C, 0x05C, 0x064, 0x08C, 0x094, 0x10C, 0x114, 0, 0xFFFC, 0x10C]);
+            let offset = random
+                .pick(&[0x00C, 0x024, 0x02C, 0x040, 0x04C, 0x05C, 0x064, 0x08C, 0x094, 0x10C, 0x114, 0, 0xFFFC, 0x10C]);
             let offset = if random.one_in(2) { random.pick(&offsets()) + 4 } else { offset };
             words[at] = words[at] & 0xFFFF | offset << 16;
         }

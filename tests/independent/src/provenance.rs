@@ -116,9 +116,9 @@ fn explained(words: &[u32], reading: &Reading, fault: u32, place: u32) -> String
 #[cfg(test)]
 mod tests {
     use super::*;
+    use crate::replay::record;
     use crate::words::bytes;
     use crate::writer::WORKED;
-    use crate::replay::record;
 
     fn file(batches: &[&[u32]]) -> Vec<u8> {
         let mut file = vec![1];

@@ -174,7 +174,8 @@ mod tests {
     #[test]
     fn second_form() {
         let fields = reset_with(&[(0, 2), (1, 1), (7, 2), (8, 0x80FF0000), (9, 1), (21, 2), (22, 1), (23, 8), (24, 16384)]);
-        let (first, second) = (written(&fields, 80).unwrap(), shaded_written(&fields, &[1, 2, 3, 0x01FF_FFFF], 100).unwrap());
+        let (first, second) =
+            (written(&fields, 80).unwrap(), shaded_written(&fields, &[1, 2, 3, 0x01FF_FFFF], 100).unwrap());
         assert_eq!([&second[..24], &second[44..]].concat(), first);
         assert_eq!(second[24..44], bytes(&[0x0030_0010, 1, 2, 3, 0x01FF_FFFF]));
         assert_eq!(shaded_written(&fields, &[0; 4], 99), Err(12));

@@ -12,8 +12,30 @@ use independent::writer::{shaded_written, written};
 
 /// In parts of 65,536, each way: the least, halves and wholes and what is about them, and the ends of the 25 bits.
 const STEPS: [u32; 24] = [
-    0, 1, 2, 0x7FFF, 0x8000, 0x8001, 0xFFFF, 0x1_0000, 0x1_0001, 0xFF_0000, 0x100_0000 - 2, 0x100_0000 - 1, 0x100_0000, 0x100_0001,
-    0x101_0000, 0x1FE_FFFF, 0x1FF_0000, 0x1FF_0001, 0x1FF_7FFF, 0x1FF_8000, 0x1FF_8001, 0x1FF_FFFD, 0x1FF_FFFE, 0x1FF_FFFF,
+    0,
+    1,
+    2,
+    0x7FFF,
+    0x8000,
+    0x8001,
+    0xFFFF,
+    0x1_0000,
+    0x1_0001,
+    0xFF_0000,
+    0x100_0000 - 2,
+    0x100_0000 - 1,
+    0x100_0000,
+    0x100_0001,
+    0x101_0000,
+    0x1FE_FFFF,
+    0x1FF_0000,
+    0x1FF_0001,
+    0x1FF_7FFF,
+    0x1FF_8000,
+    0x1FF_8001,
+    0x1FF_FFFD,
+    0x1FF_FFFE,
+    0x1FF_FFFF,
 ];
 
 pub fn compare(trials: &mut Trials) -> Agreed {
