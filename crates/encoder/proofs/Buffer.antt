@@ -17,7 +17,6 @@ use Rattle.rules.specs.declared.task.Bounds.{Bounds}
 use Rattle.batch.specs.Batch.{decodeBatch}
 use Rattle.encoder.specs.declared.Answer.{Answer}
 use Rattle.encoder.specs.declared.Answer.the-variants.{Written, Forbidden, ShortBuffer}
-use Rattle.encoder.specs.Registers.{bankOf}
 use Rattle.encoder.specs.Words.{taskWords, shadedWords}
 use Rattle.encoder.specs.Forms.{Form, firstForm, secondForm, fieldsIn, formAllowed, formSize, formWords}
 use Rattle.encoder.specs.Encoder.{answerOf, taskBytes, bufferOnAnswer, bufferAfter}

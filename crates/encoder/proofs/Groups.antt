@@ -241,7 +241,7 @@ unfolding taskWords
 task-read bounds old b k rest t e =
     group-on bounds old k (k + 6) 0x00100014 (words1 b) 0x0050000C (from2 b rest) refl refl (omega arith) (omega arith) refl (first b t)
     ∙ rest-read bounds (after1 old b) b (k + 6) (k + 18) (k + 20) rest t
-        (first-stored old b ∙ ap (λ (s : Steps). keeping s b) (sym e)) (omega arith) (omega arith)
+    (first-stored old b ∙ ap (λ (s : Steps). keeping s b) (sym e)) (omega arith) (omega arith)
 
 -- the second form writes every register
 abbrev after-steps : Bank → Bank → Bank

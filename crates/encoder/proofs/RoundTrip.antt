@@ -3,7 +3,7 @@
 use mathlib.Core.Path.{_≡_, refl, sym, ap, _∙_}
 use mathlib.Core.Bool.{true}
 use mathlib.Core.List.{List, [], _∷_, _++_, append-nil}
-use Prim.Native.Nat.{ℕ, _+_, _^_, _<_}
+use Prim.Native.Nat.{ℕ, _+_}
 use native.Mathlib.Omega.{arith}
 use lib.ListN.{length}
 use Rattle.word.specs.Word.{words}
@@ -13,7 +13,7 @@ use Rattle.register.specs.Bank.{resetSteps}
 use Rattle.register.specs.declared.bank.Bank.{Bank}
 use Rattle.rules.specs.declared.task.Bounds.{Bounds}
 use Rattle.rules.specs.Rules.{checkTask}
-use Rattle.batch.specs.Batch.{DecodedBatch, finished, stopWith, start, afterTaskCheck, decodeFrom, decodeBatch}
+use Rattle.batch.specs.Batch.{DecodedBatch, finished, start, afterTaskCheck, decodeFrom, decodeBatch}
 use Rattle.batch.specs.Marks.{taskEndCountFrom, taskEndCount}
 use Rattle.encoder.specs.declared.fields.Fields.{Fields}
 use Rattle.encoder.specs.Fields.{allowed, stepsAllowed}

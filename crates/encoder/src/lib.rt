@@ -15,9 +15,9 @@ pub use fields::Fields;
 pub use fields::SourceFields;
 pub use fields::SurfaceFields;
 pub use fields::TransformFields;
-pub use shaded::encode_shaded;
 use gradient::Steps;
 use register::Bank;
+pub use shaded::encode_shaded;
 
 // What is answered: the task is written, or why it is refused.
 pub enum Answer {

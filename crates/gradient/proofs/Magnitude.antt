@@ -1,18 +1,14 @@
 -- Signed numbers: their magnitudes, and what the machine reads back.
-use mathlib.Core.Path.{_≡_, refl, sym, ap, _∙_, subst}
-use Prim.Native.Nat.{zero, zero-le}
-use native.Mathlib.Nat.{le-refl, le-trans}
-use mathlib.Core.Bool.{cond}
-use lib.IntN.{+ℤ-idl, _-ℤ_}
-use mathlib.Core.Bool.{Bool, true, false, not}
-use Prim.Native.Nat.{ℕ, suc, _+_, _*_, _-_, _/_, _≤_, _<_, _^_, min}
+use mathlib.Core.Path.{_≡_, refl, sym, subst}
+use mathlib.Core.Bool.{cond, Bool, true, false, not}
+use Prim.Native.Nat.{zero, zero-le, ℕ, suc, _+_, _*_, _-_, _≤_, _<_, _^_}
+use native.Mathlib.Nat.{le-refl, min-eq-left, min-eq-right, lt-of-le-of-lt, mul-le-mul}
 use native.Mathlib.Omega.{arith}
-use native.Mathlib.Nat.{min-eq-left, min-eq-right, lt-of-le-of-lt, mul-le-mul}
+use lib.IntN.{_-ℤ_, ℤ, pos, negsuc, negℤ, _+ℤ_, _*ℤ_, natAbs}
 use lib.Dec.{T, ltb, ltb→lt, nltb→le}
-use lib.IntN.{ℤ, pos, negsuc, negℤ, _+ℤ_, _*ℤ_, natAbs}
 use lib.Signed.{ltZ, shrZ, mag, nonNeg, mag-shr}
 use mir.Syntax.{w64}
-use mir.Val.{SFits, toZ, ofZ}
+use mir.Val.{SFits, toZ}
 use mir.ValLaws.{toZ-ofZ}
 use Rattle.gradient.specs.Gradient.{signedStep, roundedDown, held}
 

@@ -7,8 +7,8 @@ ghost use Rattle.gradient.specs.Gradient.{gradientColour};
 ghost use Rattle.rows.specs.Row.{HoldsColours};
 use crate::argb::store_word;
 use crate::argb::word_of;
-use gradient::colour_at;
 use gradient::Steps;
+use gradient::colour_at;
 use pixel::Colour;
 use transform::mirror;
 

@@ -1,6 +1,5 @@
 use mathlib.Core.Path.{_≡_, sym, subst}
 use mathlib.Core.Bool.{not}
-use Prim.Native.Nat.{ℕ, _<_}
 use lib.IntN.{ℤ, pos, natAbs}
 use lib.Dec.{T}
 use lib.Signed.{ltZ, nonNeg}
