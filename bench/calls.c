@@ -25,8 +25,8 @@ static uint32_t value;
 
 /* ---- the calls */
 
-static void set_up(void) { returned = wenditsal_set_up(engine, engine_size, RING, MEMORY, COMMON); }
-static void set_up_refused(void) { returned = wenditsal_set_up(engine, engine_size, RING + 1, MEMORY, COMMON); }
+static void set_up(void) { returned = wenditsal_set_up(engine, engine_size, RING, MEMORY, COMMON, WENDITSAL_RESET_SRC_OVER); }
+static void set_up_refused(void) { returned = wenditsal_set_up(engine, engine_size, RING + 1, MEMORY, COMMON, WENDITSAL_RESET_SRC_OVER); }
 static void restore(void) { memcpy(engine, saved, sizeof engine); }
 static void open_window(void) { returned = wenditsal_open(engine, engine_size, COMMON + 3 * WINDOW, WINDOW, &value); }
 static void restore_open(void) { restore(); open_window(); }

@@ -25,10 +25,11 @@ struct server {
 
 /* ---- the loop */
 
-/* Sets up the engine and opens the four clients. Answers the refusal's number. */
+/* Sets up the engine and opens the four clients. Answers the refusal's number. Files of version 1 are written for the old reset rule. */
 static uint32_t start(struct server *server)
 {
-    uint32_t refusal = wenditsal_set_up(server->engine, sizeof server->engine, RING, MEMORY, COMMON);
+    uint32_t refusal =
+        wenditsal_set_up(server->engine, sizeof server->engine, RING, MEMORY, COMMON, WENDITSAL_RESET_UNBLENDED);
     uint32_t id;
     uint32_t i;
 

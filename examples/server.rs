@@ -9,7 +9,7 @@
 //! memory may be written as a picture; FORMAT is ARGB8888, RGB888 or RGB565. examples/run_rust builds and runs it.
 use std::io::{self, BufReader, BufWriter, Read, Write};
 use std::process::ExitCode;
-use wenditsal::{Engine, Format, Refusal, Setup};
+use wenditsal::{Engine, Format, Refusal, ResetRule, Setup};
 
 const MEMORY: usize = 65536;
 const COMMON: u32 = 16384;
@@ -22,12 +22,13 @@ struct Server<W: Write> {
 }
 
 impl<W: Write> Server<W> {
-    /// Sets up the engine and opens the four clients.
+    /// Sets up the engine and opens the four clients. Files of version 1 are written for the old reset rule.
     fn start(lines: W) -> Result<Self, Refusal> {
         let mut engine = Engine::new(Setup {
             ring: 32768,
             memory: MEMORY,
             common: COMMON as usize,
+            reset: ResetRule::Unblended,
         })?;
         for client in 0..4 {
             engine.open(COMMON + WINDOW * client, WINDOW)?;

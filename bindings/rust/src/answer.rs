@@ -181,16 +181,16 @@ pub struct Completion {
     pub client: u32,
     /// The ticket that submit answered.
     pub ticket: u32,
-    /// The status word: tasks x 65,536 + 1 for a faultless batch.
+    /// The status word: tasks x 65,536 + 1 for a faultless batch, tasks x 65,536 + the fault's status for a faulty one.
     pub status: u32,
-    /// Nothing for a batch that was drawn.
+    /// Nothing for a batch that was drawn whole.
     pub fault: Option<Fault>,
     /// Where in the batch the fault lies, in bytes; 0 without a fault.
     pub place: u32,
 }
 
 impl Completion {
-    /// How many tasks the status word counts.
+    /// How many tasks the status word counts: those that were drawn.
     ///
     /// ```
     /// # use wenditsal::Completion;

@@ -5,7 +5,33 @@ use crate::library::{self, CompletionFields};
 /// How many bytes an engine record has.
 pub const ENGINE_SIZE: usize = 272;
 
-/// The lengths that an engine is set up with, in bytes.
+/// What register 0x090, blending, holds at the start of every batch. No call changes an engine's rule.
+///
+/// ```
+/// use wenditsal::{Engine, Fault, Refusal, ResetRule, Setup};
+///
+/// // A pixel of one colour, in a batch that leaves blending and destination alone.
+/// let words = [0x0010_0010, 5, 0x0001_0001, 0, 0x80FF_0000, 0x0100_000C, 0, 0x0001_0001, 8, 0x0110_0005, 0];
+/// let batch: Vec<u8> = words.into_iter().flat_map(u32::to_le_bytes).collect();
+/// let fault = |reset| {
+///     let mut engine = Engine::new(Setup { ring: 128, memory: 64, common: 0, reset })?;
+///     let client = engine.open(0, 64)?;
+///     engine.submit(client, &batch)?;
+///     engine.run().map(|done| done.fault)
+/// };
+/// assert_eq!(fault(ResetRule::Unblended), Ok(None));
+/// // It blends, and there is no destination.
+/// assert_eq!(fault(ResetRule::SrcOver), Ok(Some(Fault::BadSurface)));
+/// ```
+#[derive(Clone, Copy, Debug, PartialEq, Eq, Hash)]
+pub enum ResetRule {
+    /// 0x00001300: blending is off until a batch turns it on. For what was written for it, as replay files of version 1.
+    Unblended = 0,
+    /// 0x00000B01: tasks blend by SRC_OVER until their batch writes the register. For new engines.
+    SrcOver = 1,
+}
+
+/// What an engine is set up with: lengths in bytes, and the reset rule.
 #[derive(Clone, Copy, Debug, PartialEq, Eq, Hash)]
 pub struct Setup {
     /// The ring, through which batches go: a multiple of 128, up to 32,768.
@@ -14,6 +40,8 @@ pub struct Setup {
     pub memory: usize,
     /// The first part of memory, which every client may read and none may draw in.
     pub common: usize,
+    /// What register 0x090 is at the start of every batch.
+    pub reset: ResetRule,
 }
 
 /// An engine, with all that it works on. It may be sent to another thread, cloned, and saved by its parts.
@@ -31,14 +59,14 @@ impl Engine {
     /// Sets up an engine whose ring and memory are zeros.
     ///
     /// ```
-    /// use wenditsal::{Engine, Refusal, Setup};
+    /// use wenditsal::{Engine, Refusal, ResetRule, Setup};
     ///
-    /// let engine = Engine::new(Setup { ring: 128, memory: 1024, common: 0 })?;
+    /// let engine = Engine::new(Setup { ring: 128, memory: 1024, common: 0, reset: ResetRule::SrcOver })?;
     /// assert_eq!(engine.memory(), [0; 1024]);
     ///
-    /// let odd = Engine::new(Setup { ring: 100, memory: 1024, common: 0 });
+    /// let odd = Engine::new(Setup { ring: 100, memory: 1024, common: 0, reset: ResetRule::SrcOver });
     /// assert_eq!(odd, Err(Refusal::RingLength));
-    /// let huge = Engine::new(Setup { ring: 128, memory: usize::MAX, common: 0 });
+    /// let huge = Engine::new(Setup { ring: 128, memory: usize::MAX, common: 0, reset: ResetRule::SrcOver });
     /// assert_eq!(huge, Err(Refusal::MemoryLength));
     /// # Ok::<(), Refusal>(())
     /// ```
@@ -48,15 +76,15 @@ impl Engine {
     pub fn new(setup: Setup) -> Result<Engine, Refusal> {
         let mut record = [0; ENGINE_SIZE];
         // Refused before anything is allocated, so that no length is too large to ask for.
-        Refusal::check(library::set_up(&mut record, setup.ring, setup.memory, setup.common))?;
+        Refusal::check(library::set_up(&mut record, setup.ring, setup.memory, setup.common, setup.reset as u32))?;
         Ok(Engine { record, ring: vec![0; setup.ring], memory: vec![0; setup.memory] })
     }
 
     /// Opens a client with a window in memory: `length` bytes from `start` on. Answers its id.
     ///
     /// ```
-    /// # use wenditsal::{Engine, Refusal, Setup};
-    /// # let mut engine = Engine::new(Setup { ring: 128, memory: 1024, common: 256 })?;
+    /// # use wenditsal::{Engine, Refusal, ResetRule, Setup};
+    /// # let mut engine = Engine::new(Setup { ring: 128, memory: 1024, common: 256, reset: ResetRule::SrcOver })?;
     /// assert_eq!(engine.open(256, 512), Ok(0));
     /// assert_eq!(engine.open(700, 100), Err(Refusal::BadWindow));
     /// assert_eq!(engine.open(768, 256), Ok(1));
@@ -75,8 +103,8 @@ impl Engine {
     /// it is run.
     ///
     /// ```
-    /// # use wenditsal::{Engine, Refusal, Setup};
-    /// # let mut engine = Engine::new(Setup { ring: 128, memory: 1024, common: 0 })?;
+    /// # use wenditsal::{Engine, Refusal, ResetRule, Setup};
+    /// # let mut engine = Engine::new(Setup { ring: 128, memory: 1024, common: 0, reset: ResetRule::SrcOver })?;
     /// let client = engine.open(0, 1024)?;
     /// assert_eq!(engine.submit(client, &[0; 80]), Ok(0));
     /// assert_eq!(engine.submit(client, &[0; 80]), Err(Refusal::NoRoom));
@@ -95,11 +123,11 @@ impl Engine {
         Ok(ticket)
     }
 
-    /// Takes the oldest batch, judges it and, if it is faultless, draws it. A faulty batch is no refusal.
+    /// Takes the oldest batch, judges it and draws its tasks, those before a fault too. A faulty batch is no refusal.
     ///
     /// ```
-    /// # use wenditsal::{Engine, Fault, Refusal, Setup};
-    /// # let mut engine = Engine::new(Setup { ring: 128, memory: 1024, common: 0 })?;
+    /// # use wenditsal::{Engine, Fault, Refusal, ResetRule, Setup};
+    /// # let mut engine = Engine::new(Setup { ring: 128, memory: 1024, common: 0, reset: ResetRule::SrcOver })?;
     /// let client = engine.open(0, 1024)?;
     /// let ticket = engine.submit(client, &[0; 8])?;
     /// let done = engine.run()?;
@@ -120,8 +148,8 @@ impl Engine {
     /// How many batches of a client are ready.
     ///
     /// ```
-    /// # use wenditsal::{Engine, Refusal, Setup};
-    /// # let mut engine = Engine::new(Setup { ring: 128, memory: 1024, common: 0 })?;
+    /// # use wenditsal::{Engine, Refusal, ResetRule, Setup};
+    /// # let mut engine = Engine::new(Setup { ring: 128, memory: 1024, common: 0, reset: ResetRule::SrcOver })?;
     /// let client = engine.open(0, 1024)?;
     /// assert_eq!(engine.pending(client), Ok(0));
     /// engine.submit(client, &[0; 8])?;
@@ -146,8 +174,8 @@ impl Engine {
     /// The memory, to be written by the server itself: its common part above all. No engine rule looks at it.
     ///
     /// ```
-    /// # use wenditsal::{Engine, Refusal, Setup};
-    /// # let mut engine = Engine::new(Setup { ring: 128, memory: 1024, common: 256 })?;
+    /// # use wenditsal::{Engine, Refusal, ResetRule, Setup};
+    /// # let mut engine = Engine::new(Setup { ring: 128, memory: 1024, common: 256, reset: ResetRule::SrcOver })?;
     /// engine.memory_mut()[..256].fill(0xFF);
     /// # Ok::<(), Refusal>(())
     /// ```
@@ -173,8 +201,8 @@ impl Engine {
     /// An engine from what was saved. Any bytes may be handed in.
     ///
     /// ```
-    /// # use wenditsal::{Engine, Refusal, Setup, ENGINE_SIZE};
-    /// # let mut engine = Engine::new(Setup { ring: 128, memory: 1024, common: 0 })?;
+    /// # use wenditsal::{Engine, Refusal, ResetRule, Setup, ENGINE_SIZE};
+    /// # let mut engine = Engine::new(Setup { ring: 128, memory: 1024, common: 0, reset: ResetRule::SrcOver })?;
     /// let client = engine.open(0, 1024)?;
     /// engine.submit(client, &[0; 8])?;
     /// let (record, ring, memory) = engine.clone().into_parts();

@@ -4,10 +4,10 @@
 //! An [`Engine`] owns its record, its ring and its memory. A [`Task`] makes the bytes of a batch.
 //!
 //! ```
-//! use wenditsal::{Engine, Fault, Format, Refusal, Setup, Surface, Task};
+//! use wenditsal::{Engine, Fault, Format, Refusal, ResetRule, Setup, Surface, Task};
 //!
 //! # fn main() -> Result<(), Refusal> {
-//! let mut engine = Engine::new(Setup { ring: 4096, memory: 65536, common: 16384 })?;
+//! let mut engine = Engine::new(Setup { ring: 4096, memory: 65536, common: 16384, reset: ResetRule::SrcOver })?;
 //! let client = engine.open(16384, 12288)?;
 //!
 //! // A red rectangle, at the start of the client's window.
@@ -23,7 +23,7 @@
 //! assert_eq!((done.client, done.ticket, done.fault), (client, ticket, None));
 //! assert_eq!(&engine.memory()[16384..16392], &[0, 0, 0xFF, 0x80, 0, 0, 0xFF, 0x80]);
 //!
-//! // A batch that draws outside its client's window is accepted, and draws nothing when it is run.
+//! // A batch that draws outside its client's window is accepted, and faulty when it is run.
 //! let outside = Task::fill(0x80FF_0000, Surface { address: 64, ..page }).encode()?;
 //! engine.submit(client, &outside)?;
 //! let done = engine.run()?;
@@ -46,7 +46,7 @@ mod library;
 mod task;
 
 pub use answer::{Completion, Fault, Refusal};
-pub use engine::{Engine, Setup, ENGINE_SIZE};
+pub use engine::{Engine, ResetRule, Setup, ENGINE_SIZE};
 pub use task::{
     encode_tint, Alpha, AlphaMode, Blending, Destination, Factor, Format, Rule, Source, SourceMode, Steps, Surface, Task,
     Transform, Turn, SHADED_TASK_SIZE, TASK_SIZE,

@@ -59,7 +59,7 @@ pub struct CompletionFields {
 }
 
 extern "C" {
-    fn wenditsal_set_up(engine: *mut u8, engine_size: usize, ring: usize, memory: usize, common: usize) -> u32;
+    fn wenditsal_set_up(engine: *mut u8, engine_size: usize, ring: usize, memory: usize, common: usize, reset: u32) -> u32;
     fn wenditsal_open(engine: *mut u8, engine_size: usize, start: u32, length: u32, client: *mut u32) -> u32;
     fn wenditsal_submit(
         engine: *mut u8,
@@ -107,8 +107,8 @@ extern "C" {
 // In all of them: a slice's pointer is never null and good for its length, and `&mut` borrows share no byte with any other
 // argument. That is all that the header asks of a caller.
 
-pub fn set_up(engine: &mut [u8], ring: usize, memory: usize, common: usize) -> u32 {
-    unsafe { wenditsal_set_up(engine.as_mut_ptr(), engine.len(), ring, memory, common) }
+pub fn set_up(engine: &mut [u8], ring: usize, memory: usize, common: usize, reset: u32) -> u32 {
+    unsafe { wenditsal_set_up(engine.as_mut_ptr(), engine.len(), ring, memory, common, reset) }
 }
 
 pub fn open(engine: &mut [u8], start: u32, length: u32, client: &mut u32) -> u32 {

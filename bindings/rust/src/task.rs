@@ -1,5 +1,6 @@
 //! A task, and the encoder that makes its bytes.
 use crate::answer::Refusal;
+use crate::engine::ResetRule;
 use crate::library::{self, DestinationFields, Fields, SourceFields, SurfaceFields};
 
 /// How many bytes the batch of one task has.
@@ -283,10 +284,20 @@ pub struct Blending {
 }
 
 impl Default for Blending {
-    /// As at reset: the factors of [`Rule::None`], off.
+    /// Off, as at reset by [`ResetRule::Unblended`].
     fn default() -> Self {
+        ResetRule::Unblended.into()
+    }
+}
+
+impl From<ResetRule> for Blending {
+    /// As at reset: the factors of [`Rule::None`], off, or [`Rule::SrcOver`], on.
+    fn from(rule: ResetRule) -> Self {
         let (source, destination) = Rule::None.factors();
-        Blending { source, destination, on: false }
+        match rule {
+            ResetRule::Unblended => Blending { source, destination, on: false },
+            ResetRule::SrcOver => Rule::SrcOver.into(),
+        }
     }
 }
 
@@ -297,7 +308,8 @@ impl From<Rule> for Blending {
     }
 }
 
-/// A task: one rectangle drawn. Its default is every field at reset.
+/// A task: one rectangle drawn. Its default is every field at reset by [`ResetRule::Unblended`]. It writes every register, so the engine's own
+/// reset rule does not matter to it.
 #[derive(Clone, Copy, Debug, Default, PartialEq, Eq, Hash)]
 pub struct Task {
     /// What is drawn.
@@ -358,9 +370,9 @@ impl Task {
     /// A surface copied to another, which may be of another format.
     ///
     /// ```
-    /// use wenditsal::{Engine, Format, Refusal, Setup, Surface, Task};
+    /// use wenditsal::{Engine, Format, Refusal, ResetRule, Setup, Surface, Task};
     ///
-    /// let mut engine = Engine::new(Setup { ring: 128, memory: 64, common: 8 })?;
+    /// let mut engine = Engine::new(Setup { ring: 128, memory: 64, common: 8, reset: ResetRule::SrcOver })?;
     /// let client = engine.open(8, 56)?;
     /// engine.memory_mut()[..4].copy_from_slice(&[1, 2, 3, 4]);
     ///
@@ -379,9 +391,9 @@ impl Task {
     /// This task, with its source flipped and turned.
     ///
     /// ```
-    /// use wenditsal::{Engine, Refusal, Setup, Surface, Task, Transform, Turn};
+    /// use wenditsal::{Engine, Refusal, ResetRule, Setup, Surface, Task, Transform, Turn};
     ///
-    /// let mut engine = Engine::new(Setup { ring: 128, memory: 64, common: 8 })?;
+    /// let mut engine = Engine::new(Setup { ring: 128, memory: 64, common: 8, reset: ResetRule::SrcOver })?;
     /// let client = engine.open(8, 56)?;
     /// engine.memory_mut()[..8].copy_from_slice(&[1, 1, 1, 1, 2, 2, 2, 2]);
     ///
@@ -402,9 +414,9 @@ impl Task {
     /// This task, blended upon its own output by a rule.
     ///
     /// ```
-    /// use wenditsal::{Engine, Refusal, Rule, Setup, Surface, Task};
+    /// use wenditsal::{Engine, Refusal, ResetRule, Rule, Setup, Surface, Task};
     ///
-    /// let mut engine = Engine::new(Setup { ring: 128, memory: 64, common: 0 })?;
+    /// let mut engine = Engine::new(Setup { ring: 128, memory: 64, common: 0, reset: ResetRule::SrcOver })?;
     /// let client = engine.open(0, 64)?;
     /// engine.memory_mut()[..4].copy_from_slice(&[100, 100, 100, 255]);
     ///
@@ -482,9 +494,9 @@ impl Task {
 /// 0 to 1, the stronger.
 ///
 /// ```
-/// use wenditsal::{encode_tint, Engine, Refusal, Setup, Surface};
+/// use wenditsal::{encode_tint, Engine, Refusal, ResetRule, Setup, Surface};
 ///
-/// let mut engine = Engine::new(Setup { ring: 128, memory: 64, common: 0 })?;
+/// let mut engine = Engine::new(Setup { ring: 128, memory: 64, common: 0, reset: ResetRule::SrcOver })?;
 /// let client = engine.open(0, 64)?;
 /// engine.memory_mut()[..4].copy_from_slice(&[255, 255, 255, 255]);
 ///

@@ -7,7 +7,6 @@ use native.Mathlib.Omega.{arith}
 use lib.ListN.{length}
 use borrow.Author.Tests.{not-true}
 use Rattle.word.proofs.Tests.{and-true}
-use Rattle.register.specs.Bank.{resetBank}
 use Rattle.batch.specs.Batch.{statusWordOf, faultNumberOf as faultOf, faultOffsetOf}
 use Rattle.batch.proofs.Ways.{words-fit}
 use Rattle.batch.proofs.Tasks.{status-fits}
@@ -22,7 +21,7 @@ use Rattle.record.proofs.Rules.{valid-facts, length-good}
 use Rattle.engine.specs.declared.Outcome.{Outcome}
 use Rattle.engine.specs.declared.Outcome.the-variants.{Completed}
 use Rattle.engine.specs.declared.Completion.{Completion}
-use Rattle.engine.specs.Run.{runNumber, oldest, boundsOfClient, oldestWords, oldestVerdict, outcomeUnlessRefused, runResult}
+use Rattle.engine.specs.Run.{runNumber, oldest, boundsOfClient, oldestWords, resetOf, oldestVerdict, outcomeUnlessRefused, runResult}
 use Rattle.engine.proofs.Refusals.{run-allowed}
 use Rattle.answers.specs.Answers.{outcomeWords, Small}
 
@@ -69,6 +68,6 @@ run-small engine ring memory = go (runNumber engine ring memory) refl
         let at = oldest engine .offset in
         let size = oldest engine .length in
         record {
-          status = status-fits bounds resetBank ring at size (omega arith);
-          offset = omega (arith, offset-within bounds resetBank (oldestWords engine ring), words-fit ring at size);
+          status = status-fits bounds (resetOf engine) ring at size (omega arith);
+          offset = omega (arith, offset-within bounds (resetOf engine) (oldestWords engine ring), words-fit ring at size);
         }

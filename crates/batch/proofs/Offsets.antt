@@ -52,11 +52,11 @@ module _ (bounds : Bounds) (m : ℕ) where
       (under-open b k h ws (omega arith) (under-from b (k + 1) (groupOf k h) ws (omega arith) (omega arith)))
 
 -- a fault's place is inside the batch
-pub fault-inside : (bounds : Bounds) (bank : Bank) (ws : List ℕ) (fault : Fault) (place : ℕ) → verdictOf (decodeBatch bounds bank ws) ≡ Faulty fault place → place < 4 * length ws
-fault-inside bounds bank ws fault place e =
+pub fault-inside : (bounds : Bounds) (bank : Bank) (ws : List ℕ) (tasks : ℕ) (fault : Fault) (place : ℕ) → verdictOf (decodeBatch bounds bank ws) ≡ Faulty tasks fault place → place < 4 * length ws
+fault-inside bounds bank ws tasks fault place e =
     go (length (decodeBatch bounds bank ws .tasks)) (decodeBatch bounds bank ws .ending) (under-from bounds (length ws) bank 0 start ws (omega arith) tt) e
   where
-    go : (n : ℕ) (ending : BatchEnd) → Low (length ws) ending → verdictAfter n ending ≡ Faulty fault place → place < 4 * length ws
+    go : (n : ℕ) (ending : BatchEnd) → Low (length ws) ending → verdictAfter n ending ≡ Faulty tasks fault place → place < 4 * length ws
     go n finished h e = let z : _≡_ {A = ℕ} 0 1 = cc in omega arith
     go n (faulty f o) h e = let same : o ≡ place = cc in omega arith
 
@@ -65,4 +65,4 @@ offset-within bounds bank ws = go (verdictOf (decodeBatch bounds bank ws)) refl
   where
     go : (v : Verdict) → verdictOf (decodeBatch bounds bank ws) ≡ v → faultOffsetOf v ≤ 4 * length ws
     go (Faultless n) e = omega arith
-    go (Faulty fault place) e = omega (arith, fault-inside bounds bank ws fault place e)
+    go (Faulty tasks fault place) e = omega (arith, fault-inside bounds bank ws tasks fault place e)

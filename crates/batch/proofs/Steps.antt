@@ -1,7 +1,7 @@
 -- A step of the walk, and the verdict.
 use Prim.Native.Nat.{ℕ, _+_, _*_, _<_, _≤_}
 use mathlib.Core.Path.{_≡_, refl, ap, _∙_}
-use mathlib.Core.List.{List, []}
+use mathlib.Core.List.{List}
 use native.Mathlib.Omega.{arith}
 use native.Mathlib.Nat.{add-zero}
 use lib.ListN.{length}
@@ -15,7 +15,7 @@ use Rattle.batch.specs.declared.walk.Step.{Step}
 use Rattle.batch.specs.declared.walk.Step.the-variants.{Task as Next, Faulty as Stop, End}
 use Rattle.batch.specs.declared.verdict.Judgement.{Judgement}
 use Rattle.batch.specs.declared.verdict.Verdict.the-variants.{Faultless, Faulty}
-use Rattle.batch.specs.Batch.{DecodedBatch, BatchEnd, finished, faulty, stopWith, consTask, afterTaskCheck, verdictAfter, verdictOf, validationOf, tasksUnlessFaulty, tasksDrawn}
+use Rattle.batch.specs.Batch.{DecodedBatch, BatchEnd, finished, faulty, stopWith, consTask, afterTaskCheck, verdictAfter, verdictOf, validationOf}
 use Rattle.batch.specs.Walk.{decodeRest, stepAfterCheck, decodeAfterStep, StepAdvances, StepSimulates}
 
 -- a task that was judged is the step that follows it
@@ -61,13 +61,13 @@ module _ (bounds : Bounds) (ws : List ℕ) (b : Bank) (k : ℕ) (s : Step) (go :
     pub step-task : (t : Task) (b′ : Bank) (k′ : ℕ) → s ≡ Next t b′ k′ → counted n (decodeRest bounds ws b k) ≡ counted (n + 1) (decodeRest bounds ws b′ k′)
     step-task t b′ k′ e = ap (counted n) (reads-task t b′ k′ e) ∙ counted-one n t (decodeRest bounds ws b′ k′)
 
-    pub step-faulty : (f : Fault) (offset : ℕ) (b′ : Bank) → s ≡ Stop f offset b′ → counted n (decodeRest bounds ws b k) ≡ record { verdict = Faulty f offset; bank = b′ }
-    step-faulty f offset b′ e = ap (counted n) (reads-fault f offset b′ e)
+    pub step-faulty : (f : Fault) (offset : ℕ) (b′ : Bank) → s ≡ Stop f offset b′ → counted n (decodeRest bounds ws b k) ≡ record { verdict = Faulty n f offset; bank = b′ }
+    step-faulty f offset b′ e = ap (counted n) (reads-fault f offset b′ e) ∙ ap (λ (m : ℕ). told m (stopWith b′ (faulty f offset))) (add-zero n)
 
     pub step-end : s ≡ End → counted n (decodeRest bounds ws b k) ≡ record { verdict = Faultless n; bank = b }
     step-end e = ap (counted n) (reads-end e) ∙ ap (λ (m : ℕ). told m (stopWith b finished)) (add-zero n)
 
--- ---- what a verdict says of the reading, and of the tasks that are drawn
+-- ---- what a verdict says of the reading
 
 pub faultless-finished : (n : ℕ) (r : DecodedBatch) → verdictOf r ≡ Faultless n → (r .ending ≡ finished) × (n ≡ length (r .tasks))
 faultless-finished n r v = by (length (r .tasks)) (r .ending) v
@@ -76,12 +76,13 @@ faultless-finished n r v = by (length (r .tasks)) (r .ending) v
     by m finished v = let same : n ≡ m = cc in (refl, same)
     by m (faulty f o) v = absurd (let z : _≡_ {A = ℕ} 0 1 = cc in omega arith)
 
-pub finished-drawn : (r : DecodedBatch) → r .ending ≡ finished → tasksDrawn r ≡ r .tasks
-finished-drawn r e = rw e
-
-pub faulty-drawn : (f : Fault) (offset : ℕ) (r : DecodedBatch) → verdictOf r ≡ Faulty f offset → tasksDrawn r ≡ []
-faulty-drawn f offset r v = by (r .tasks) (r .ending) v
+pub faulty-stopped : (n : ℕ) (f : Fault) (offset : ℕ) (r : DecodedBatch) → verdictOf r ≡ Faulty n f offset → (r .ending ≡ faulty f offset) × (n ≡ length (r .tasks))
+faulty-stopped n f offset r v = by (length (r .tasks)) (r .ending) v
   where
-    by : (ts : List Task) (e : BatchEnd) → verdictAfter (length ts) e ≡ Faulty f offset → tasksUnlessFaulty e ts ≡ []
-    by ts finished v = absurd (let z : _≡_ {A = ℕ} 0 1 = cc in omega arith)
-    by ts (faulty g o) v = refl
+    by : (m : ℕ) (e : BatchEnd) → verdictAfter m e ≡ Faulty n f offset → (e ≡ faulty f offset) × (n ≡ m)
+    by m finished v = absurd (let z : _≡_ {A = ℕ} 0 1 = cc in omega arith)
+    by m (faulty g o) v =
+        let fault : g ≡ f = cc in
+        let there : o ≡ offset = cc in
+        let same : n ≡ m = cc in
+        (rw (fault, there), same)

@@ -26,7 +26,7 @@ use Rattle.rules.proofs.Passes.{passes}
 use Rattle.batch.specs.declared.walk.Step.{Step}
 use Rattle.batch.specs.declared.walk.Step.the-variants.{Task as Next}
 use Rattle.batch.specs.declared.verdict.Verdict.the-variants.{Faultless}
-use Rattle.batch.specs.Batch.{DecodedBatch, BatchEnd, finished, faulty, stopWith, DecoderState, start, inside, badGroupLength, decodeHeader, afterTaskCheck, groupOf, decodeFrom, decodeBatch, verdictAfter, verdictOf, statusWordOf, tasksDrawn, tasksUnlessFaulty}
+use Rattle.batch.specs.Batch.{DecodedBatch, BatchEnd, finished, faulty, stopWith, DecoderState, start, inside, badGroupLength, decodeHeader, afterTaskCheck, groupOf, decodeFrom, decodeBatch, verdictAfter, verdictOf, statusWordOf, tasksDrawn}
 use Rattle.batch.specs.Marks.{taskEndCountFrom, taskEndCount}
 use Rattle.batch.specs.Walk.{decodeAfterStep, StepSimulates}
 use Rattle.batch.proofs.Ways.{words-fit}
@@ -58,16 +58,9 @@ module _ (bounds : Bounds) where
   good-from b k (inside zero offset true head) (h ∷ ws) =
       good-judged b head (decodeHeader b k h (length ws) (onFrom bounds b k ws)) (good-open b k h (length ws) (onFrom bounds b k ws) (good-from b (k + 1) (groupOf k h) ws))
 
-  -- before a fault too
-  pub all-sound : (bank : Bank) (ws : List ℕ) → AllSound bounds (decodeBatch bounds bank ws .tasks)
-  all-sound bank ws = good-from bank 0 start ws
-
+  -- before a fault too: each task that is drawn
   pub drawn-sound : (bank : Bank) (ws : List ℕ) → AllSound bounds (tasksDrawn (decodeBatch bounds bank ws))
-  drawn-sound bank ws = go (decodeBatch bounds bank ws .ending) (decodeBatch bounds bank ws .tasks) (all-sound bank ws)
-    where
-      go : (e : BatchEnd) (ts : List Task) → AllSound bounds ts → AllSound bounds (tasksUnlessFaulty e ts)
-      go finished ts h = h
-      go (faulty f o) ts h = tt
+  drawn-sound bank ws = good-from bank 0 start ws
 
   -- and so is the task that a step hands out
   pub step-sound : (ws : List ℕ) (b : Bank) (k : ℕ) (s : Step) → StepSimulates bounds ws b k s → (t : Task) (b′ : Bank) (k′ : ℕ) → s ≡ Next t b′ k′ → Sound bounds t
@@ -111,7 +104,7 @@ few-from bounds b k (inside zero offset true head) (h ∷ ws) =
 pub tasks-few : (bounds : Bounds) (bank : Bank) (ws : List ℕ) → 2 * length (decodeBatch bounds bank ws .tasks) ≤ length ws
 tasks-few bounds bank ws = few-from bounds bank 0 start ws
 
-fault-small : (f : Fault) → faultStatus f ≤ 4294967295
+pub fault-small : (f : Fault) → faultStatus f ≤ 65535
 fault-small ReservedBits = omega arith
 fault-small GroupLength = omega arith
 fault-small OpenTask = omega arith
@@ -122,12 +115,9 @@ fault-small SizeMismatch = omega arith
 fault-small OutOfBounds = omega arith
 fault-small Overlap = omega arith
 
--- the status word of 32 bits
-pub tasks-rest : (n : ℕ) → n % 65536 * 65536 + 1 ≡ (n * 65536 + 1) % 4294967296
-tasks-rest n = omega arith
-
-pub fault-rest : (f : Fault) → faultStatus f ≡ faultStatus f % 4294967296
-fault-rest f = omega (arith, fault-small f)
+-- the status word of 32 bits: a number of tasks in the upper half, and what goes into the lower
+pub tasks-rest : (n low : ℕ) → low ≤ 65535 → n % 65536 * 65536 + low ≡ (n * 65536 + low) % 4294967296
+tasks-rest n low h = omega arith
 
 -- so the status word of a batch of up to 524,280 bytes fits in 32 bits
 pub status-fits : (bounds : Bounds) (bank : Bank) (ring : List ℕ) (offset size : ℕ) → size ≤ 524280
@@ -137,7 +127,7 @@ status-fits bounds bank ring offset size small =
   where
     by : (n : ℕ) (e : BatchEnd) → n ≤ 65535 → statusWordOf (verdictAfter n e) ≤ 4294967295
     by n finished h = omega arith
-    by n (faulty f o) h = fault-small f
+    by n (faulty f o) h = omega (arith, fault-small f)
 
     go : (r : DecodedBatch) → length (r .tasks) ≤ 65535 → statusWordOf (verdictOf r) ≤ 4294967295
     go r h = by (length (r .tasks)) (r .ending) h

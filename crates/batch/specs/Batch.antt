@@ -1,5 +1,5 @@
--- What a batch says (01, "Groups and registers" and "Faults of a taken batch"): its tasks in order, how it ended, and what the
--- registers hold there. The tasks before a fault are among them.
+-- What a batch says (01, "Groups and registers" and "Faults of a taken batch"; 02, 5): its tasks in order, how it ended, and what the
+-- registers hold there. The tasks before a fault are among them, and stand.
 use Prim.Native.Nat.{ℕ, zero, suc, _+_, _*_}
 use mathlib.Core.Bool.{Bool, true, false, cond, _||_}
 use mathlib.Core.List.{List, [], _∷_}
@@ -104,10 +104,10 @@ decodeBatch bounds bank words = decodeFrom bounds bank 0 start words
 
 -- ---- what is answered of a batch
 
--- after n tasks and this ending
+-- after n tasks and this ending: a faulty batch is answered with the number of the tasks before its fault
 abbrev pub verdictAfter : ℕ → BatchEnd → Verdict
 verdictAfter n finished = Faultless n
-verdictAfter n (faulty fault offset) = Faulty fault offset
+verdictAfter n (faulty fault offset) = Faulty n fault offset
 
 abbrev pub verdictOf : DecodedBatch → Verdict
 verdictOf reading = verdictAfter (length (reading .tasks)) (reading .ending)
@@ -116,24 +116,20 @@ verdictOf reading = verdictAfter (length (reading .tasks)) (reading .ending)
 abbrev pub validationOf : DecodedBatch → Judgement
 validationOf reading = record { verdict = verdictOf reading; bank = reading .bank }
 
--- the status word: tasks x 65,536 + 1, or that of the fault
+-- the status word: tasks x 65,536 + 1; of a faulty batch "the status word carries their number in the upper half, finish bit clear" (02, 5)
 abbrev pub statusWordOf : Verdict → ℕ
 statusWordOf (Faultless tasks) = tasks * 65536 + 1
-statusWordOf (Faulty fault offset) = faultStatus fault
+statusWordOf (Faulty tasks fault offset) = tasks * 65536 + faultStatus fault
 
 -- fault and place, 0 without a fault
 abbrev pub faultNumberOf : Verdict → ℕ
 faultNumberOf (Faultless tasks) = 0
-faultNumberOf (Faulty fault offset) = faultNumber fault
+faultNumberOf (Faulty tasks fault offset) = faultNumber fault
 
 abbrev pub faultOffsetOf : Verdict → ℕ
 faultOffsetOf (Faultless tasks) = 0
-faultOffsetOf (Faulty fault offset) = offset
+faultOffsetOf (Faulty tasks fault offset) = offset
 
--- the tasks that are drawn, in order: a faulty batch draws nothing at all
-abbrev pub tasksUnlessFaulty : BatchEnd → List Task → List Task
-tasksUnlessFaulty finished tasks = tasks
-tasksUnlessFaulty (faulty fault offset) tasks = []
-
+-- the tasks that are drawn, in order: "tasks before the faulty one stand" (02, 5)
 abbrev pub tasksDrawn : DecodedBatch → List Task
-tasksDrawn reading = tasksUnlessFaulty (reading .ending) (reading .tasks)
+tasksDrawn reading = reading .tasks

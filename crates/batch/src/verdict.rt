@@ -9,10 +9,10 @@ use register::Bank;
 use rules::Bounds;
 use rules::Fault;
 
-// How many tasks a batch has, or its first fault and the offset of it.
+// How many tasks a batch has; or how many stand before its first fault, that fault and the offset of it.
 pub enum Verdict {
     Faultless(usize),
-    Faulty(Fault, usize),
+    Faulty(usize, Fault, usize),
 }
 
 impl Verdict {
@@ -22,7 +22,7 @@ impl Verdict {
     {
         match self {
             Verdict::Faultless(tasks) => ((tasks % 65536) as u32) * 65536 + 1,
-            Verdict::Faulty(fault, _) => fault.status(),
+            Verdict::Faulty(tasks, fault, _) => ((tasks % 65536) as u32) * 65536 + fault.status(),
         }
     }
 
@@ -32,7 +32,7 @@ impl Verdict {
     {
         match self {
             Verdict::Faultless(_) => 0,
-            Verdict::Faulty(fault, _) => fault.number(),
+            Verdict::Faulty(_, fault, _) => fault.number(),
         }
     }
 
@@ -42,7 +42,7 @@ impl Verdict {
     {
         match self {
             Verdict::Faultless(_) => 0,
-            Verdict::Faulty(_, offset) => offset,
+            Verdict::Faulty(_, _, offset) => offset,
         }
     }
 }
@@ -69,7 +69,7 @@ pub fn judge(ring: &[u8], offset: usize, size: usize, bounds: Bounds, bank: Bank
             }
             Step::Faulty(fault, place, held) => {
                 return Judgement {
-                    verdict: Verdict::Faulty(fault, place),
+                    verdict: Verdict::Faulty(count, fault, place),
                     bank: held,
                 };
             }

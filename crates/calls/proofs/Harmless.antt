@@ -2,6 +2,7 @@
 use mathlib.Core.Path.{_≡_, refl, sym, ap, _∙_}
 use mathlib.Core.List.{List, [], _∷_}
 use Prim.Native.Nat.{ℕ}
+use Rattle.reset.specs.declared.ResetRule.{ResetRule}
 use Rattle.record.specs.declared.Window.{Window}
 use Rattle.record.specs.declared.Record.{Record}
 use Rattle.queue.specs.declared.Answer.{Answer}
@@ -39,9 +40,9 @@ told-none bytes after a number value bytesNow refused t =
     (t .value-is ∙ no-value a z, t .record-is ∙ unless-not bytes after (refusalNumberOf a) z)
 
 module _ (bytes bytesNow : List ℕ) (number : ℕ) (refused : number ≡ 0 → ⊥) where
-  set-up-none : (ring memory common : ℕ) → SetsUp bytes ring memory common number bytesNow → bytesNow ≡ bytes
-  set-up-none ring memory common s =
-      s .record-is ∙ unless-not bytes (bytesOf (setUpResult ring memory common .engine)) (setUpNumber bytes ring memory common) (λ e. refused (s .number-is ∙ e))
+  set-up-none : (ring memory common : ℕ) (reset : ResetRule) → SetsUp bytes ring memory common reset number bytesNow → bytesNow ≡ bytes
+  set-up-none ring memory common reset s =
+      s .record-is ∙ unless-not bytes (bytesOf (setUpResult ring memory common reset .engine)) (setUpNumber bytes ring memory common reset) (λ e. refused (s .number-is ∙ e))
 
   open-none : (w : Window) (value : ℕ) → Opens bytes w number value bytesNow → (value ≡ 0) × (bytesNow ≡ bytes)
   unfolding Opens

@@ -5,6 +5,7 @@ use mathlib.Core.List.{List}
 use Prim.Native.Nat.{ℕ, zero, suc}
 use lib.ListN.{length, getD}
 use borrow.Author.Tests.{eq-eqb, ne-eqb}
+use Rattle.reset.specs.declared.ResetRule.{ResetRule}
 use Rattle.record.specs.declared.Window.{Window}
 use Rattle.record.specs.declared.Record.{Record}
 use Rattle.record.specs.Rules.{valid}
@@ -97,13 +98,13 @@ module _ (bytes : List ℕ) (engine : Record) (is : engine ≡ recordOf bytes) w
 
 -- ---- set up
 
-module _ (bytes : List ℕ) (ring memory common : ℕ) where
-  pub set-up-told : (reply : Reply) (number value : ℕ) (bytesNow : List ℕ) → length bytes ≡ 272 → reply ≡ setUpResult ring memory common →
-      Told bytes (written (reply .engine) bytes) (reply .answer) number value bytesNow → SetsUp bytes ring memory common number bytesNow
+module _ (bytes : List ℕ) (ring memory common : ℕ) (reset : ResetRule) where
+  pub set-up-told : (reply : Reply) (number value : ℕ) (bytesNow : List ℕ) → length bytes ≡ 272 → reply ≡ setUpResult ring memory common reset →
+      Told bytes (written (reply .engine) bytes) (reply .answer) number value bytesNow → SetsUp bytes ring memory common reset number bytesNow
   set-up-told reply number value bytesNow n e t =
       let s = told-whole bytes reply number value bytesNow (λ z. n) t in
       record { number-is = rw (eq-eqb (length bytes) 272 n, ← e) (s .number-is); record-is = rw (eq-eqb (length bytes) 272 n, ← e) (s .record-is) }
 
-  pub set-up-lent : (length bytes ≡ 272 → ⊥) → SetsUp bytes ring memory common 11 bytes
+  pub set-up-lent : (length bytes ≡ 272 → ⊥) → SetsUp bytes ring memory common reset 11 bytes
   unfolding unlessRefused
   set-up-lent n = record { number-is = rw (ne-eqb (length bytes) 272 n); record-is = rw (ne-eqb (length bytes) 272 n) }

@@ -6,6 +6,7 @@ use mathlib.Core.List.{List}
 use Prim.Native.Nat.{ℕ}
 use lib.ListN.{length}
 use lib.Dec.{eqb}
+use Rattle.reset.specs.declared.ResetRule.{ResetRule}
 use Rattle.record.specs.declared.Window.{Window}
 use Rattle.queue.specs.declared.Answer.{Answer}
 use Rattle.queue.specs.declared.Reply.{Reply}
@@ -22,12 +23,12 @@ use Rattle.record_bytes.specs.Written.{bytesOf}
 -- ---- set up
 
 -- 11 for a buffer that no record fits in
-abbrev pub setUpNumber : (bytes : List ℕ) → (ring memory common : ℕ) → ℕ
-setUpNumber bytes ring memory common = cond (eqb (length bytes) 272) (refusalNumberOf (setUpResult ring memory common .answer)) 11
+abbrev pub setUpNumber : (bytes : List ℕ) → (ring memory common : ℕ) → ResetRule → ℕ
+setUpNumber bytes ring memory common reset = cond (eqb (length bytes) 272) (refusalNumberOf (setUpResult ring memory common reset .answer)) 11
 
-pub record SetsUp (bytes : List ℕ) (ring memory common number : ℕ) (bytesNow : List ℕ) : Type 0 where
-  pub number-is : number ≡ setUpNumber bytes ring memory common
-  pub record-is : bytesNow ≡ unlessRefused (setUpNumber bytes ring memory common) bytes (bytesOf (setUpResult ring memory common .engine))
+pub record SetsUp (bytes : List ℕ) (ring memory common : ℕ) (reset : ResetRule) (number : ℕ) (bytesNow : List ℕ) : Type 0 where
+  pub number-is : number ≡ setUpNumber bytes ring memory common reset
+  pub record-is : bytesNow ≡ unlessRefused (setUpNumber bytes ring memory common reset) bytes (bytesOf (setUpResult ring memory common reset .engine))
 
 -- ---- a call that answers one number: the refusal's number, the value, and the bytes of the record; `after` if it is not refused
 

@@ -3,12 +3,13 @@
 use mathlib.Core.Path.{_≡_}
 use mathlib.Core.List.{List, [], _∷_}
 use Prim.Native.Nat.{ℕ}
+use Rattle.reset.specs.declared.ResetRule.{ResetRule}
 use Rattle.record.specs.declared.Window.{Window}
 use Rattle.calls.specs.Calls.{SetsUp, Opens, Submits, Pends, Runs}
 
 module _ (bytes bytesNow : List ℕ) (number : ℕ) (refused : number ≡ 0 → ⊥) where
   pub record Harmless : Type 0 where
-    pub by-set-up : (ring memory common : ℕ) → SetsUp bytes ring memory common number bytesNow → bytesNow ≡ bytes
+    pub by-set-up : (ring memory common : ℕ) (reset : ResetRule) → SetsUp bytes ring memory common reset number bytesNow → bytesNow ≡ bytes
     pub by-open : (w : Window) (value : ℕ) → Opens bytes w number value bytesNow → (value ≡ 0) × (bytesNow ≡ bytes)
     pub by-submit : (ring ringNow : List ℕ) (client : ℕ) (batch : List ℕ) (value : ℕ) → Submits bytes ring client batch number value bytesNow ringNow →
         (value ≡ 0) × (bytesNow ≡ bytes) × (ringNow ≡ ring)

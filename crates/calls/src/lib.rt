@@ -6,6 +6,7 @@ ghost use Rattle.answers.specs.Answers.{Small};
 ghost use Rattle.calls.specs.Calls.{SetsUp, Told, Opens, Submits, Pends, Reports, Runs};
 use engine::Ran;
 use queue::Reply;
+use reset::ResetRule;
 
 // Tells what a call answered, and writes the record after it if it was not refused.
 fn tell(bytes: &mut [u8], reply: Reply, value: &mut u32) -> u32
@@ -39,13 +40,13 @@ fn report(bytes: &mut [u8], ran: Ran, five: &mut [u32; 5]) -> u32
 }
 
 // Sets up an engine and writes its record.
-pub fn set_up(bytes: &mut [u8], ring: usize, memory: usize, common: usize) -> u32
-    ensures { λ r. ⌜ SetsUp (now (bytes .entry)) ring memory common r (now (bytes .exit)) ⌝ }
+pub fn set_up(bytes: &mut [u8], ring: usize, memory: usize, common: usize, reset: ResetRule) -> u32
+    ensures { λ r. ⌜ SetsUp (now (bytes .entry)) ring memory common reset r (now (bytes .exit)) ⌝ }
 {
     if bytes.len() != 272 {
         return 11;
     }
-    let reply = engine::set_up(ring, memory, common);
+    let reply = engine::set_up(ring, memory, common, reset);
     let mut none: u32 = 0;
     tell(bytes, reply, &mut none)
 }

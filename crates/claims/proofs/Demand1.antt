@@ -2,25 +2,27 @@
 use mathlib.Core.Path.{_≡_, refl, sym, ap}
 use mathlib.Core.Bool.{Bool, true, false, cond, not}
 use mathlib.Core.List.{List}
-use Prim.Native.Nat.{ℕ, zero, suc}
+use Prim.Native.Nat.{ℕ, zero, suc, _+_, _*_}
 use native.Mathlib.Omega.{arith}
 use lib.ListN.{length}
 use lib.Dec.{ltb}
-use Rattle.register.specs.Bank.{resetBank}
 use Rattle.rules.specs.declared.fault.Fault.{Fault}
 use Rattle.rules.specs.Faults.{faultNumber, faultStatus}
 use Rattle.batch.specs.declared.verdict.Verdict.the-variants.{Faulty}
-use Rattle.raster.proofs.Fold.{faulty-batch}
+use Rattle.batch.specs.Batch.{decodeBatch}
+use Rattle.batch.proofs.Steps.{faulty-stopped}
+use Rattle.raster.specs.Task.{drawTasks}
+use Rattle.raster.proofs.Fold.{batch-tasks}
 use Rattle.encoder.specs.declared.Answer.{Answer}
 use Rattle.encoder.specs.declared.Answer.the-variants.{Written, Forbidden, ShortBuffer}
 use Rattle.encoder.specs.Forms.{Form, formAllowed, formSize}
 use Rattle.encoder.specs.Encoder.{answerOf, bufferOnAnswer, bufferAfter, taskBytes, encodeRefusalOf as encoderNumber}
 use Rattle.queue.specs.Refusals.{firstRefusal}
 use Rattle.queue.proofs.Stays.{set-up-number}
-use Rattle.engine.specs.Run.{oldest, boundsOfClient, oldestWords, oldestVerdict, withoutOldest}
+use Rattle.engine.specs.Run.{oldest, boundsOfClient, oldestWords, resetOf, oldestVerdict, withoutOldest}
 use Rattle.model.specs.Calls.{Call, run, completed, refused}
 use Rattle.claims.specs.Engine.{State, mkState, CallResult, performCall}
-use Rattle.claims.specs.Demand1.{refusalTableOf, encoderTable, OfCalls, OfEncoder, Demand1}
+use Rattle.claims.specs.Demand1.{refusalTableOf, encoderTable, standing, OfCalls, OfEncoder, Demand1}
 use Rattle.claims.proofs.Cases.{number, done, either, by-number, answers, harmless}
 
 -- with any number
@@ -41,17 +43,18 @@ module _ (s : State) where
   only : (c : Call) (n : ℕ) → performCall c s .answer ≡ refused n → (firstRefusal (refusalTableOf c s) ≡ n) × ¬ (n ≡ 0)
   only c n e = refused-only (number c s) n s (done c s) (answers c s) (rw (by-number c s) at e)
 
-  faulty : (fault : Fault) (place : ℕ) → firstRefusal (refusalTableOf run s) ≡ 0 → oldestVerdict (s .engine) (s .ring) ≡ Faulty fault place →
-      performCall run s ≡ record {
+  faulty : (tasks : ℕ) (fault : Fault) (place : ℕ) → firstRefusal (refusalTableOf run s) ≡ 0 → oldestVerdict (s .engine) (s .ring) ≡ Faulty tasks fault place →
+      (performCall run s ≡ record {
         answer =
             completed (oldest (s .engine) .client) (oldest (s .engine) .ticket)
-            (record { status = faultStatus fault; fault = faultNumber fault; offset = place });
-        after = mkState (withoutOldest (s .engine)) (s .ring) (s .memory);
-      }
+            (record { status = tasks * 65536 + faultStatus fault; fault = faultNumber fault; offset = place });
+        after = mkState (withoutOldest (s .engine)) (s .ring) (drawTasks (standing s) (s .memory));
+      }) × (length (standing s) ≡ tasks)
   unfolding either
-  faulty fault place z e =
-      let same = faulty-batch (boundsOfClient (s .engine) (oldest (s .engine) .client)) resetBank (oldestWords (s .engine) (s .ring)) (s .memory) fault place e in
-      rw (by-number run s, z, same, e)
+  faulty tasks fault place z e =
+      let bounds = boundsOfClient (s .engine) (oldest (s .engine) .client) in
+      let same = batch-tasks bounds (resetOf (s .engine)) (oldestWords (s .engine) (s .ring)) (s .memory) in
+      (rw (by-number run s, z, same, e), sym (faulty-stopped tasks fault place (decodeBatch bounds (resetOf (s .engine)) (oldestWords (s .engine) (s .ring))) e .1))
 
   of-calls : OfCalls s
   of-calls = record { listed = listed; only = only; harmless = λ c. harmless c s; faulty = faulty }

@@ -26,29 +26,29 @@ use Rattle.claims.proofs.Runs.{run-done}
 
 module _ (setup : Setup) (n : ℕ) where
   -- a call that is not refused
-  all-done : (c : Call) (model : Model) (s : State) (R : Related setup n model s) → number c s ≡ 0 → Alike setup n (done c s) (effect batchSemantics setup n c (seen (model .accepted) s))
+  all-done : (c : Call) (model : Model) (s : State) (R : Related setup n model s) → number c s ≡ 0 → Alike setup n (done c s) (effect (batchSemantics setup) setup n c (seen (model .accepted) s))
   all-done (opens w) model s R z = open-done setup n s (R .sound) (model .accepted) (R .next) w z
   all-done (submit client bytes) model s R z = submit-done setup n s (R .sound) (model .accepted) (R .next) client bytes z
   all-done run model s R z = run-done setup n s (R .sound) (model .accepted) (R .next) z
   all-done (pending client) model s R z = pending-done setup n s (R .sound) (model .accepted) (R .next) client
 
   -- any call
-  pub together : (c : Call) (model : Model) (s : State) → Related setup n model s → Alike setup n (performCall c s) (step batchSemantics setup n c model)
+  pub together : (c : Call) (model : Model) (s : State) → Related setup n model s → Alike setup n (performCall c s) (step (batchSemantics setup) setup n c model)
   together c model s R =
       rw (by-number c s)
       (either-alike setup n (number c s) _ model s (done c s) _
       (alike setup n s (R .sound) (model .accepted) c ∙ sym (ap (λ (m : Model). refusal setup n m c) (R .is)))
       R
-      (λ z. subst (λ (m : Model). Alike setup n (done c s) (effect batchSemantics setup n c m)) (sym (R .is)) (all-done c model s R z)))
+      (λ z. subst (λ (m : Model). Alike setup n (done c s) (effect (batchSemantics setup) setup n c m)) (sym (R .is)) (all-done c model s R z)))
 
   -- any list of calls
   pub follow : (cs : List Call) (model : Model) (s : State) → Related setup n model s →
-      (answersOf cs s ≡ answers batchSemantics setup n cs model) × Related setup n (after batchSemantics setup n cs model) (stateAfter cs s)
+      (answersOf cs s ≡ answers (batchSemantics setup) setup n cs model) × Related setup n (after (batchSemantics setup) setup n cs model) (stateAfter cs s)
   unfolding answersOf stateAfter answers after
   follow [] model s R = (refl, R)
   follow (c ∷ cs) model s R =
       let q = together c model s R in
-      let r = follow cs (step batchSemantics setup n c model .after) (performCall c s .after) (q .1) in
+      let r = follow cs (step (batchSemantics setup) setup n c model .after) (performCall c s .after) (q .1) in
       (ap₂ (λ (a : Answer) (rest : List Answer). a ∷ rest) (q .0) (r .0), r .1)
 
 -- ---- from the start
@@ -78,12 +78,12 @@ module _ (setup : Setup) (ring : List ℕ) (A : SetUpAccepted setup) where
   start memory = rw (begun memory) (fresh-related memory)
 
   module _ (calls : List Call) (memory : List ℕ) where
-    both : (answersOf calls (initialState setup ring memory) ≡ answers batchSemantics setup (length ring) calls (initialModel memory))
-        × Related setup (length ring) (modelAfterAll batchSemantics setup (length ring) calls memory) (stateAfter calls (initialState setup ring memory))
+    both : (answersOf calls (initialState setup ring memory) ≡ answers (batchSemantics setup) setup (length ring) calls (initialModel memory))
+        × Related setup (length ring) (modelAfterAll (batchSemantics setup) setup (length ring) calls memory) (stateAfter calls (initialState setup ring memory))
     both = follow setup (length ring) calls (initialModel memory) (initialState setup ring memory) (start memory)
 
     -- the two stay related
-    pub at-end : Related setup (length ring) (modelAfterAll batchSemantics setup (length ring) calls memory) (stateAfter calls (initialState setup ring memory))
+    pub at-end : Related setup (length ring) (modelAfterAll (batchSemantics setup) setup (length ring) calls memory) (stateAfter calls (initialState setup ring memory))
     at-end = both .1
 
     pub like-model : RefinesModel setup ring calls memory

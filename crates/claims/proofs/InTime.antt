@@ -66,9 +66,9 @@ module _ (way : BatchSemantics) (setup : Setup) (ring : ℕ) where
 pub in-time : (setup : Setup) (ring : List ℕ) → SetUpAccepted setup → (calls later : List Call) (memory : List ℕ) → BoundedWaiting setup ring calls memory later
 in-time setup ring A calls later memory client ticket bytes a h =
     let n : ℕ = length ring in
-    let model : Model = modelAfterAll batchSemantics setup n calls memory in
-    let first : Step = step batchSemantics setup n (submit client bytes) model in
+    let model : Model = modelAfterAll (batchSemantics setup) setup n calls memory in
+    let first : Step = step (batchSemantics setup) setup n (submit client bytes) model in
     let q = together setup n (submit client bytes) model (finalState setup ring calls memory) (at-end setup ring A calls memory) in
     let same = follow setup n later (first .after) (performCall (submit client bytes) (finalState setup ring calls memory) .after) (q .1) .0 in
     let among = of-model setup n .in-time calls later memory client ticket bytes (sym (q .0) ∙ a) (rw same at h) in
-    rw same (named 8 (batch client ticket bytes) (all-named batchSemantics setup n later (first .after)) among)
+    rw same (named 8 (batch client ticket bytes) (all-named (batchSemantics setup) setup n later (first .after)) among)

@@ -3,6 +3,7 @@ pub mod Confined
 pub mod OfModel
 pub mod Cases
 pub mod Demand1
+pub mod Standing
 pub mod Demand2
 pub mod Seen
 pub mod Related
@@ -11,7 +12,7 @@ pub mod Steps
 pub mod Runs
 pub mod Follows
 pub mod InTime
-pub mod Fruitless
+pub mod Faulted
 pub mod Theorem
 pub mod Queue
 pub mod Order

@@ -8,10 +8,10 @@ use Rattle.claims.proofs.Confined.{confined}
 
 pub of-model : (setup : Setup) (ring : ℕ) → ModelPropertiesHold setup ring
 of-model setup ring =
-    let c = claims batchSemantics setup ring in
+    let c = claims (batchSemantics setup) setup ring in
     record {
-      separate = c .separate (confined resetBank);
-      unmoved = c .unmoved (confined resetBank);
+      separate = c .separate (confined (resetBank (setup .reset)));
+      unmoved = c .unmoved (confined (resetBank (setup .reset)));
       holds = c .holds;
       in-order = c .in-order;
       in-time = c .in-time;

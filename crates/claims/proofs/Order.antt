@@ -17,7 +17,7 @@ use Rattle.claims.proofs.Follows.{like-model}
 
 module _ (setup : Setup) (ring : List ℕ) (A : SetUpAccepted setup) where
   -- what is the same of the model is the same of the engine
-  of-engine : (calls calls′ : List Call) (memory : List ℕ) → SameInModel batchSemantics setup (length ring) calls calls′ (initialModel memory) (initialModel memory) → SameOutcome setup ring calls calls′ memory
+  of-engine : (calls calls′ : List Call) (memory : List ℕ) → SameInModel (batchSemantics setup) setup (length ring) calls calls′ (initialModel memory) (initialModel memory) → SameOutcome setup ring calls calls′ memory
   of-engine calls calls′ memory same =
       let one = like-model setup ring A calls memory in
       let two = like-model setup ring A calls′ memory in
@@ -28,13 +28,13 @@ module _ (setup : Setup) (ring : List ℕ) (A : SetUpAccepted setup) where
 
 pub promise : Promise
 promise setup ring A =
-    let c : ModelProperties batchSemantics setup (length ring) = claims batchSemantics setup (length ring) in
+    let c : ModelProperties (batchSemantics setup) setup (length ring) = claims (batchSemantics setup) setup (length ring) in
     record {
-      exchange = c .exchange (confined resetBank);
-      any-order = c .any-order (confined resetBank);
-      any-submissions = c .any-submissions (confined resetBank);
-      by-hand = c .by-hand (confined resetBank);
-      engine-order = λ calls calls′ memory windows same. of-engine setup ring A calls calls′ memory (c .any-order (confined resetBank) calls calls′ memory windows same);
+      exchange = c .exchange (confined (resetBank (setup .reset)));
+      any-order = c .any-order (confined (resetBank (setup .reset)));
+      any-submissions = c .any-submissions (confined (resetBank (setup .reset)));
+      by-hand = c .by-hand (confined (resetBank (setup .reset)));
+      engine-order = λ calls calls′ memory windows same. of-engine setup ring A calls calls′ memory (c .any-order (confined (resetBank (setup .reset))) calls calls′ memory windows same);
       engine-submissions = λ calls calls′ memory windows none none′ same.
-          of-engine setup ring A calls calls′ memory (c .any-submissions (confined resetBank) calls calls′ memory windows none none′ same);
+          of-engine setup ring A calls calls′ memory (c .any-submissions (confined (resetBank (setup .reset))) calls calls′ memory windows none none′ same);
     }

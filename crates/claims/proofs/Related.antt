@@ -32,7 +32,7 @@ seen accepted s = record {
 }
 
 abbrev pub numbersIn : Setup → Numbers
-numbersIn setup = record { ring = setup .ring; memory = setup .memory; common = setup .common }
+numbersIn setup = record { ring = setup .ring; memory = setup .memory; common = setup .common; reset = setup .reset }
 
 -- what holds of record and ring all the time
 pub record Sound (setup : Setup) (n : ℕ) (s : State) : Type 0 where

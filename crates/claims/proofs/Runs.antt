@@ -1,18 +1,20 @@
 -- Run, if it is not refused, takes the batch that the model takes, judges and draws it alike, and leaves what the model leaves.
-use mathlib.Core.Path.{_≡_, ap₂}
+use mathlib.Core.Path.{_≡_, ap, ap₂, _∙_}
 use mathlib.Core.List.{List, _∷_}
 use Prim.Native.Nat.{ℕ, _%_}
 use lib.ListN.{length}
+use Rattle.reset.specs.declared.ResetRule.{ResetRule}
 use Rattle.word.specs.Word.{words}
 use Rattle.ring.specs.Segment.{segment}
 use Rattle.register.specs.Bank.{resetBank}
 use Rattle.rules.specs.declared.task.Bounds.{Bounds}
 use Rattle.batch.specs.Batch.{decodeBatch, verdictOf}
+use Rattle.record.specs.declared.Setup.{Setup as Numbers}
 use Rattle.record.specs.Queue.{waiting}
 use Rattle.engine.specs.Run.{oldest, boundsOfClient, oldestWords, withoutOldest}
 use Rattle.engine.proofs.Refusals.{RunAllowed, run-allowed}
 use Rattle.engine.proofs.Stays.{run-sized, run-valid, oldest-owner, run-windows, oldest-words, run-held}
-use Rattle.model.specs.Calls.{Setup, run, completed}
+use Rattle.model.specs.Calls.{Setup, run, Answer, completed}
 use Rattle.model.specs.State.{Batch, windowOf}
 use Rattle.model.specs.Model.{runStep, effect}
 use Rattle.claims.specs.BatchSemantics.{boundsOf, completionStatusOf}
@@ -30,6 +32,10 @@ module _ (setup : Setup) (n : ℕ) (s : State) (S : Sound setup n s) (count : �
   -- the client's window and common
   bounds : boundsOfClient (s .engine) (oldest (s .engine) .client) ≡ boundsOf (windowOf (seen count s) (oldest (s .engine) .client)) (setup .common)
   bounds = rw (window-at setup n s S count (oldest (s .engine) .client) (oldest-owner (s .engine) (S .sized) (length (s .ring)) (length (s .memory)) allowed), S .numbers)
+
+  -- the reset rule
+  rule : s .engine .setup .reset ≡ setup .reset
+  rule = ap (λ (x : Numbers). x .reset) (S .numbers)
 
   -- the words
   read : oldestWords (s .engine) (s .ring) ≡ words (segment (s .ring) (oldest (s .engine) .offset) (oldest (s .engine) .length))
@@ -58,16 +64,20 @@ module _ (setup : Setup) (n : ℕ) (s : State) (S : Sound setup n s) (count : �
   unfolding withoutOldest
   run-next = next
 
-  run-like : Alike setup n (done run s) (runStep batchSemantics (setup .common) (seen count s) (first ∷ rest))
+  abbrev told : Bounds → ResetRule → List ℕ → Answer
+  told b r ws = completed (oldest (s .engine) .client) (oldest (s .engine) .ticket) (completionStatusOf (verdictOf (decodeBatch b (resetBank r) ws)))
+
+  run-like : Alike setup n (done run s) (runStep (batchSemantics setup) (setup .common) (seen count s) (first ∷ rest))
   run-like = (
-    ap₂ (λ (b : Bounds) (ws : List ℕ). completed (oldest (s .engine) .client) (oldest (s .engine) .ticket) (completionStatusOf (verdictOf (decodeBatch b resetBank ws)))) bounds read,
+    ap (λ (r : ResetRule). told (boundsOfClient (s .engine) (oldest (s .engine) .client)) r (oldestWords (s .engine) (s .ring))) rule
+        ∙ ap₂ (λ (b : Bounds) (ws : List ℕ). told b (setup .reset) ws) bounds read,
     record {
       sound = run-sound;
       next = run-next;
-      is = rw (run-windows (s .engine) (S .sized) (length (s .ring)) (length (s .memory)) allowed, bounds, read);
+      is = rw (run-windows (s .engine) (S .sized) (length (s .ring)) (length (s .memory)) allowed, bounds, rule, read);
     },
   )
 
-  pub run-done : Alike setup n (done run s) (effect batchSemantics setup n run (seen count s))
+  pub run-done : Alike setup n (done run s) (effect (batchSemantics setup) setup n run (seen count s))
   unfolding effect
   run-done = rw waits run-like

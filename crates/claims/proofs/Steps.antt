@@ -52,7 +52,7 @@ module _ (setup : Setup) (n : ℕ) (s : State) (S : Sound setup n s) (count : �
   unfolding withClient
   open-next w = next
 
-  pub open-done : (w : Window) → number (opens w) s ≡ 0 → Alike setup n (done (opens w) s) (effect batchSemantics setup n (opens w) (seen count s))
+  pub open-done : (w : Window) → number (opens w) s ≡ 0 → Alike setup n (done (opens w) s) (effect (batchSemantics setup) setup n (opens w) (seen count s))
   unfolding effect
   open-done w z = (
     ap opened (sym (open-count setup n s S)),
@@ -85,7 +85,7 @@ module _ (setup : Setup) (n : ℕ) (s : State) (S : Sound setup n s) (count : �
     unfolding withBatch
     submit-next = rw next (omega arith)
 
-    pub submit-done : Alike setup n (done (submit client bytes) s) (effect batchSemantics setup n (submit client bytes) (seen count s))
+    pub submit-done : Alike setup n (done (submit client bytes) s) (effect (batchSemantics setup) setup n (submit client bytes) (seen count s))
     unfolding effect
     submit-done = (
       ap accepted next,
@@ -98,6 +98,6 @@ module _ (setup : Setup) (n : ℕ) (s : State) (S : Sound setup n s) (count : �
 
   -- ---- pending
 
-  pub pending-done : (client : ℕ) → Alike setup n (done (pending client) s) (effect batchSemantics setup n (pending client) (seen count s))
+  pub pending-done : (client : ℕ) → Alike setup n (done (pending client) s) (effect (batchSemantics setup) setup n (pending client) (seen count s))
   unfolding effect
   pending-done client = (ap ready (sym (client-count setup n s S client)), record { sound = S; next = next; is = refl })

@@ -12,7 +12,7 @@ use Rattle.claims.proofs.OfModel.{of-model}
 use Rattle.claims.proofs.Demand1.{demand1}
 use Rattle.claims.proofs.Follows.{like-model}
 use Rattle.claims.proofs.InTime.{in-time}
-use Rattle.claims.proofs.Fruitless.{fruitless}
+use Rattle.claims.proofs.Faulted.{stands}
 
 module _ (setup : Setup) (A : SetUpAccepted setup) where
   separate : (ring : List ℕ) (calls : List Call) (memory : List ℕ) → Isolation setup ring calls memory
@@ -27,7 +27,7 @@ module _ (setup : Setup) (A : SetUpAccepted setup) where
       }
 
   unmoved : (client : ℕ) (ring ring′ : List ℕ) (calls calls′ : List Call) (memory memory′ : List ℕ) → length ring ≡ length ring′ →
-      LowEquivalent batchSemantics setup (length ring) client calls calls′ memory memory′ → Noninterference setup ring client ring′ calls calls′ memory memory′
+      LowEquivalent (batchSemantics setup) setup (length ring) client calls calls′ memory memory′ → Noninterference setup ring client ring′ calls calls′ memory memory′
   unmoved client ring ring′ calls calls′ memory memory′ long t =
       let one = like-model setup ring A calls memory in
       let two = like-model setup ring′ A calls′ memory′ in
@@ -46,5 +46,5 @@ promise setup ring A = record {
   unmoved = λ client ring′. unmoved setup A client ring ring′;
   in-time = in-time setup ring A;
   harmless = λ call s. demand1 .calls s .harmless call;
-  fruitless = fruitless setup ring A;
+  stands = stands setup ring A;
 }

@@ -3,19 +3,22 @@
 use mathlib.Core.Path.{_≡_}
 use mathlib.Core.Bool.{not}
 use mathlib.Core.List.{List, [], _∷_}
-use Prim.Native.Nat.{ℕ}
+use Prim.Native.Nat.{ℕ, _+_, _*_}
 use lib.ListN.{length}
 use lib.Dec.{ltb}
 use Rattle.record.specs.declared.Setup.{Setup}
 use Rattle.rules.specs.declared.fault.Fault.{Fault}
 use Rattle.rules.specs.Faults.{faultNumber, faultStatus}
+use Rattle.register.specs.declared.task.Task.{Task}
 use Rattle.batch.specs.declared.verdict.Verdict.the-variants.{Faulty}
+use Rattle.batch.specs.Batch.{decodeBatch, tasksDrawn}
+use Rattle.raster.specs.Task.{drawTasks}
 use Rattle.encoder.specs.Forms.{Form, formAllowed, formSize}
 use Rattle.encoder.specs.Encoder.{answerOf, bufferAfter, encodeRefusalOf as encoderNumber}
 use Rattle.queue.specs.Answers.{refusalNumberOf}
 use Rattle.queue.specs.Refusals.{RefusalRow, _when_, firstRefusal, setUpTable, openTable, submitTable, pendingTable}
 use Rattle.queue.specs.Calls.{setUpResult}
-use Rattle.engine.specs.Run.{runTable, oldest, oldestVerdict, withoutOldest}
+use Rattle.engine.specs.Run.{runTable, oldest, boundsOfClient, oldestWords, resetOf, oldestVerdict, withoutOldest}
 use Rattle.model.specs.Calls.{Call, opens, submit, run, pending, completed, refused}
 use Rattle.claims.specs.Engine.{State, mkState, performCall}
 
@@ -33,6 +36,10 @@ encoderTable form size =
     ∷ 12 when ltb size (formSize form)
     ∷ []
 
+-- the tasks of the oldest batch that are drawn: of a faulty one those before its fault
+abbrev pub standing : State → List Task
+standing s = tasksDrawn (decodeBatch (boundsOfClient (s .engine) (oldest (s .engine) .client)) (resetOf (s .engine)) (oldestWords (s .engine) (s .ring)))
+
 -- a refused call leaves record, ring and memory as they were, whatever they are
 abbrev pub RefusalNoOp : Call → State → Type 0
 RefusalNoOp call s = (number : ℕ) → performCall call s .answer ≡ refused number → performCall call s .after ≡ s
@@ -44,14 +51,15 @@ pub record OfCalls (s : State) : Type 0 where
   pub only : (call : Call) (n : ℕ) → performCall call s .answer ≡ refused n → (firstRefusal (refusalTableOf call s) ≡ n) × ¬ (n ≡ 0)
   -- "and changes nothing"
   pub harmless : (call : Call) → RefusalNoOp call s
-  -- "A faulty batch draws nothing and leaves with fault number, place, status": a run that is not refused, and finds a fault
-  pub faulty : (fault : Fault) (place : ℕ) → firstRefusal (refusalTableOf run s) ≡ 0 → oldestVerdict (s .engine) (s .ring) ≡ Faulty fault place →
-      performCall run s ≡ record {
+  -- a faulty batch "leaves with fault number, place, status", and "tasks before the faulty one stand, and the status word carries their number in the upper
+  -- half, finish bit clear" (02, 5): a run that is not refused, and finds a fault. Memory after is memory with these tasks drawn, and they are that many
+  pub faulty : (tasks : ℕ) (fault : Fault) (place : ℕ) → firstRefusal (refusalTableOf run s) ≡ 0 → oldestVerdict (s .engine) (s .ring) ≡ Faulty tasks fault place →
+      (performCall run s ≡ record {
         answer =
             completed (oldest (s .engine) .client) (oldest (s .engine) .ticket)
-            (record { status = faultStatus fault; fault = faultNumber fault; offset = place });
-        after = mkState (withoutOldest (s .engine)) (s .ring) (s .memory);
-      }
+            (record { status = tasks * 65536 + faultStatus fault; fault = faultNumber fault; offset = place });
+        after = mkState (withoutOldest (s .engine)) (s .ring) (drawTasks (standing s) (s .memory));
+      }) × (length (standing s) ≡ tasks)
 
 -- the encoder; "and changes nothing" is said of the buffer that is lent
 pub record OfEncoder (form : Form) (buffer : List ℕ) : Type 0 where
@@ -60,6 +68,6 @@ pub record OfEncoder (form : Form) (buffer : List ℕ) : Type 0 where
 
 pub record Demand1 : Type 0 where
   -- set up's refusal, 0 for none, is by its table; it is lent nothing
-  pub set-up : (setup : Setup) → refusalNumberOf (setUpResult (setup .ring) (setup .memory) (setup .common) .answer) ≡ firstRefusal (setUpTable setup)
+  pub set-up : (setup : Setup) → refusalNumberOf (setUpResult (setup .ring) (setup .memory) (setup .common) (setup .reset) .answer) ≡ firstRefusal (setUpTable setup)
   pub calls : (s : State) → OfCalls s
   pub encoder : (form : Form) (buffer : List ℕ) → OfEncoder form buffer

@@ -3,14 +3,13 @@
 -- batch. proofs/Demand2.antt proves it.
 use mathlib.Core.Path.{_≡_}
 use mathlib.Core.List.{List}
-use Prim.Native.Nat.{ℕ, _*_, _<_}
+use Prim.Native.Nat.{ℕ, _*_, _<_, _≤_}
 use lib.ListN.{length, take, drop}
 use Rattle.register.specs.declared.bank.Bank.{Bank}
-use Rattle.register.specs.Bank.{resetBank}
 use Rattle.rules.specs.declared.fault.Fault.{Fault}
 use Rattle.rules.specs.declared.task.Bounds.{Bounds}
 use Rattle.batch.specs.declared.verdict.Verdict.the-variants.{Faultless, Faulty}
-use Rattle.batch.specs.Batch.{decodeBatch, verdictOf}
+use Rattle.batch.specs.Batch.{decodeBatch, verdictOf, tasksDrawn}
 use Rattle.batch.specs.Marks.{taskEndCount}
 use Rattle.encoder.specs.declared.Answer.the-variants.{Written}
 use Rattle.encoder.specs.Forms.{Form, formSize}
@@ -20,28 +19,35 @@ use Rattle.raster.specs.Task.{drawTasks}
 use Rattle.raster.specs.Batch.{drawBatch}
 use Rattle.raster.specs.WriteFrame.{WriteFrame}
 use Rattle.queue.specs.Refusals.{firstRefusal}
-use Rattle.engine.specs.Run.{oldest, boundsOfClient, oldestWords, oldestVerdict, withoutOldest}
+use Rattle.engine.specs.Run.{oldest, boundsOfClient, oldestWords, resetOf, oldestVerdict, withoutOldest}
 use Rattle.model.specs.Calls.{run, completed}
 use Rattle.model.specs.BatchSemantics.{Confined}
 use Rattle.claims.specs.BatchSemantics.{completionStatusOf, semanticsFrom}
 use Rattle.claims.specs.Engine.{State, mkState, CallResult, performCall}
 use Rattle.claims.specs.Demand1.{refusalTableOf}
 
+-- of a faulty batch with a fault at this offset: the words before the faulty task are by themselves a faultless batch, of so many tasks, and it draws the same
+pub record Standing (bounds : Bounds) (bank : Bank) (words memory : List ℕ) (tasks offset : ℕ) : Type 0 where
+  -- how many words these are
+  pub before : ℕ
+  pub within : 4 * before ≤ offset
+  pub faultless : verdictOf (decodeBatch bounds bank (take before words)) ≡ Faultless tasks
+  pub same : drawBatch bounds bank words memory ≡ drawBatch bounds bank (take before words) memory
+
 -- what holds of any batch of these words, read from any bank on, within any bounds, drawn in any memory
 pub record OfBatch (bounds : Bounds) (bank : Bank) (words memory : List ℕ) : Type 0 where
-  -- "draws it if faultless": all its tasks, each on what the tasks before it left
-  pub faultless : (number : ℕ) → verdictOf (decodeBatch bounds bank words) ≡ Faultless number →
-      drawTasks (decodeBatch bounds bank words .tasks) memory ≡ drawBatch bounds bank words memory
-  -- "A faulty batch draws nothing at all"
-  pub faulty : (fault : Fault) (offset : ℕ) → verdictOf (decodeBatch bounds bank words) ≡ Faulty fault offset → drawBatch bounds bank words memory ≡ memory
+  -- all its tasks are drawn, each on what the tasks before it left; of a faulty batch those before its fault
+  pub drawn : drawBatch bounds bank words memory ≡ drawTasks (tasksDrawn (decodeBatch bounds bank words)) memory
+  -- "tasks before the faulty one stand, and the status word carries their number" (02, 5)
+  pub faulty : (tasks : ℕ) (fault : Fault) (offset : ℕ) → verdictOf (decodeBatch bounds bank words) ≡ Faulty tasks fault offset → Standing bounds bank words memory tasks offset
   -- "no byte outside a task's output rows changes": what is written, with what, and what is not
   pub writes : WriteFrame bounds bank words memory
   -- the task number "is the task-end marks in the batch"
   pub tasks : (number : ℕ) → verdictOf (decodeBatch bounds bank words) ≡ Faultless number → number ≡ taskEndCount words
   -- a fault's place, in bytes, lies in the batch
-  pub place : (fault : Fault) (offset : ℕ) → verdictOf (decodeBatch bounds bank words) ≡ Faulty fault offset → offset < 4 * length words
+  pub place : (tasks : ℕ) (fault : Fault) (offset : ℕ) → verdictOf (decodeBatch bounds bank words) ≡ Faulty tasks fault offset → offset < 4 * length words
 
--- what run answers and leaves: the oldest batch, read from the reset values on and within its client's bounds, is judged and drawn
+-- what run answers and leaves: the oldest batch, read from the record's reset values on and within its client's bounds, is judged and drawn
 abbrev pub executed : State → CallResult
 executed s =
     let batch = oldest (s .engine) in
@@ -49,14 +55,14 @@ executed s =
       answer = completed (batch .client) (batch .ticket) (completionStatusOf (oldestVerdict (s .engine) (s .ring)));
       after =
           mkState (withoutOldest (s .engine)) (s .ring)
-          (drawBatch (boundsOfClient (s .engine) (batch .client)) resetBank (oldestWords (s .engine) (s .ring)) (s .memory));
+          (drawBatch (boundsOfClient (s .engine) (batch .client)) (resetOf (s .engine)) (oldestWords (s .engine) (s .ring)) (s .memory));
     }
 
 pub record OfRun (s : State) : Type 0 where
   -- a run that is not refused: its verdict and its drawing
   pub executes : firstRefusal (refusalTableOf run s) ≡ 0 → performCall run s ≡ executed s
   -- a fault's place lies in the batch as it was submitted
-  pub place : (fault : Fault) (offset : ℕ) → oldestVerdict (s .engine) (s .ring) ≡ Faulty fault offset → offset < oldest (s .engine) .length
+  pub place : (tasks : ℕ) (fault : Fault) (offset : ℕ) → oldestVerdict (s .engine) (s .ring) ≡ Faulty tasks fault offset → offset < oldest (s .engine) .length
 
 -- "fills the first 80 bytes, no others", in the second form 100 (02, request 3); of a refusal Demand1 says that it changes none
 pub record Filled (form : Form) (buffer : List ℕ) : Type 0 where

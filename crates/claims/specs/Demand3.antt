@@ -1,10 +1,11 @@
 -- Demand 3 (01, "The book of demand 3"): what is promised of the engine over any list of open, submit, run and pending calls, refused ones
--- included, from an accepted set up, with any ring and memory at the start. `batchSemantics` is reading, judging and drawing by demand 2's definitions
--- (ModelProperties). The model is in crates/model/specs. One hypothesis: set up was accepted. proofs/Theorem.antt proves it.
+-- included, from an accepted set up, with any ring and memory at the start. `batchSemantics setup` is reading, judging and drawing by demand 2's
+-- definitions, with the reset rule of the set up (ModelProperties). The model is in crates/model/specs. One hypothesis: set up was accepted. proofs/Theorem.antt proves it.
 use mathlib.Core.Path.{_≡_}
 use mathlib.Core.List.{List, [], _∷_, List·Memᴰ}
-use Prim.Native.Nat.{ℕ, _≤_, _<_}
+use Prim.Native.Nat.{ℕ, _/_, _≤_, _<_}
 use lib.ListN.{length, take}
+use Rattle.raster.specs.Task.{drawTasks}
 use Rattle.record.specs.Queue.{waiting}
 use Rattle.engine.specs.Run.{oldest}
 use Rattle.model.specs.Windows.{byte}
@@ -15,7 +16,7 @@ use Rattle.model.specs.ReplayedAlone.{replayedAlone}
 use Rattle.model.specs.Noninterference.{Pointwise, LowEqualAnswer, LowEquivalent}
 use Rattle.claims.specs.ModelProperties.{batchSemantics}
 use Rattle.claims.specs.Engine.{State, CallResult, performCall, answersOf, stateAfter, SetUpAccepted, initialState}
-use Rattle.claims.specs.Demand1.{RefusalNoOp}
+use Rattle.claims.specs.Demand1.{RefusalNoOp, standing}
 
 -- the completions among the answers, in order: the successful runs
 unfoldable pub completedOf : List Answer → List Answer
@@ -33,17 +34,17 @@ module _ (setup : Setup) (ring : List ℕ) where
     finalState = stateAfter calls (initialState setup ring memory)
 
     abbrev pub finalModel : Model
-    finalModel = modelAfterAll batchSemantics setup (length ring) calls memory
+    finalModel = modelAfterAll (batchSemantics setup) setup (length ring) calls memory
 
     -- a: every answer, and at the end every byte of memory, is the model's
     pub record RefinesModel : Type 0 where
-      pub every-answer : answersOf calls (initialState setup ring memory) ≡ answers batchSemantics setup (length ring) calls (initialModel memory)
+      pub every-answer : answersOf calls (initialState setup ring memory) ≡ answers (batchSemantics setup) setup (length ring) calls (initialModel memory)
       pub every-byte : finalState .memory ≡ finalModel .memory
 
     -- b: each open client's window holds what that client's own executed batches, drawn alone and in order, make of the starting memory; bytes
     -- in no window, common among them, are as at the start
     pub record Isolation : Type 0 where
-      pub window : (client i : ℕ) → Owns finalModel client i → byte (finalState .memory) i ≡ byte (replayedAlone batchSemantics setup (length ring) client calls memory) i
+      pub window : (client i : ℕ) → Owns finalModel client i → byte (finalState .memory) i ≡ byte (replayedAlone (batchSemantics setup) setup (length ring) client calls memory) i
       pub no-window : (i : ℕ) → ((client : ℕ) → ¬ (Owns finalModel client i)) → byte (finalState .memory) i ≡ byte memory i
       pub common : (i : ℕ) → i < setup .common → byte (finalState .memory) i ≡ byte memory i
       pub size : length (finalState .memory) ≡ length memory
@@ -56,13 +57,16 @@ module _ (setup : Setup) (ring : List ℕ) where
         8 ≤ completions (answersOf later (submitted .after)) →
         (v : CompletionStatus) × List·Memᴰ (completed client ticket v) (take 8 (completedOf (answersOf later (submitted .after))))
 
-    -- e: a faulty batch leaves memory as it was, and the queue without it
-    abbrev pub FaultyBatchNoOp : Type 0
-    FaultyBatchNoOp = (client ticket : ℕ) (v : CompletionStatus) → performCall run finalState .answer ≡ completed client ticket v → ¬ (v .fault ≡ 0) →
-        (performCall run finalState .after .memory ≡ finalState .memory) × (waiting (finalState .engine) ≡ oldest (finalState .engine) ∷ waiting (performCall run finalState .after .engine))
+    -- e: a faulty batch leaves memory with the tasks before its fault drawn, as many as the upper half of its status says (02, 5), and the queue without it
+    abbrev pub FaultyBatchStands : Type 0
+    FaultyBatchStands = (client ticket : ℕ) (v : CompletionStatus) → performCall run finalState .answer ≡ completed client ticket v → ¬ (v .fault ≡ 0) →
+        (performCall run finalState .after .memory ≡ drawTasks (standing finalState) (finalState .memory))
+        × (length (standing finalState) ≡ v .status / 65536)
+        × (waiting (finalState .engine) ≡ oldest (finalState .engine) ∷ waiting (performCall run finalState .after .engine))
 
   -- c: two runs that differ only in the bytes of one client's batches and in what its window holds at the start, and in what the rings hold. Every
-  -- answer is the same but for status, fault and offset of that client's own batches, and so is every byte of memory outside that one window.
+  -- answer is the same but for status, fault and offset of that client's own batches, and so is every byte of memory outside that one window. Both
+  -- start from the same set up, so they have the same reset rule (02, request 2: "Demand 3 compares runs with the same choice").
   pub record Noninterference (client : ℕ) (ring′ : List ℕ) (calls calls′ : List Call) (memory memory′ : List ℕ) : Type 0 where
     pub told : Pointwise (LowEqualAnswer client) (answersOf calls (initialState setup ring memory)) (answersOf calls′ (initialState setup ring′ memory′))
     pub size : length (finalState calls memory .memory) ≡ length (stateAfter calls′ (initialState setup ring′ memory′) .memory)
@@ -73,11 +77,11 @@ pub record Demand3 (setup : Setup) (ring : List ℕ) : Type 0 where
   pub like-model : (calls : List Call) (memory : List ℕ) → RefinesModel setup ring calls memory
   pub separate : (calls : List Call) (memory : List ℕ) → Isolation setup ring calls memory
   pub unmoved : (client : ℕ) (ring′ : List ℕ) (calls calls′ : List Call) (memory memory′ : List ℕ) → length ring ≡ length ring′ →
-      LowEquivalent batchSemantics setup (length ring) client calls calls′ memory memory′ → Noninterference setup ring client ring′ calls calls′ memory memory′
+      LowEquivalent (batchSemantics setup) setup (length ring) client calls calls′ memory memory′ → Noninterference setup ring client ring′ calls calls′ memory memory′
   pub in-time : (calls later : List Call) (memory : List ℕ) → BoundedWaiting setup ring calls memory later
   -- e: a refused call changes nothing (demand 1)
   pub harmless : (call : Call) (s : State) → RefusalNoOp call s
-  pub fruitless : (calls : List Call) (memory : List ℕ) → FaultyBatchNoOp setup ring calls memory
+  pub stands : (calls : List Call) (memory : List ℕ) → FaultyBatchStands setup ring calls memory
 
 -- The promise.
 abbrev pub Demand3Holds : Type 0

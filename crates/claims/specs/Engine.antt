@@ -70,8 +70,8 @@ stateAfter (c ∷ cs) s = stateAfter cs (performCall c s .after)
 
 -- set up is not refused
 abbrev pub SetUpAccepted : Setup → Type 0
-SetUpAccepted setup = refusalNumberOf (setUpResult (setup .ring) (setup .memory) (setup .common) .answer) ≡ 0
+SetUpAccepted setup = refusalNumberOf (setUpResult (setup .ring) (setup .memory) (setup .common) (setup .reset) .answer) ≡ 0
 
 -- 01, "The book of demand 3": "The list starts from the record of an accepted set up"; ring and memory are any
 abbrev pub initialState : Setup → (ring memory : List ℕ) → State
-initialState setup ring memory = mkState (setUpResult (setup .ring) (setup .memory) (setup .common) .engine) ring memory
+initialState setup ring memory = mkState (setUpResult (setup .ring) (setup .memory) (setup .common) (setup .reset) .engine) ring memory

@@ -10,22 +10,22 @@ use Rattle.model.specs.Noninterference.{LowEquivalent}
 use Rattle.model.specs.Properties.{Isolation, Noninterference, WindowStable, FifoOrder, BoundedWaiting, RefusalNoOp}
 use Rattle.claims.specs.BatchSemantics.{semanticsFrom}
 
--- the reset value of 01
-abbrev pub batchSemantics : BatchSemantics
-batchSemantics = semanticsFrom resetBank
+-- the registers at reset by the rule of the set up (02, request 2)
+abbrev pub batchSemantics : Setup → BatchSemantics
+batchSemantics setup = semanticsFrom (resetBank (setup .reset))
 
 -- for any set up, any lent ring length, any starting memory and any list of calls, refused ones included
 pub record ModelPropertiesHold (setup : Setup) (ring : ℕ) : Type 0 where
   -- each open client's window is what its own executed batches make of the starting memory; all other bytes are as at the start
-  pub separate : (calls : List Call) (memory : List ℕ) → Isolation batchSemantics setup ring calls memory
+  pub separate : (calls : List Call) (memory : List ℕ) → Isolation (batchSemantics setup) setup ring calls memory
   -- two runs that differ only in one client's bytes agree everywhere else
   pub unmoved : (client : ℕ) (calls calls′ : List Call) (memory memory′ : List ℕ) →
-      LowEquivalent batchSemantics setup ring client calls calls′ memory memory′ → Noninterference batchSemantics setup ring client calls calls′ memory memory′
+      LowEquivalent (batchSemantics setup) setup ring client calls calls′ memory memory′ → Noninterference (batchSemantics setup) setup ring client calls calls′ memory memory′
   -- a client's window is the one that it opens in the list
-  pub holds : (calls later : List Call) (memory : List ℕ) → WindowStable batchSemantics setup ring calls memory later
+  pub holds : (calls later : List Call) (memory : List ℕ) → WindowStable (batchSemantics setup) setup ring calls memory later
   -- batches are executed in the order of their tickets; at most eight wait
-  pub in-order : (calls : List Call) (memory : List ℕ) → FifoOrder batchSemantics setup ring calls memory
+  pub in-order : (calls : List Call) (memory : List ℕ) → FifoOrder (batchSemantics setup) setup ring calls memory
   -- an accepted batch is taken at the latest by the eighth successful run after it
-  pub in-time : (calls later : List Call) (memory : List ℕ) → BoundedWaiting batchSemantics setup ring calls memory later
+  pub in-time : (calls later : List Call) (memory : List ℕ) → BoundedWaiting (batchSemantics setup) setup ring calls memory later
   -- a refused call changes nothing
-  pub harmless : (call : Call) (model : Model) → RefusalNoOp batchSemantics setup ring call model
+  pub harmless : (call : Call) (model : Model) → RefusalNoOp (batchSemantics setup) setup ring call model

@@ -23,28 +23,28 @@ module _ (setup : Setup) (ring : List ℕ) (calls calls′ : List Call) (memory 
 
   -- The same windows are opened in the same order.
   abbrev pub SameWindows : Type 0
-  SameWindows = finalModel batchSemantics setup (length ring) calls memory .windows ≡ finalModel batchSemantics setup (length ring) calls′ memory .windows
+  SameWindows = finalModel (batchSemantics setup) setup (length ring) calls memory .windows ≡ finalModel (batchSemantics setup) setup (length ring) calls′ memory .windows
 
   -- "any order that keeps each desk's own sequence", of executed batches
   abbrev pub EngineOrder : Type 0
   EngineOrder = SameWindows →
-      SameSequences (executedBatches batchSemantics setup (length ring) calls memory) (executedBatches batchSemantics setup (length ring) calls′ memory) → SameOutcome
+      SameSequences (executedBatches (batchSemantics setup) setup (length ring) calls memory) (executedBatches (batchSemantics setup) setup (length ring) calls′ memory) → SameOutcome
 
   -- and of accepted batches, "where every batch is accepted and run in both": none waits at the end
   abbrev pub EngineSubmissions : Type 0
   EngineSubmissions = SameWindows →
-      finalModel batchSemantics setup (length ring) calls memory .waiting ≡ [] → finalModel batchSemantics setup (length ring) calls′ memory .waiting ≡ [] →
-      SameSequences (submitted batchSemantics setup (length ring) calls (initialModel memory)) (submitted batchSemantics setup (length ring) calls′ (initialModel memory)) → SameOutcome
+      finalModel (batchSemantics setup) setup (length ring) calls memory .waiting ≡ [] → finalModel (batchSemantics setup) setup (length ring) calls′ memory .waiting ≡ [] →
+      SameSequences (submitted (batchSemantics setup) setup (length ring) calls (initialModel memory)) (submitted (batchSemantics setup) setup (length ring) calls′ (initialModel memory)) → SameOutcome
 
 pub record Order (setup : Setup) (ring : List ℕ) : Type 0 where
   -- "two faultless or faulty batches of different desks, taken one right after the other", at any moment: "either order leaves the same memory and gives
   -- each batch the same status, fault and place"
-  pub exchange : (calls : List Call) (memory : List ℕ) → Exchange batchSemantics setup (length ring) calls memory
+  pub exchange : (calls : List Call) (memory : List ℕ) → Exchange (batchSemantics setup) setup (length ring) calls memory
   -- "whole queues": any order of what is executed, and of what is handed in where all of it is run
-  pub any-order : (calls calls′ : List Call) (memory : List ℕ) → AnyOrder batchSemantics setup (length ring) calls calls′ memory
-  pub any-submissions : (calls calls′ : List Call) (memory : List ℕ) → AnySubmissions batchSemantics setup (length ring) calls calls′ memory
+  pub any-order : (calls calls′ : List Call) (memory : List ℕ) → AnyOrder (batchSemantics setup) setup (length ring) calls calls′ memory
+  pub any-submissions : (calls calls′ : List Call) (memory : List ℕ) → AnySubmissions (batchSemantics setup) setup (length ring) calls calls′ memory
   -- "Night staff reorder the queue by hand", at any moment, and it is run to the end
-  pub by-hand : (calls : List Call) (memory : List ℕ) → ReorderedByHand batchSemantics setup (length ring) calls memory
+  pub by-hand : (calls : List Call) (memory : List ℕ) → ReorderedByHand (batchSemantics setup) setup (length ring) calls memory
   -- whole queues, of the engine. No call changes places in its queue, so the other two are of the model alone.
   pub engine-order : (calls calls′ : List Call) (memory : List ℕ) → EngineOrder setup ring calls calls′ memory
   pub engine-submissions : (calls calls′ : List Call) (memory : List ℕ) → EngineSubmissions setup ring calls calls′ memory

@@ -5,6 +5,7 @@ use mathlib.Core.List.{List, [], _∷_, _++_}
 use mathlib.Core.Bool.{Bool, true, false, cond}
 use Prim.Native.Nat.{ℕ, zero, suc, _+_, _-_, _*_}
 use lib.ListN.{getD}
+use Rattle.reset.specs.declared.ResetRule.the-variants.{Unblended}
 use Rattle.range.specs.declared.Range.{Range}
 use Rattle.ring.specs.Segment.{segment}
 use Rattle.pixel.specs.declared.colour.Colour.{Colour}
@@ -112,7 +113,7 @@ examples p q =
     -- "F2 with H flip: q, p."
     ∷ turned true p q gives (1 ∷ 2 ∷ q ∷ p ∷ [])
     -- "T1 three tasks: 0x00030001."
-    ∷ (statusWordOf (verdictOf (decodeBatch bounds resetBank (task 16384 ++ task 16384 ++ task 16384))) ∷ []) gives (0x00030001 ∷ [])
+    ∷ (statusWordOf (verdictOf (decodeBatch bounds (resetBank Unblended) (task 16384 ++ task 16384 ++ task 16384))) ∷ []) gives (0x00030001 ∷ [])
     ∷ []
 
 -- the one statement

@@ -14,7 +14,7 @@ pub reads-back : (bounds : Bounds) (bank : Bank) → EncodeDecodeRoundTrip bound
 unfolding expectedDecoding
 reads-back bounds bank = record {
   one = λ w buffer plain e. round-trip w buffer e plain bounds bank;
-  first = λ f buffer plain e. round-trip (firstForm f) buffer e plain bounds resetBank;
+  first = λ rule f buffer plain e. round-trip (firstForm f) buffer e plain bounds (resetBank rule);
   all = bytes-read-back bounds bank;
   same = fine-from bounds bank 0;
   marked = λ ws ok plain. ap taskEndCount (all-bytes-back ws ok plain) ∙ one-mark-each ws;

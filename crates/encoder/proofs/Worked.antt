@@ -2,6 +2,8 @@
 use mathlib.Core.Path.{_≡_, refl}
 use mathlib.Core.List.{[], _∷_}
 use Prim.Native.Nat.{ℕ}
+use Rattle.reset.specs.declared.ResetRule.{ResetRule}
+use Rattle.reset.specs.declared.ResetRule.the-variants.{Unblended, SrcOver}
 use Rattle.word.specs.Word.{byteOf, leBytes, wordsBytes}
 use Rattle.gradient.specs.declared.Steps.{Steps}
 use Rattle.register.specs.Bank.{resetBank, resetSteps}
@@ -13,9 +15,9 @@ use Rattle.encoder.specs.Forms.{firstForm, secondForm, formWords}
 use Rattle.encoder.specs.Encoder.{encodeRefusalOf, answerOf, taskBytes}
 use Rattle.encoder.specs.Solid.{resetFields, solidFields}
 
--- colour 0x80FF0000, 2 by 1, stride 8, at 16384, rest at reset
+-- colour 0x80FF0000, 2 by 1, stride 8, at 16384, rest at reset; "the worked words keep the old one" (02, request 2)
 abbrev pub worked : Fields
-worked = solidFields 0x80FF0000 2 1 8 16384
+worked = solidFields Unblended 0x80FF0000 2 1 8 16384
 
 pub worked-words : formWords (firstForm worked)
     ≡ 0x00100014 ∷ 0x00000005 ∷ 0x00010002 ∷ 0x00000000 ∷ 0x80FF0000 ∷ 0x00000000
@@ -37,9 +39,10 @@ unfolding taskBytes wordsBytes leBytes byteOf taskWords bankOf surfaceRegisters 
 worked-bytes = refl
 
 -- the fields of a bank at reset are those of the bank at reset
-pub reset-registers : bankOf resetSteps resetFields ≡ resetBank
+pub reset-registers : (rule : ResetRule) → bankOf resetSteps (resetFields rule) ≡ resetBank rule
 unfolding bankOf surfaceRegisters sourceControl destinationControl blendingWord
-reset-registers = refl
+reset-registers Unblended = refl
+reset-registers SrcOver = refl
 
 -- written into 80 bytes, not into 79; a width of 8,192 or a stride of 65,536 is refused first, a side of 0 or a stride of 9 is written
 abbrev number : Fields → ℕ → ℕ
@@ -47,8 +50,8 @@ number f size = encodeRefusalOf (answerOf (firstForm f) size)
 
 pub edges :
     number worked 80 ∷ number worked 79
-    ∷ number (solidFields 0 8192 1 8 0) 79 ∷ number (solidFields 0 1 8192 8 0) 80 ∷ number (solidFields 0 1 1 65536 0) 0
-    ∷ number (solidFields 0 0 8191 65535 0) 80 ∷ number (solidFields 0 8191 0 9 0) 80 ∷ []
+    ∷ number (solidFields Unblended 0 8192 1 8 0) 79 ∷ number (solidFields Unblended 0 1 8192 8 0) 80 ∷ number (solidFields Unblended 0 1 1 65536 0) 0
+    ∷ number (solidFields Unblended 0 0 8191 65535 0) 80 ∷ number (solidFields Unblended 0 8191 0 9 0) 80 ∷ []
     ≡ 0 ∷ 12 ∷ 24 ∷ 24 ∷ 24 ∷ 0 ∷ 0 ∷ []
 unfolding answerOf allowed sourceAllowed destinationAllowed surfaceAllowed alphaAllowed transformAllowed blendingAllowed
 edges = refl

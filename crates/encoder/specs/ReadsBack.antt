@@ -5,6 +5,7 @@ use mathlib.Core.List.{List, [], _∷_}
 use Prim.Native.Nat.{ℕ}
 use lib.ListN.{length, take}
 use Rattle.word.specs.Word.{words}
+use Rattle.reset.specs.declared.ResetRule.{ResetRule}
 use Rattle.register.specs.Bank.{resetBank, resetSteps}
 use Rattle.register.specs.declared.bank.Bank.{Bank}
 use Rattle.rules.specs.declared.task.Bounds.{Bounds}
@@ -22,9 +23,9 @@ pub record EncodeDecodeRoundTrip (bounds : Bounds) (bank : Bank) : Type 0 where
   -- what the encoder leaves in a buffer that it takes: the first form keeps the bank's steps, the second writes them
   pub one : (w : Form) (buffer : List ℕ) → Fits32Bits (fieldsIn w) → answerOf w (length buffer) ≡ Written →
       decodeBatch bounds bank (words (take (formSize w) (bufferAfter w buffer))) ≡ expectedDecoding bounds bank 0 (w ∷ [])
-  -- "the first form takes no steps and, first in its batch, stands for steps of zero"
-  pub first : (f : Fields) (buffer : List ℕ) → Fits32Bits f → answerOf (firstForm f) (length buffer) ≡ Written →
-      decodeBatch bounds resetBank (words (take 80 (bufferAfter (firstForm f) buffer)))
+  -- "the first form takes no steps and, first in its batch, stands for steps of zero", under either reset rule
+  pub first : (rule : ResetRule) (f : Fields) (buffer : List ℕ) → Fits32Bits f → answerOf (firstForm f) (length buffer) ≡ Written →
+      decodeBatch bounds (resetBank rule) (words (take 80 (bufferAfter (firstForm f) buffer)))
       ≡ afterTaskCheck (checkTask bounds (taskWith resetSteps f)) (bankOf resetSteps f) 18 (stopWith (bankOf resetSteps f) finished)
   -- encoded tasks, one after the other
   pub all : (ws : List Form) → AllAllowed ws → AllFit32Bits ws → decodeBatch bounds bank (words (allBytes ws)) ≡ expectedDecoding bounds bank 0 ws

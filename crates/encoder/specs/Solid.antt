@@ -1,6 +1,8 @@
 -- A rectangle of one colour, all else at reset (01, "Writer and replay"). Internal, except what tints use: `resetAlpha`, `resetTransform`,
 -- `solidSource`.
 use Prim.Native.Nat.{ℕ}
+use Rattle.reset.specs.declared.ResetRule.{ResetRule}
+use Rattle.reset.specs.declared.ResetRule.the-variants.{Unblended, SrcOver}
 use Rattle.encoder.specs.declared.fields.SurfaceFields.{SurfaceFields}
 use Rattle.encoder.specs.declared.fields.AlphaFields.{AlphaFields}
 use Rattle.encoder.specs.declared.fields.TransformFields.{TransformFields}
@@ -9,7 +11,7 @@ use Rattle.encoder.specs.declared.fields.DestinationFields.{DestinationF
 use Rattle.encoder.specs.declared.fields.BlendingFields.{BlendingFields}
 use Rattle.encoder.specs.declared.fields.Fields.{Fields}
 
--- ---- the fields of a bank at reset: all 0, but the factors 2 and 3
+-- ---- the fields of a bank at reset: all 0, but for blending
 
 abbrev pub resetSurface : SurfaceFields
 resetSurface = record { width = 0; height = 0; stride = 0; address = 0; format = 0 }
@@ -26,11 +28,13 @@ resetSource = record { surface = resetSurface; alpha = resetAlpha; transform = r
 abbrev pub resetDestination : DestinationFields
 resetDestination = record { surface = resetSurface; alpha = resetAlpha; enable = 0 }
 
-abbrev pub resetBlending : BlendingFields
-resetBlending = record { source = 2; destination = 3; on = 0 }
+-- by the reset rule (02, request 2: "the writer's 'rest at reset' takes the choice too"): NONE and off, or SRC_OVER and on
+abbrev pub resetBlending : ResetRule → BlendingFields
+resetBlending Unblended = record { source = 2; destination = 3; on = 0 }
+resetBlending SrcOver = record { source = 1; destination = 3; on = 1 }
 
-abbrev pub resetFields : Fields
-resetFields = record { source = resetSource; destination = resetDestination; output = resetSurface; colour = 0; blending = resetBlending }
+abbrev pub resetFields : ResetRule → Fields
+resetFields rule = record { source = resetSource; destination = resetDestination; output = resetSurface; colour = 0; blending = resetBlending rule }
 
 -- ---- a solid rectangle
 
@@ -44,11 +48,11 @@ solidSource width height = record {
   enable = 1;
 }
 
-abbrev pub solidFields : ℕ → ℕ → ℕ → ℕ → ℕ → Fields
-solidFields colour width height stride address = record {
+abbrev pub solidFields : ResetRule → ℕ → ℕ → ℕ → ℕ → ℕ → Fields
+solidFields rule colour width height stride address = record {
   source = solidSource width height;
   destination = resetDestination;
   output = record { width = width; height = height; stride = stride; address = address; format = 0 };
   colour = colour;
-  blending = resetBlending;
+  blending = resetBlending rule;
 }

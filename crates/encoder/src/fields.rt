@@ -3,13 +3,14 @@ ghost use mathlib.Core.Path.{_≡_};
 ghost use mathlib.Core.Bool.{true};
 ghost use Rattle.encoder.specs.Fields.{surfaceAllowed, alphaAllowed, transformAllowed, sourceAllowed, destinationAllowed, blendingAllowed, stepsAllowed, allowed};
 ghost use Rattle.encoder.specs.Registers.{surfaceRegisters, alphaBits, transformBits, sourceControl, destinationControl, blendingWord, bankOf};
-ghost use Rattle.encoder.specs.Solid.{resetFields, solidFields};
+ghost use Rattle.encoder.specs.Solid.{resetBlending, resetFields, solidFields};
 use gradient::Steps;
 use pixel::AlphaMode;
 use pixel::Factor;
 use pixel::Format;
 use register::Bank;
 use register::SurfaceRegisters;
+use reset::ResetRule;
 
 #[repr(C)]
 pub struct SurfaceFields {
@@ -199,11 +200,26 @@ impl DestinationFields {
 
 impl BlendingFields {
     // The factors of the rule NONE.
-    pub const RESET: BlendingFields = BlendingFields {
+    pub const UNBLENDED: BlendingFields = BlendingFields {
         source: 2,
         destination: 3,
         on: 0,
     };
+
+    pub const SRC_OVER: BlendingFields = BlendingFields {
+        source: 1,
+        destination: 3,
+        on: 1,
+    };
+
+    fn reset(rule: ResetRule) -> BlendingFields
+        ensures { λ r. ⌜ r ≡ resetBlending rule ⌝ }
+    {
+        match rule {
+            ResetRule::Unblended => BlendingFields::UNBLENDED,
+            ResetRule::SrcOver => BlendingFields::SRC_OVER,
+        }
+    }
 
     fn is_allowed(self) -> bool
         ensures { λ r. ⌜ r ≡ blendingAllowed self ⌝ }
@@ -230,24 +246,29 @@ pub(crate) fn steps_allowed(steps: Steps) -> bool
 }
 
 impl Fields {
-    pub const RESET: Fields = Fields {
-        source: SourceFields::RESET,
-        destination: DestinationFields::RESET,
-        output: SurfaceFields::RESET,
-        colour: 0,
-        blending: BlendingFields::RESET,
-    };
-
     // The fields of a bank at reset.
-    pub fn reset() -> Fields
-        ensures { λ r. ⌜ r ≡ resetFields ⌝ }
+    pub fn reset(rule: ResetRule) -> Fields
+        ensures { λ r. ⌜ r ≡ resetFields rule ⌝ }
     {
-        Fields::RESET
+        Fields {
+            source: SourceFields::RESET,
+            destination: DestinationFields::RESET,
+            output: SurfaceFields::RESET,
+            colour: 0,
+            blending: BlendingFields::reset(rule),
+        }
     }
 
     // A rectangle of one colour in ARGB8888, all else at reset.
-    pub fn solid(colour: u32, width: u32, height: u32, stride: u32, address: u32) -> Fields
-        ensures { λ r. ⌜ r ≡ solidFields colour width height stride address ⌝ }
+    pub fn solid(
+        rule: ResetRule,
+        colour: u32,
+        width: u32,
+        height: u32,
+        stride: u32,
+        address: u32,
+    ) -> Fields
+        ensures { λ r. ⌜ r ≡ solidFields rule colour width height stride address ⌝ }
     {
         Fields {
             source: SourceFields {
@@ -272,7 +293,7 @@ impl Fields {
                 format: 0,
             },
             colour,
-            blending: BlendingFields::RESET,
+            blending: BlendingFields::reset(rule),
         }
     }
 

@@ -4,7 +4,6 @@ use mathlib.Core.List.{List}
 use Prim.Native.Nat.{ℕ, zero, suc}
 use Rattle.ring.specs.Segment.{batchWords}
 use Rattle.register.specs.declared.bank.Bank.{Bank}
-use Rattle.register.specs.Bank.{resetBank}
 use Rattle.rules.specs.declared.task.Bounds.{Bounds}
 use Rattle.batch.specs.declared.verdict.Verdict.{Verdict}
 use Rattle.batch.specs.Batch.{decodeBatch, verdictOf}
@@ -14,14 +13,14 @@ use Rattle.record.specs.declared.Record.{Record}
 use Rattle.queue.specs.Calls.{unlessRefused}
 use Rattle.engine.specs.declared.Completion.{Completion}
 use Rattle.engine.specs.declared.Outcome.the-variants.{Refused, Completed}
-use Rattle.engine.specs.Run.{runNumber, oldest, boundsOfClient, oldestWords, oldestVerdict, withoutOldest, outcomeUnlessRefused, runResult, runMemory}
+use Rattle.engine.specs.Run.{runNumber, oldest, boundsOfClient, oldestWords, resetOf, oldestVerdict, withoutOldest, outcomeUnlessRefused, runResult, runMemory}
 
 -- what run answers of the oldest batch, and memory after it
 abbrev pub completion : Record → List ℕ → Completion
 completion engine ring = record { client = oldest engine .client; ticket = oldest engine .ticket; verdict = oldestVerdict engine ring }
 
 abbrev pub drawn : Record → (ring memory : List ℕ) → List ℕ
-drawn engine ring memory = drawBatch (boundsOfClient engine (oldest engine .client)) resetBank (oldestWords engine ring) memory
+drawn engine ring memory = drawBatch (boundsOfClient engine (oldest engine .client)) (resetOf engine) (oldestWords engine ring) memory
 
 module _ (engine : Record) (ring memory : List ℕ) where
   -- a refusal changes neither record nor memory
@@ -37,7 +36,7 @@ module _ (engine : Record) (ring memory : List ℕ) where
   run-done z = rw z (refl, refl)
 
   -- the same of what the code made
-  pub run-made : runNumber engine ring memory ≡ 0 → (b : Batch) → b ≡ oldest engine → (bounds : Bounds) → bounds ≡ boundsOfClient engine (b .client) → (bank : Bank) → bank ≡ resetBank →
+  pub run-made : runNumber engine ring memory ≡ 0 → (b : Batch) → b ≡ oldest engine → (bounds : Bounds) → bounds ≡ boundsOfClient engine (b .client) → (bank : Bank) → bank ≡ resetOf engine →
       (verdict : Verdict) → verdict ≡ verdictOf (decodeBatch bounds bank (batchWords ring (b .offset) (b .length))) → (after : Record) → after ≡ withoutOldest engine →
       (new : List ℕ) → new ≡ drawBatch bounds bank (batchWords ring (b .offset) (b .length)) memory →
       (record { outcome = Completed (record { client = b .client; ticket = b .ticket; verdict = verdict }); engine = after } ≡ runResult engine ring memory) × (new ≡ runMemory engine ring memory)

@@ -11,7 +11,6 @@ use borrow.Author.Tests.{ltb-true}
 use Rattle.word.specs.Word.{words}
 use Rattle.ring.specs.Segment.{segment, LiesInRing}
 use Rattle.ring.proofs.Segment.{batch-words}
-use Rattle.register.specs.Bank.{resetBank}
 use Rattle.raster.proofs.Outside.{length-batch}
 use Rattle.record.specs.declared.Batch.{Batch}
 use Rattle.record.specs.declared.Record.{Record}
@@ -29,7 +28,7 @@ use Rattle.queue.proofs.Stays.{unless-keeps}
 use Rattle.engine.specs.declared.Outcome.{Outcome}
 use Rattle.engine.specs.declared.Outcome.the-variants.{Refused, Completed}
 use Rattle.engine.specs.Outcome.{runRefusalOf}
-use Rattle.engine.specs.Run.{runNumber, oldestTicket, oldest, boundsOfClient, oldestWords, withoutOldest, outcomeUnlessRefused, runResult, runMemory}
+use Rattle.engine.specs.Run.{runNumber, oldestTicket, oldest, boundsOfClient, oldestWords, resetOf, withoutOldest, outcomeUnlessRefused, runResult, runMemory}
 use Rattle.engine.proofs.Oldest.{owner-open, few, first-is, good}
 use Rattle.engine.proofs.Refusals.{RunAllowed, run-allowed}
 use Rattle.engine.proofs.Calls.{completion, drawn, run-refused}
@@ -156,4 +155,4 @@ pub run-length : (engine : Record) (ring memory : List ℕ) → length (runMemor
 unfolding runMemory
 run-length engine ring memory =
     unless-keeps (λ m. length m ≡ length memory) (runNumber engine ring memory) memory (drawn engine ring memory) refl
-    (λ z. length-batch (boundsOfClient engine (oldest engine .client)) resetBank (oldestWords engine ring) memory)
+    (λ z. length-batch (boundsOfClient engine (oldest engine .client)) (resetOf engine) (oldestWords engine ring) memory)

@@ -1,12 +1,13 @@
--- Run (01, "Engine, desks, queue": "Run takes the oldest batch, judges all of it, draws it if faultless, frees its slot and ring bytes, and
--- answers desk, ticket, status, fault and place"), for every record, ring and memory. A refusal leaves record and memory as they were. The
--- ring is lent to be read: "Run changes no ring byte."
+-- Run (01, "Engine, desks, queue": "Run takes the oldest batch", judges it and draws it, "frees its slot and ring bytes, and answers desk,
+-- ticket, status, fault and place"), for every record, ring and memory. Of a faulty batch "tasks before the faulty one stand" (02, 5). A refusal
+-- leaves record and memory as they were. The ring is lent to be read: "Run changes no ring byte."
 use mathlib.Core.List.{List, [], _∷_}
 use mathlib.Core.Bool.{_||_, not}
 use Prim.Native.Nat.{ℕ, zero, suc, _+_, _-_}
 use lib.ListN.{length, getD, set}
 use lib.Dec.{eqb}
 use Rattle.ring.specs.Segment.{batchWords, wrapOffset}
+use Rattle.register.specs.declared.bank.Bank.{Bank}
 use Rattle.register.specs.Bank.{resetBank}
 use Rattle.rules.specs.declared.task.Bounds.{Bounds}
 use Rattle.batch.specs.declared.verdict.Verdict.{Verdict}
@@ -55,9 +56,12 @@ boundsOfClient engine client = record { window = windowRange (clientAt engine cl
 abbrev pub oldestWords : Record → (ring : List ℕ) → List ℕ
 oldestWords engine ring = batchWords ring (oldest engine .offset) (oldest engine .length)
 
--- "Registers are at reset values at the start of every batch"
+-- "Registers are at reset values at the start of every batch", by the record's reset rule (02, request 2)
+abbrev pub resetOf : Record → Bank
+resetOf engine = resetBank (engine .setup .reset)
+
 abbrev pub oldestVerdict : Record → (ring : List ℕ) → Verdict
-oldestVerdict engine ring = verdictOf (decodeBatch (boundsOfClient engine (oldest engine .client)) resetBank (oldestWords engine ring))
+oldestVerdict engine ring = verdictOf (decodeBatch (boundsOfClient engine (oldest engine .client)) (resetOf engine) (oldestWords engine ring))
 
 -- ---- record, answer and memory after it
 
@@ -89,7 +93,7 @@ runResult engine ring memory =
       engine = unlessRefused number engine (withoutOldest engine);
     }
 
--- memory after it: the batch drawn with its client's window; a faulty one draws nothing
+-- memory after it: the batch drawn with its client's window; of a faulty one the tasks before the fault
 unfoldable pub runMemory : Record → (ring memory : List ℕ) → List ℕ
 runMemory engine ring memory =
-    unlessRefused (runNumber engine ring memory) memory (drawBatch (boundsOfClient engine (oldest engine .client)) resetBank (oldestWords engine ring) memory)
+    unlessRefused (runNumber engine ring memory) memory (drawBatch (boundsOfClient engine (oldest engine .client)) (resetOf engine) (oldestWords engine ring) memory)

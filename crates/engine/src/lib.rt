@@ -11,7 +11,7 @@ ghost use Rattle.record.specs.Queue.{takenSlots};
 ghost use Rattle.record.specs.Rules.{valid};
 ghost use Rattle.queue.specs.Refusals.{firstRefusal};
 ghost use Rattle.queue.specs.Calls.{setUpResult, openResult, submitResult, submitRing, pendingAnswer};
-ghost use Rattle.engine.specs.Run.{runTable, oldestTicket, oldest, boundsOfClient, pendingLowered, withoutOldest, runResult, runMemory};
+ghost use Rattle.engine.specs.Run.{runTable, oldestTicket, oldest, boundsOfClient, resetOf, pendingLowered, withoutOldest, runResult, runMemory};
 use batch::Verdict;
 use queue::Answer;
 use queue::Reply;
@@ -22,6 +22,7 @@ use record::Record;
 use record::Slot;
 use record::SlotState;
 use register::Bank;
+use reset::ResetRule;
 use rules::Bounds;
 
 // What run answers of the batch that it took. The verdict holds the fault, if there is one.
@@ -42,11 +43,11 @@ pub struct Ran {
     pub engine: Record,
 }
 
-// Set up with the lengths of ring, memory and common.
-pub fn set_up(ring: usize, memory: usize, common: usize) -> Reply
-    ensures { λ r. ⌜ r ≡ setUpResult ring memory common ⌝ }
+// Set up with the lengths of ring, memory and common, and the reset rule.
+pub fn set_up(ring: usize, memory: usize, common: usize, reset: ResetRule) -> Reply
+    ensures { λ r. ⌜ r ≡ setUpResult ring memory common reset ⌝ }
 {
-    queue::set_up(ring, memory, common)
+    queue::set_up(ring, memory, common, reset)
 }
 
 // Opens a client with a window.
@@ -106,6 +107,15 @@ fn bounds_for(engine: Record, client: u32) -> Bounds
     }
 }
 
+// The registers at the start of every batch.
+fn bank_for(engine: Record) -> Bank
+    ensures { λ r. ⌜ r ≡ resetOf engine ⌝ }
+{
+    let setup = engine.setup;
+    let rule = setup.reset;
+    Bank::reset(rule)
+}
+
 // One batch fewer pending for a client.
 fn lower(clients: [Client; 4], client: u32) -> [Client; 4]
     requires { ⌜ (client < 4) × (1 ≤ getD clients client noClient .pending) ⌝ }
@@ -160,8 +170,8 @@ fn without_oldest(engine: Record, at: usize, batch: Batch) -> Record
     after
 }
 
-// Takes the oldest batch: it is judged whole, drawn if it is faultless, and its slot and ring bytes are free again. The slow engine (02, request 13), which
-// is there to check the fast one by, draws each pixel by itself; what it promises is the same.
+// Takes the oldest batch: it is judged and drawn, the tasks before a fault too, and its slot and ring bytes are free again. The slow engine (02, request
+// 13), which is there to check the fast one by, draws each pixel by itself; what it promises is the same.
 pub fn run_by(engine: Record, ring: &[u8], memory: &mut [u8], slow: bool) -> Ran
     ensures { λ r. ⌜ (r ≡ runResult engine (now (ring .entry)) (now (memory .entry)))
         × (now (memory .exit) ≡ runMemory engine (now (ring .entry)) (now (memory .entry))) ⌝ }
@@ -183,7 +193,7 @@ pub fn run_by(engine: Record, ring: &[u8], memory: &mut [u8], slow: bool) -> Ran
         batch.offset,
         batch.length,
         bounds,
-        Bank::reset(),
+        bank_for(engine),
         slow,
     );
     let completion = Completion {

@@ -13,7 +13,7 @@ use borrow.Author.Tests.{ltb-true, ltb-false, eqb-false, not-true, lt-ltb, le-lt
 use Rattle.word.specs.Word.{words}
 use Rattle.word.proofs.Tests.{split, and-true, or-false}
 use Rattle.ring.specs.Segment.{segment, liesInRing, batchWords}
-use Rattle.register.specs.Bank.{resetBank}
+use Rattle.replay.specs.Lines.{fileReset}
 use Rattle.rules.specs.declared.task.Bounds.{Bounds}
 use Rattle.batch.specs.Batch.{decodeBatch, tasksDrawn}
 use Rattle.model.specs.Refusals.{badLength}
@@ -84,8 +84,8 @@ module _ (q : Question) (f : Finding) (entry : Entry) where
 
   pub after-accepted : (bounds : Bounds) (last : Touched) (reason : Why) → eqb (recordRefusal entry) 0 ≡ true → f .accepted ≤ 1024
       → bounds ≡ boundsOf (replayWindow (entry .client)) 16384
-      → last ≡ lastFrom (f .touched) (q .address) (numbered (f .accepted) 0 (tasksDrawn (decodeBatch bounds resetBank (batchWords (entry .batch) 0 size))))
-      → reason ≡ cond (eqb (f .accepted) (q .ticket)) (explained (batchWords (entry .batch) 0 size) (decodeBatch bounds resetBank (batchWords (entry .batch) 0 size))) (f .why)
+      → last ≡ lastFrom (f .touched) (q .address) (numbered (f .accepted) 0 (tasksDrawn (decodeBatch bounds fileReset (batchWords (entry .batch) 0 size))))
+      → reason ≡ cond (eqb (f .accepted) (q .ticket)) (explained (batchWords (entry .batch) 0 size) (decodeBatch bounds fileReset (batchWords (entry .batch) 0 size))) (f .why)
       → record { records = f .records + 1; accepted = f .accepted + 1; touched = last; why = reason } ≡ findingAfter q f entry
   unfolding drawnBy
   after-accepted bounds last reason took few bounds-is last-is reason-is =

@@ -16,7 +16,7 @@ use Rattle.batch.specs.declared.walk.Step.{Step}
 use Rattle.batch.specs.declared.walk.Step.the-variants.{Task as Next, Faulty as Stop, End}
 use Rattle.batch.specs.declared.verdict.Judgement.{Judgement}
 use Rattle.batch.specs.declared.verdict.Verdict.the-variants.{Faultless, Faulty}
-use Rattle.batch.specs.Batch.{BatchEnd, finished, faulty, DecodedBatch, tasksDrawn, verdictAfter, validationOf}
+use Rattle.batch.specs.Batch.{BatchEnd, finished, faulty, DecodedBatch, consTask, tasksDrawn, verdictAfter, validationOf}
 use Rattle.batch.specs.Walk.{decodeRest, StepSimulates}
 use Rattle.batch.proofs.Steps.{reads-task, reads-fault, reads-end}
 use Rattle.provenance.specs.declared.Group.{Group}
@@ -29,39 +29,27 @@ use Rattle.provenance.specs.Faulted.{groupAfter, registerFrom, explainedBy, exp
 
 -- ---- the last task that holds a byte
 
-module _ (found : Touched) (i ticket : ℕ) where
-  -- the answer, where these tasks with this ending are to come, the first of them with this number, and `last` is the answer so far
-  abbrev restBy : BatchEnd → (number : ℕ) (last : Touched) → List Task → Touched
-  restBy finished number last ts = lastFrom last i (numbered ticket number ts)
-  restBy (faulty f place) number last ts = found
-
+module _ (i ticket : ℕ) where
+  -- the answer, where the tasks of this reading are to come, the first of them with this number, and `last` is the answer so far
   abbrev pub restFrom : (number : ℕ) (last : Touched) → DecodedBatch → Touched
-  restFrom number last r = restBy (r .ending) number last (r .tasks)
+  restFrom number last r = lastFrom last i (numbered ticket number (tasksDrawn r))
 
   -- the answer after one more task
   abbrev pub after : (number : ℕ) (last : Touched) → Task → Touched
   after number last t = cond (holds (t .output) i) (By (touchOf (record { ticket = ticket; number = number; task = t }))) last
 
-  pub rest-start : (r : DecodedBatch) → lastFrom found i (numbered ticket 0 (tasksDrawn r)) ≡ restFrom 0 found r
+  one-more : (number : ℕ) (last : Touched) (t : Task) (r : DecodedBatch) → restFrom number last (consTask t r) ≡ restFrom (number + 1) (after number last t) r
   unfolding lastFrom numbered
-  rest-start r = go (r .ending) (r .tasks)
-    where
-      go : (e : BatchEnd) (ts : List Task) → lastFrom found i (numbered ticket 0 (tasksDrawn (record { tasks = ts; ending = e; bank = r .bank }))) ≡ restBy e 0 found ts
-      go finished ts = refl
-      go (faulty f place) ts = refl
-
-  one-more : (e : BatchEnd) (number : ℕ) (last : Touched) (t : Task) (ts : List Task) → restBy e number last (t ∷ ts) ≡ restBy e (number + 1) (after number last t) ts
-  unfolding lastFrom numbered
-  one-more finished number last t ts = refl
-  one-more (faulty f place) number last t ts = refl
+  one-more number last t r = refl
 
   module _ (bounds : Bounds) (ws : List ℕ) (b : Bank) (k : ℕ) (s : Step) (go : StepSimulates bounds ws b k s) (number : ℕ) (last : Touched) where
     pub rest-task : (t : Task) (b′ : Bank) (k′ : ℕ) → s ≡ Next t b′ k′
         → restFrom number last (decodeRest bounds ws b k) ≡ restFrom (number + 1) (after number last t) (decodeRest bounds ws b′ k′)
     rest-task t b′ k′ e =
-        ap (restFrom number last) (reads-task bounds ws b k s go t b′ k′ e) ∙ one-more (decodeRest bounds ws b′ k′ .ending) number last t (decodeRest bounds ws b′ k′ .tasks)
+        ap (restFrom number last) (reads-task bounds ws b k s go t b′ k′ e) ∙ one-more number last t (decodeRest bounds ws b′ k′)
 
-    pub rest-fault : (f : Fault) (place : ℕ) (b′ : Bank) → s ≡ Stop f place b′ → restFrom number last (decodeRest bounds ws b k) ≡ found
+    pub rest-fault : (f : Fault) (place : ℕ) (b′ : Bank) → s ≡ Stop f place b′ → restFrom number last (decodeRest bounds ws b k) ≡ last
+    unfolding lastFrom numbered
     rest-fault f place b′ e = ap (restFrom number last) (reads-fault bounds ws b k s go f place b′ e)
 
     pub rest-end : s ≡ End → restFrom number last (decodeRest bounds ws b k) ≡ last
@@ -104,18 +92,18 @@ module _ (ws : List ℕ) (r : DecodedBatch) (j : Judgement) (is : j ≡ validati
       go : (e : BatchEnd) → e ≡ r .ending → NoFault ≡ explained ws r
       go finished same = sym (by-ending finished same)
       go (faulty f place) same =
-          let wrong : Faulty f place ≡ Faultless n = ap (verdictAfter (length (r .tasks))) same ∙ sym (ap (λ (q : Judgement). q .verdict) is) ∙ v in
+          let wrong : Faulty (length (r .tasks)) f place ≡ Faultless n = ap (verdictAfter (length (r .tasks))) same ∙ sym (ap (λ (q : Judgement). q .verdict) is) ∙ v in
           absurd (let z : _≡_ {A = ℕ} 0 1 = cc in omega arith)
 
-  pub explained-fault : (f : Fault) (place : ℕ) → j .verdict ≡ Faulty f place → explainedBy ws (j .bank) (faulty f place) ≡ explained ws r
-  explained-fault f place v = go (r .ending) refl
+  pub explained-fault : (n : ℕ) (f : Fault) (place : ℕ) → j .verdict ≡ Faulty n f place → explainedBy ws (j .bank) (faulty f place) ≡ explained ws r
+  explained-fault n f place v = go (r .ending) refl
     where
       go : (e : BatchEnd) → e ≡ r .ending → explainedBy ws (j .bank) (faulty f place) ≡ explained ws r
       go finished same =
-          let wrong : Faultless (length (r .tasks)) ≡ Faulty f place = ap (verdictAfter (length (r .tasks))) same ∙ sym (ap (λ (q : Judgement). q .verdict) is) ∙ v in
+          let wrong : Faultless (length (r .tasks)) ≡ Faulty n f place = ap (verdictAfter (length (r .tasks))) same ∙ sym (ap (λ (q : Judgement). q .verdict) is) ∙ v in
           absurd (let z : _≡_ {A = ℕ} 0 1 = cc in omega arith)
       go (faulty g other) same =
-          let right : Faulty g other ≡ Faulty f place = ap (verdictAfter (length (r .tasks))) same ∙ sym (ap (λ (q : Judgement). q .verdict) is) ∙ v in
+          let right : Faulty (length (r .tasks)) g other ≡ Faulty n f place = ap (verdictAfter (length (r .tasks))) same ∙ sym (ap (λ (q : Judgement). q .verdict) is) ∙ v in
           let fault : f ≡ g = cc in
           let there : place ≡ other = cc in
           sym (by-ending (faulty g other) same ∙ rw (fault, there))

@@ -4,7 +4,7 @@ ghost use mathlib.Core.Bool.{cond};
 ghost use Prim.Native.Nat.{_+_, _*_, _≤_};
 ghost use lib.ListN.{getD};
 ghost use Rattle.ring.specs.Segment.{batchWords};
-ghost use Rattle.register.specs.Bank.{resetBank};
+ghost use Rattle.replay.specs.Lines.{fileReset};
 ghost use Rattle.batch.specs.Batch.{decodeBatch};
 ghost use Rattle.provenance.specs.Faulted.{groupAfter, registerAt, heldSurface, heldSteps, heldIn, detailOf, explained};
 use batch::Verdict;
@@ -16,6 +16,7 @@ use provenance::Group;
 use provenance::Why;
 use register::Bank;
 use register::SurfaceRegisters;
+use reset::ResetRule;
 use ring::Read;
 use ring::read_word;
 use ring::word_count;
@@ -130,14 +131,20 @@ fn detail_of(fault: Fault, register: u32, bank: Bank) -> Detail
 
 // Why the batch of `size` bytes at an offset of the ring is faulty, if it is.
 pub fn explain(ring: &[u8], offset: usize, size: usize, bounds: Bounds) -> Why
-    ensures { λ r. ⌜ r ≡ explained (batchWords (now (ring .entry)) offset size) (decodeBatch bounds resetBank (batchWords (now (ring .entry)) offset size)) ⌝ }
+    ensures { λ r. ⌜ r ≡ explained (batchWords (now (ring .entry)) offset size) (decodeBatch bounds fileReset (batchWords (now (ring .entry)) offset size)) ⌝ }
 {
-    let judged = judge(ring, offset, size, bounds, Bank::reset());
+    let judged = judge(
+        ring,
+        offset,
+        size,
+        bounds,
+        Bank::reset(ResetRule::Unblended),
+    );
     let verdict = judged.verdict;
     let bank = judged.bank;
     match verdict {
         Verdict::Faultless(_) => Why::NoFault,
-        Verdict::Faulty(fault, place) => {
+        Verdict::Faulty(_, fault, place) => {
             let k = place / 4;
             let register = register_at(ring, offset, size, k);
             Why::Faulted(Explanation {

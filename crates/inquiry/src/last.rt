@@ -2,7 +2,7 @@
 ghost use mathlib.Core.Path.{_≡_};
 ghost use mathlib.Core.Bool.{cond};
 ghost use Rattle.ring.specs.Segment.{batchWords};
-ghost use Rattle.register.specs.Bank.{resetBank};
+ghost use Rattle.replay.specs.Lines.{fileReset};
 ghost use Rattle.batch.specs.Batch.{decodeBatch, tasksDrawn};
 ghost use Rattle.provenance.specs.declared.Touched.the-variants.{By};
 ghost use Rattle.provenance.specs.Drawn.{numbered};
@@ -14,6 +14,7 @@ use provenance::Touched;
 use register::Bank;
 use register::SourceMode;
 use register::Task;
+use reset::ResetRule;
 use rules::Bounds;
 use surface::Surface;
 
@@ -68,9 +69,9 @@ pub fn after_batch(
     i: usize,
     found: Touched,
 ) -> Touched
-    ensures { λ r. ⌜ r ≡ lastFrom found i (numbered ticket 0 (tasksDrawn (decodeBatch bounds resetBank (batchWords (now (ring .entry)) offset size)))) ⌝ }
+    ensures { λ r. ⌜ r ≡ lastFrom found i (numbered ticket 0 (tasksDrawn (decodeBatch bounds fileReset (batchWords (now (ring .entry)) offset size)))) ⌝ }
 {
-    let mut current = Bank::reset();
+    let mut current = Bank::reset(ResetRule::Unblended);
     let mut at = 0;
     let mut number: usize = 0;
     let mut last = found;
@@ -82,9 +83,9 @@ pub fn after_batch(
                 at = next;
                 number = number + 1;
             }
-            // a faulty batch draws nothing
+            // the tasks before a fault are drawn
             Step::Faulty(_, _, _) => {
-                return found;
+                return last;
             }
             Step::End => {
                 return last;

@@ -7,7 +7,7 @@ ghost use Prim.Native.Nat.{ℕ, _+_, _*_, _≤_};
 ghost use lib.ListN.{length, take};
 ghost use lib.Dec.{eqb, ltb};
 ghost use Rattle.ring.specs.Segment.{batchWords};
-ghost use Rattle.register.specs.Bank.{resetBank};
+ghost use Rattle.replay.specs.Lines.{fileReset};
 ghost use Rattle.batch.specs.Batch.{decodeBatch};
 ghost use Rattle.claims.specs.BatchSemantics.{boundsOf};
 ghost use Rattle.records.specs.Records.{records};
@@ -79,7 +79,7 @@ fn bounds_of(client: u32) -> Bounds
 
 // Why the batch with the asked ticket faulted, if this is it.
 fn after_why(asked: u32, ticket: u32, batch: &[u8], bounds: Bounds, why: Why) -> Why
-    ensures { λ r. ⌜ r ≡ cond (eqb ticket asked) (explained (batchWords (now (batch .entry)) 0 (length (now (batch .entry)))) (decodeBatch bounds resetBank (batchWords (now (batch .entry)) 0 (length (now (batch .entry)))))) why ⌝ }
+    ensures { λ r. ⌜ r ≡ cond (eqb ticket asked) (explained (batchWords (now (batch .entry)) 0 (length (now (batch .entry)))) (decodeBatch bounds fileReset (batchWords (now (batch .entry)) 0 (length (now (batch .entry)))))) why ⌝ }
 {
     if ticket == asked {
         faulted::explain(batch, 0, batch.len(), bounds)

@@ -9,6 +9,7 @@ use lib.ListN.{take, getD, set, length-set, replicate}
 use lib.Dec.{ltb}
 use borrow.Author.Tests.{ne-eqb}
 use borrow.Rule.Slice.PartMut.{midOf, putMid}
+use Rattle.reset.specs.declared.ResetRule.the-variants.{SrcOver}
 use Rattle.model.specs.Windows.{window, byte, overlapAny}
 use Rattle.model.specs.Calls.{Setup, Call, opens, submit, run, pending, CompletionStatus, opened, accepted, completed, ready, refused}
 use Rattle.model.specs.BatchSemantics.{BatchSemantics, Confined}
@@ -51,7 +52,7 @@ toy-confined w common bytes =
 -- ---- 3 to 9
 
 abbrev setup : Setup
-setup = record { ring = 128; memory = 40; common = 8 }
+setup = record { ring = 128; memory = 40; common = 8; reset = SrcOver }
 
 -- common 100 0 .., then four windows of eight bytes that begin with 1, 2, 3, 4
 abbrev eight : ℕ → List ℕ

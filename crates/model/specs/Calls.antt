@@ -1,13 +1,16 @@
 -- What is called and what is answered (01, "Engine, desks, queue"). Numbers in calls are any naturals.
 use mathlib.Core.List.{List, [], _∷_}
 use Prim.Native.Nat.{ℕ, suc}
+use Rattle.reset.specs.declared.ResetRule.{ResetRule}
 use Rattle.model.specs.Windows.{Window}
 
--- 01, "Engine, desks, queue": "Set up with a ring length, a memory length and a common length", in bytes.
+-- 01, "Engine, desks, queue": "Set up with a ring length, a memory length and a common length", in bytes; and the reset rule (02, request 2), which
+-- says how batches are judged and drawn (crate claims) and is looked at nowhere here.
 pub record Setup : Type 0 where
   pub ring : ℕ
   pub memory : ℕ
   pub common : ℕ
+  pub reset : ResetRule
 
 -- The calls after set up, with what the model is fed of them (01, "The book of demand 3": "the calls with their arguments (not record,
 -- ring or memory)").

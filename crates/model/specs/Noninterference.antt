@@ -26,8 +26,9 @@ pub data LowEqualAnswer (client : ℕ) : Answer → Answer → Type 0 where
   equal : (answer : Answer) → LowEqualAnswer client answer answer
   verdicts : (ticket : ℕ) (v v′ : CompletionStatus) → LowEqualAnswer client (completed client ticket v) (completed client ticket v′)
 
--- The two runs (01, the book): the same set up and ring length; the same calls but for that client's bytes; the same starting memory but for
--- the window that it has at the end, which is the one that it opens in the list (`WindowStable` of Properties). If it opens none, it owns no byte.
+-- The two runs (01, the book): the same set up, and with it the same reset rule (02, request 2: "Demand 3 compares runs with the same choice"); the
+-- same ring length; the same calls but for that client's bytes; the same starting memory but for the window that it has at the end, which is the one
+-- that it opens in the list (`WindowStable` of Properties). If it opens none, it owns no byte.
 pub record LowEquivalent (way : BatchSemantics) (setup : Setup) (ring client : ℕ) (calls calls′ : List Call) (memory memory′ : List ℕ) : Type 0 where
   pub listed : Pointwise (LowEqualCall client) calls calls′
   pub size : length memory ≡ length memory′

@@ -10,7 +10,7 @@ use lib.Dec.{eqb}
 use borrow.Author.Tests.{eqb-true}
 use Rattle.word.specs.Word.{words}
 use Rattle.word.proofs.Tests.{and-true}
-use Rattle.register.specs.Bank.{writeRegister, resetBank}
+use Rattle.register.specs.Bank.{writeRegister}
 use Rattle.register.specs.declared.bank.Bank.{Bank}
 use Rattle.register.specs.declared.bank.Write.the-variants.{Refused}
 use Rattle.register.specs.declared.bank.WriteFault.the-variants.{Forbidden as NotTaken}
@@ -21,6 +21,7 @@ use Rattle.batch.specs.Batch.{DecodedBatch, BatchEnd, finished, faulty, verdict
 use Rattle.claims.specs.BatchSemantics.{boundsOf, completionStatusOf}
 use Rattle.model.specs.Calls.{CompletionStatus, completed}
 use Rattle.records.specs.Records.{Entry}
+use Rattle.replay.specs.Lines.{fileReset}
 use Rattle.replay.specs.Answered.{recordRefusal, replayWindow, verdict, ticketOfCount, countAfter}
 use Rattle.provenance.specs.declared.Detail.{Detail}
 use Rattle.provenance.specs.declared.Detail.the-variants.{Nothing, Register}
@@ -146,6 +147,6 @@ blames entries ticket answer e = go (named NoFault 0 ticket entries)
               let three = register-named (s .fault) (registerAt ws (answer .place / 4)) (r .bank) register held (sym (s .detail) ∙ d) in (
                 three .1,
                 three .2 ∙ ap (heldIn (r .bank)) (sym (three .1)),
-                rw (three .1, s .word) (forbids (boundsOf (replayWindow (n .entry .client)) 16384) resetBank ws (answer .place) (s .ends ∙ ap (λ (f : Fault). faulty f (answer .place)) (three .0))),
+                rw (three .1, s .word) (forbids (boundsOf (replayWindow (n .entry .client)) 16384) fileReset ws (answer .place) (s .ends ∙ ap (λ (f : Fault). faulty f (answer .place)) (three .0))),
               );
         }

@@ -7,7 +7,6 @@ use Prim.Native.Nat.{ℕ, _<_}
 use native.Mathlib.Omega.{arith}
 use lib.ListN.{length, getD, replicate, length-replicate, getD-replicate}
 use lib.Dec.{eqb}
-use Rattle.register.specs.Bank.{resetBank}
 use Rattle.word.specs.Word.{words}
 use Rattle.register.specs.declared.task.Task.{Task}
 use Rattle.rules.specs.declared.task.Bounds.{Bounds}
@@ -19,7 +18,7 @@ use Rattle.raster.specs.Batch.{drawBatch}
 use Rattle.claims.specs.BatchSemantics.{boundsOf}
 use Rattle.claims.specs.Engine.{State}
 use Rattle.records.specs.Records.{Entry}
-use Rattle.replay.specs.Lines.{engineOpened, replayStart, submitAndRun}
+use Rattle.replay.specs.Lines.{fileReset, engineOpened, replayStart, submitAndRun}
 use Rattle.replay.specs.Answered.{recordRefusal, replayWindow, ticketOfCount, countAfter, drawnAfter, acceptedFrom, submitAndRunAll}
 use Rattle.replay.proofs.Answered.{promise as answered}
 use Rattle.replay.proofs.Serving.{starting-state}
@@ -45,7 +44,7 @@ record-rows count entry = go (eqb (recordRefusal entry) 0)
     go : (b : Bool) → AllRows (tasksOf (cond b (numbered (ticketOfCount count) 0 (tasksDrawn (readingOf entry))) []))
     go true =
         let bounds = boundsOf (replayWindow (entry .client)) 16384 in
-        rw tasks-numbered (sound-rows bounds (tasksDrawn (readingOf entry)) (drawn-sound bounds resetBank (words (entry .batch))))
+        rw tasks-numbered (sound-rows bounds (tasksDrawn (readingOf entry)) (drawn-sound bounds fileReset (words (entry .batch))))
     go false = tt
 
 -- memory after it
@@ -53,7 +52,7 @@ record-draws : (count : ℕ) (entry : Entry) (memory : List ℕ) → drawnAfter 
 unfolding drawnBy tasksOf drawBatch drawTasks
 record-draws count entry memory = go (eqb (recordRefusal entry) 0)
   where
-    go : (b : Bool) → cond b (drawBatch (boundsOf (replayWindow (entry .client)) 16384) resetBank (words (entry .batch)) memory) memory
+    go : (b : Bool) → cond b (drawBatch (boundsOf (replayWindow (entry .client)) 16384) fileReset (words (entry .batch)) memory) memory
         ≡ drawTasks (tasksOf (cond b (numbered (ticketOfCount count) 0 (tasksDrawn (readingOf entry))) [])) memory
     go true = rw tasks-numbered
     go false = refl

@@ -5,11 +5,11 @@ use mathlib.Core.Bool.{cond}
 use Prim.Native.Nat.{ℕ, _+_}
 use lib.Dec.{eqb}
 use Rattle.word.specs.Word.{words}
-use Rattle.register.specs.Bank.{resetBank}
 use Rattle.register.specs.declared.task.Task.{Task}
 use Rattle.batch.specs.Batch.{DecodedBatch, decodeBatch, tasksDrawn}
 use Rattle.claims.specs.BatchSemantics.{boundsOf}
 use Rattle.records.specs.Records.{Entry}
+use Rattle.replay.specs.Lines.{fileReset}
 use Rattle.replay.specs.Answered.{recordRefusal, replayWindow, ticketOfCount, countAfter}
 
 -- a task, with the ticket of its batch and its number there
@@ -25,7 +25,7 @@ numbered ticket number (t ∷ ts) = record { ticket = ticket; number = number; t
 
 -- what a record's batch says in its own client's window
 abbrev pub readingOf : Entry → DecodedBatch
-readingOf entry = decodeBatch (boundsOf (replayWindow (entry .client)) 16384) resetBank (words (entry .batch))
+readingOf entry = decodeBatch (boundsOf (replayWindow (entry .client)) 16384) fileReset (words (entry .batch))
 
 -- the tasks that a record draws, so many records having been accepted before it; a refused one draws nothing
 unfoldable pub drawnBy : (count : ℕ) → Entry → List Drawn

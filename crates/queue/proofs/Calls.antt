@@ -14,7 +14,7 @@ use Rattle.queue.specs.declared.Answer.the-variants.{Refused, Set, Opene
 use Rattle.queue.specs.declared.Reply.{Reply}
 use Rattle.queue.specs.Answers.{answerUnlessRefused}
 use Rattle.queue.specs.Refusals.{firstRefusal, setUpTable, openTable, pendingTable}
-use Rattle.queue.specs.Calls.{unlessRefused, initialRecord, setUpResult, withClient, openResult, newBatch, withBatch, submitNumber, submitResult, submitRing, pendingAnswer}
+use Rattle.queue.specs.Calls.{unlessRefused, initialRecord, noSetup, setUpResult, withClient, openResult, newBatch, withBatch, submitNumber, submitResult, submitRing, pendingAnswer}
 
 answered-no : (n : ℕ) (a : Answer) → (n ≡ 0 → ⊥) → answerUnlessRefused n a ≡ Refused n
 unfolding answerUnlessRefused
@@ -37,15 +37,12 @@ unless-yes n before after e = rw e
 reply : {a a′ : Answer} {e e′ : Record} → a ≡ a′ → e ≡ e′ → _≡_ {A = Reply} (record { answer = a; engine = e }) (record { answer = a′; engine = e′ })
 reply p q = ap₂ (λ (a : Answer) (e : Record). record { answer = a; engine = e }) p q
 
-abbrev pub noSetup : Setup
-noSetup = record { ring = 0; memory = 0; common = 0 }
-
 module _ (setup : Setup) (n : ℕ) (is : n ≡ firstRefusal (setUpTable setup)) (after : Record) where
-  pub set-up-done : n ≡ 0 → after ≡ initialRecord setup → record { answer = Set; engine = after } ≡ setUpResult (setup .ring) (setup .memory) (setup .common)
+  pub set-up-done : n ≡ 0 → after ≡ initialRecord setup → record { answer = Set; engine = after } ≡ setUpResult (setup .ring) (setup .memory) (setup .common) (setup .reset)
   unfolding setUpResult
   set-up-done z e = reply (sym (answered-yes _ Set (sym is ∙ z))) (e ∙ sym (unless-yes _ (initialRecord noSetup) (initialRecord setup) (sym is ∙ z)))
 
-  pub set-up-refused : (n ≡ 0 → ⊥) → after ≡ initialRecord noSetup → record { answer = Refused n; engine = after } ≡ setUpResult (setup .ring) (setup .memory) (setup .common)
+  pub set-up-refused : (n ≡ 0 → ⊥) → after ≡ initialRecord noSetup → record { answer = Refused n; engine = after } ≡ setUpResult (setup .ring) (setup .memory) (setup .common) (setup .reset)
   unfolding setUpResult
   set-up-refused z e =
       reply (ap Refused is ∙ sym (answered-no _ Set (λ q. z (is ∙ q)))) (e ∙ sym (unless-no _ (initialRecord noSetup) (initialRecord setup) (λ q. z (is ∙ q))))

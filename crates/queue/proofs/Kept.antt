@@ -22,8 +22,7 @@ use Rattle.record.specs.Rules.{ringRule, memoryRule, clientsRule, readRule, num
 use Rattle.record.proofs.Slots.{ready-most}
 use Rattle.record.proofs.Opened.{windows-snoc, none-snoc, open-more, open-none, counts-snoc}
 use Rattle.record.proofs.Rules.{ring-good, Valid, valid-facts, valid-made, numbers-kept, sum-waiting}
-use Rattle.queue.specs.Calls.{initialRecord, withClient}
-use Rattle.queue.proofs.Calls.{noSetup}
+use Rattle.queue.specs.Calls.{initialRecord, noSetup, withClient}
 use Rattle.queue.proofs.Refusals.{SetUpAllowed, OpenAllowed}
 
 -- what every record of the code has

@@ -30,7 +30,7 @@ pub value-answered : (n : ℕ) (a : Answer) → n ≡ 0 → valueOf (answerUnles
 unfolding answerUnlessRefused
 value-answered n a e = rw e
 
-pub set-up-number : (setup : Setup) → refusalNumberOf (setUpResult (setup .ring) (setup .memory) (setup .common) .answer) ≡ firstRefusal (setUpTable setup)
+pub set-up-number : (setup : Setup) → refusalNumberOf (setUpResult (setup .ring) (setup .memory) (setup .common) (setup .reset) .answer) ≡ firstRefusal (setUpTable setup)
 unfolding setUpResult
 set-up-number setup = number-answered (firstRefusal (setUpTable setup)) Set refl
 
@@ -68,7 +68,7 @@ unless-keeps P (suc n) before after p q = p
 
 -- the record of a set up that was accepted is valid
 pub set-up-stays : (setup : Setup) → firstRefusal (setUpTable setup) ≡ 0 →
-    valid (setUpResult (setup .ring) (setup .memory) (setup .common) .engine) ≡ true
+    valid (setUpResult (setup .ring) (setup .memory) (setup .common) (setup .reset) .engine) ≡ true
 unfolding setUpResult unlessRefused
 set-up-stays setup z = rw z (fresh-valid setup (set-up-allowed setup z))
 

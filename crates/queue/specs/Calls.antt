@@ -3,6 +3,8 @@
 use mathlib.Core.List.{List, [], _∷_}
 use Prim.Native.Nat.{ℕ, zero, suc, _+_}
 use lib.ListN.{length, getD, set}
+use Rattle.reset.specs.declared.ResetRule.{ResetRule}
+use Rattle.reset.specs.declared.ResetRule.the-variants.{Unblended}
 use Rattle.ring.specs.Copied.{copiedIn}
 use Rattle.record.specs.declared.Setup.{Setup}
 use Rattle.record.specs.declared.Window.{Window}
@@ -37,12 +39,16 @@ initialRecord setup = record {
   next = 0;
 }
 
--- a refused set up hands out a record of no engine, which breaks the first rule
-unfoldable pub setUpResult : (ring memory common : ℕ) → Reply
-setUpResult ring memory common =
-    let setup : Setup = record { ring = ring; memory = memory; common = common } in
+-- what a refused set up is made of
+abbrev pub noSetup : Setup
+noSetup = record { ring = 0; memory = 0; common = 0; reset = Unblended }
+
+-- a refused set up hands out a record of no engine, which breaks the first rule; no refusal looks at the reset rule
+unfoldable pub setUpResult : (ring memory common : ℕ) → ResetRule → Reply
+setUpResult ring memory common reset =
+    let setup : Setup = record { ring = ring; memory = memory; common = common; reset = reset } in
     let number : ℕ = firstRefusal (setUpTable setup) in
-    record { answer = answerUnlessRefused number Set; engine = unlessRefused number (initialRecord (record { ring = 0; memory = 0; common = 0 })) (initialRecord setup) }
+    record { answer = answerUnlessRefused number Set; engine = unlessRefused number (initialRecord noSetup) (initialRecord setup) }
 
 -- ---- open
 

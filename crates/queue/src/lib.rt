@@ -17,6 +17,7 @@ use record::Setup;
 use record::Slot;
 use record::SlotState;
 use record::Window;
+use reset::ResetRule;
 
 // What a call answers. The paper's numbers are those of `refusalNumberOf` and `valueOf` in specs.
 pub enum Answer {
@@ -71,14 +72,15 @@ fn set_up_refusal(setup: Setup) -> u32
     first_refusal(record::bad_ring(setup), 1, no2)
 }
 
-// Set up with the lengths of ring, memory and common.
-pub fn set_up(ring: usize, memory: usize, common: usize) -> Reply
-    ensures { λ r. ⌜ r ≡ setUpResult ring memory common ⌝ }
+// Set up with the lengths of ring, memory and common, and the reset rule.
+pub fn set_up(ring: usize, memory: usize, common: usize, reset: ResetRule) -> Reply
+    ensures { λ r. ⌜ r ≡ setUpResult ring memory common reset ⌝ }
 {
     let setup = Setup {
         ring: ring,
         memory: memory,
         common: common,
+        reset: reset,
     };
     let number = set_up_refusal(setup);
     if number == 0 {
@@ -91,6 +93,7 @@ pub fn set_up(ring: usize, memory: usize, common: usize) -> Reply
         ring: 0,
         memory: 0,
         common: 0,
+        reset: ResetRule::Unblended,
     };
     Reply {
         answer: Answer::Refused(number),

@@ -1,5 +1,5 @@
 -- The tasks of a batch, drawn a step of the walk at a time.
-use mathlib.Core.Path.{_≡_, ap, _∙_}
+use mathlib.Core.Path.{_≡_, refl, ap, _∙_}
 use mathlib.Core.List.{List}
 use Prim.Native.Nat.{ℕ}
 use Rattle.register.specs.declared.bank.Bank.{Bank}
@@ -8,10 +8,8 @@ use Rattle.rules.specs.declared.fault.Fault.{Fault}
 use Rattle.rules.specs.declared.task.Bounds.{Bounds}
 use Rattle.batch.specs.declared.walk.Step.{Step}
 use Rattle.batch.specs.declared.walk.Step.the-variants.{Task as Next, Faulty as Stop, End}
-use Rattle.batch.specs.declared.verdict.Verdict.the-variants.{Faultless, Faulty}
-use Rattle.batch.specs.Batch.{DecodedBatch, decodeBatch, verdictOf}
+use Rattle.batch.specs.Batch.{DecodedBatch, decodeBatch, tasksDrawn}
 use Rattle.batch.specs.Walk.{decodeRest, decodeAfterStep, StepSimulates}
-use Rattle.batch.proofs.Steps.{faultless-finished, finished-drawn, faulty-drawn}
 use Rattle.raster.specs.Task.{drawTask, drawTasks}
 use Rattle.raster.specs.Batch.{drawBatch}
 
@@ -33,15 +31,8 @@ module _ (bounds : Bounds) (ws : List ℕ) (b : Bank) (k : ℕ) (s : Step) (go :
   unfolding drawTasks
   step-ends e = reads End e
 
--- ---- a batch found faultless is drawn whole, a faulty one not at all
+-- ---- a batch, faulty or not, is drawn by its tasks
 
-module _ (bounds : Bounds) (bank : Bank) (ws memory : List ℕ) where
-  pub faultless-batch : (n : ℕ) → verdictOf (decodeBatch bounds bank ws) ≡ Faultless n → drawTasks (decodeBatch bounds bank ws .tasks) memory ≡ drawBatch bounds bank ws memory
-  unfolding drawBatch
-  faultless-batch n e =
-      let whole = finished-drawn (decodeBatch bounds bank ws) (faultless-finished n (decodeBatch bounds bank ws) e .0) in
-      cc
-
-  pub faulty-batch : (f : Fault) (offset : ℕ) → verdictOf (decodeBatch bounds bank ws) ≡ Faulty f offset → drawBatch bounds bank ws memory ≡ memory
-  unfolding drawBatch drawTasks
-  faulty-batch f offset e = ap (λ (ts : List Task). drawTasks ts memory) (faulty-drawn f offset (decodeBatch bounds bank ws) e)
+pub batch-tasks : (bounds : Bounds) (bank : Bank) (ws memory : List ℕ) → drawBatch bounds bank ws memory ≡ drawTasks (tasksDrawn (decodeBatch bounds bank ws)) memory
+unfolding drawBatch
+batch-tasks bounds bank ws memory = refl

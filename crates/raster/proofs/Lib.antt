@@ -13,7 +13,5 @@ pub mod Outside
 pub mod Judged
 -- a batch drawn a step of the walk at a time
 pub mod Fold
--- two drawings as one
-pub mod Twice
--- the same drawing exactly for the same orientation
-pub mod Orientation
+-- a task whose output rows are rows of its source
+pub mod Moved

@@ -4,5 +4,3 @@ pub mod Batch
 pub mod WriteFrame
 pub mod Preconditions
 pub mod Row
--- two drawings as one
-pub mod Twice

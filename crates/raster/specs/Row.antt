@@ -1,6 +1,6 @@
 -- Internal: used only in contracts of helper functions. One row of a task.
 use mathlib.Core.Path.{_≡_}
-use mathlib.Core.Bool.{Bool, true, false}
+use mathlib.Core.Bool.{Bool, true, false, _&&_}
 use mathlib.Core.List.{List}
 use Prim.Native.Nat.{ℕ, _+_, _*_, _≤_, _<_}
 use lib.ListN.{length}
@@ -21,6 +21,8 @@ use Rattle.register.specs.declared.task.SourceMode.{SourceMode}
 use Rattle.register.specs.declared.task.SourceMode.the-variants.{Buffer, Colour as Solid, GradientX, GradientY}
 use Rattle.register.specs.declared.task.Task.{Task}
 use Rattle.register.specs.Size.{sizeOf}
+use Rattle.rules.specs.Rules.{sameFormat}
+use Rattle.rows.specs.Step.{isStraight}
 use Rattle.raster.specs.Task.{pixelColour}
 use Rattle.raster.specs.Preconditions.{Drawable}
 
@@ -80,3 +82,13 @@ pub record RowFillable (window : Range) (memory : List ℕ) (t : Task) (y : ℕ)
   pub ask : RowDrawable window memory t y
   pub plain : t .blending .on ≡ false
   pub uniform : isUniform (t .source .mode) ≡ true
+
+-- the output rows of a task without blending are rows of its source, byte by byte: a buffer of the output's format, neither turned nor
+-- flipped from left to right (02, request 13)
+unfoldable pub isMoved : Task → Bool
+isMoved t = isBuffer (t .source .mode) && isStraight (t .source .transform .rotation) (t .source .transform .flip) && sameFormat (t .source .surface .format) (t .output .format)
+
+-- what is asked where a row of such a task is drawn
+pub record RowMovable (t : Task) : Type 0 where
+  pub plain : t .blending .on ≡ false
+  pub moved : isMoved t ≡ true

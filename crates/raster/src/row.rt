@@ -1,18 +1,24 @@
 // One row of a task.
 ghost use mathlib.Core.Path.{_≡_};
 ghost use mathlib.Core.Bool.{true, false};
-ghost use Prim.Native.Nat.{_+_, _≤_, _<_};
+ghost use Prim.Native.Nat.{_+_, _*_, _≤_, _<_};
 ghost use lib.ListN.{length};
+ghost use Rattle.pixel.specs.Formats.{bytesPerPixel};
 ghost use Rattle.surface.specs.Surface.{rowLength};
+ghost use Rattle.surface.specs.Drawn.{loadPixel};
 ghost use Rattle.rows.specs.Row.{colourIn, HoldsColours};
 ghost use Rattle.raster.specs.Task.{sourceColour};
-ghost use Rattle.raster.specs.Row.{rowDrawn, drawRow, isUniform, uniformColour, SourceRowInBounds, RowFits, RowBuffered, RowFillable};
+ghost use Rattle.raster.specs.Row.{rowDrawn, drawRow, isUniform, uniformColour, SourceRowInBounds, RowFits, RowBuffered, RowFillable, isMoved, RowMovable};
 use gradient::colour_at;
 use pixel::Colour;
 use range::Range;
 use register::Source;
 use register::SourceMode;
 use register::Task;
+use row_copy::fetch_bytes;
+use row_copy::store_bytes;
+use rows::is_straight;
+use rules::same_format;
 use scanline::blend_row;
 use scanline::blit_row;
 use scanline::fetch_along;
@@ -103,6 +109,16 @@ fn blit_at(window: &mut [u8], at: usize, output: Surface, source: &[u8])
     blit_row(&mut window[at..end], output.width as usize, format, source);
 }
 
+// Draws a row of pixels in the output's own bytes in the window, from byte `at` of it on.
+fn store_at(window: &mut [u8], at: usize, output: Surface, source: &[u8])
+    requires { ⌜ RowFits output at (now window) (now source) ⌝ }
+    ensures { λ _. ⌜ now (window .exit) ≡ rowDrawn output at (λ x. loadPixel (output .format) (now (source .entry)) (x * bytesPerPixel (output .format))) (now (window .entry)) ⌝ }
+{
+    let format = output.format;
+    let end = at + output.row_length();
+    store_bytes(&mut window[at..end], output.width as usize, format, source);
+}
+
 // Draws row y of a task that blends. What it reads is fetched and blended first; then the window alone is lent.
 fn blended_row(
     memory: &mut [u8],
@@ -145,6 +161,34 @@ fn copied_row(memory: &mut [u8], window: Range, task: Task, y: u16, source: &mut
     blit_at(&mut memory[start..end], at, output, source);
 }
 
+// Whether the output rows of a task without blending are rows of its source, byte by byte.
+fn is_moved(task: Task) -> bool
+    ensures { λ r. ⌜ r ≡ isMoved task ⌝ }
+{
+    let s = task.source;
+    let mode = s.mode;
+    let surface = s.surface;
+    let output = task.output;
+    let from = surface.format;
+    let to = output.format;
+    mode.is_buffer() & is_straight(s.transform) & same_format(from, to)
+}
+
+// Draws row y of such a task: the source row as it is.
+fn moved_row(memory: &mut [u8], window: Range, task: Task, y: u16, source: &mut [u8])
+    requires { ⌜ RowBuffered window (now memory) (now source) (now source) task y × RowMovable task ⌝ }
+    ensures { λ _. ⌜ now (memory .exit) ≡ drawRow task y (now (memory .entry)) ⌝ }
+{
+    let start = window.start;
+    let end = window.end;
+    let output = task.output;
+    let s = task.source;
+    let width = output.width as usize;
+    let at = output.row_start(y) - start;
+    fetch_bytes(source, width, memory, s.surface, s.transform, y as usize);
+    store_at(&mut memory[start..end], at, output, source);
+}
+
 // Draws row y of a task, where the row has one colour.
 fn filled_row(memory: &mut [u8], window: Range, task: Task, y: u16)
     requires { ⌜ RowFillable window (now memory) task y ⌝ }
@@ -173,6 +217,10 @@ pub fn draw_row(
 {
     if task.blending.on {
         blended_row(memory, window, task, y, source, destination);
+        return;
+    }
+    if is_moved(task) {
+        moved_row(memory, window, task, y, source);
         return;
     }
     let s = task.source;

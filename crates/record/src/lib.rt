@@ -12,12 +12,14 @@ ghost use Rattle.record.specs.Tickets.{ticketBefore, hasTicket, slotOfTi
 ghost use Rattle.record.specs.Clients.{isOpen, windowsOf, overlapsAny, badWindow, windowsValid, pendingCountsMatch};
 ghost use Rattle.record.specs.Rules.{numberRules, batchRules, valid};
 use range::Range;
+use reset::ResetRule;
 
-// The numbers of set up, in bytes.
+// The numbers of set up, in bytes, and the reset rule. No call changes them.
 pub struct Setup {
     pub ring: usize,
     pub memory: usize,
     pub common: usize,
+    pub reset: ResetRule,
 }
 
 // A range of bytes of memory.

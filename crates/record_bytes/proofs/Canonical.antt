@@ -10,6 +10,8 @@ use borrow.Author.Tests.{eqb-true}
 use Rattle.word.specs.Word.{byteOf, leBytes, wordsBytes, words}
 use Rattle.word.proofs.Tests.{and-true}
 use Rattle.word.proofs.Words.{length-words}
+use Rattle.reset.specs.Reset.{isRuleNumber}
+use Rattle.reset.proofs.Numbers.{number-back}
 use Rattle.record.specs.declared.Record.{Record}
 use Rattle.record.specs.declared.Slot.{Slot}
 use Rattle.record_bytes.specs.declared.write.Row.{Row}
@@ -88,19 +90,18 @@ zeros ws k h =
     (eqb-true (wordAt ws k) 0 (a1 .0), eqb-true (wordAt ws (k + 1)) 0 (a1 .1), eqb-true (wordAt ws (k + 2)) 0 (a2 .1), eqb-true (wordAt ws (k + 3)) 0 (a3 .1), eqb-true (wordAt ws (k + 4)) 0 (a4 .1))
 
 spares : (ws : List ℕ) → spareRight ws ≡ true →
-    (wordAt ws 3 ≡ 0) × (wordAt ws 7 ≡ 0) × (wordAt ws 11 ≡ 0) × (wordAt ws 15 ≡ 0) × (wordAt ws 19 ≡ 0) × (wordAt ws 23 ≡ 0) × (wordAt ws 64 ≡ 0) × (wordAt ws 65 ≡ 0) × (wordAt ws 66 ≡ 0) × (wordAt ws 67 ≡ 0)
+    (wordAt ws 7 ≡ 0) × (wordAt ws 11 ≡ 0) × (wordAt ws 15 ≡ 0) × (wordAt ws 19 ≡ 0) × (wordAt ws 23 ≡ 0) × (wordAt ws 64 ≡ 0) × (wordAt ws 65 ≡ 0) × (wordAt ws 66 ≡ 0) × (wordAt ws 67 ≡ 0)
 unfolding spareRight
 spares ws h =
-    let a9 = and-true (eqb (wordAt ws 3) 0 && eqb (wordAt ws 7) 0 && eqb (wordAt ws 11) 0 && eqb (wordAt ws 15) 0 && eqb (wordAt ws 19) 0 && eqb (wordAt ws 23) 0 && eqb (wordAt ws 64) 0 && eqb (wordAt ws 65) 0 && eqb (wordAt ws 66) 0) (eqb (wordAt ws 67) 0) h in
-    let a8 = and-true (eqb (wordAt ws 3) 0 && eqb (wordAt ws 7) 0 && eqb (wordAt ws 11) 0 && eqb (wordAt ws 15) 0 && eqb (wordAt ws 19) 0 && eqb (wordAt ws 23) 0 && eqb (wordAt ws 64) 0 && eqb (wordAt ws 65) 0) (eqb (wordAt ws 66) 0) (a9 .0) in
-    let a7 = and-true (eqb (wordAt ws 3) 0 && eqb (wordAt ws 7) 0 && eqb (wordAt ws 11) 0 && eqb (wordAt ws 15) 0 && eqb (wordAt ws 19) 0 && eqb (wordAt ws 23) 0 && eqb (wordAt ws 64) 0) (eqb (wordAt ws 65) 0) (a8 .0) in
-    let a6 = and-true (eqb (wordAt ws 3) 0 && eqb (wordAt ws 7) 0 && eqb (wordAt ws 11) 0 && eqb (wordAt ws 15) 0 && eqb (wordAt ws 19) 0 && eqb (wordAt ws 23) 0) (eqb (wordAt ws 64) 0) (a7 .0) in
-    let a5 = and-true (eqb (wordAt ws 3) 0 && eqb (wordAt ws 7) 0 && eqb (wordAt ws 11) 0 && eqb (wordAt ws 15) 0 && eqb (wordAt ws 19) 0) (eqb (wordAt ws 23) 0) (a6 .0) in
-    let a4 = and-true (eqb (wordAt ws 3) 0 && eqb (wordAt ws 7) 0 && eqb (wordAt ws 11) 0 && eqb (wordAt ws 15) 0) (eqb (wordAt ws 19) 0) (a5 .0) in
-    let a3 = and-true (eqb (wordAt ws 3) 0 && eqb (wordAt ws 7) 0 && eqb (wordAt ws 11) 0) (eqb (wordAt ws 15) 0) (a4 .0) in
-    let a2 = and-true (eqb (wordAt ws 3) 0 && eqb (wordAt ws 7) 0) (eqb (wordAt ws 11) 0) (a3 .0) in
-    let a1 = and-true (eqb (wordAt ws 3) 0) (eqb (wordAt ws 7) 0) (a2 .0) in
-    (eqb-true (wordAt ws 3) 0 (a1 .0), eqb-true (wordAt ws 7) 0 (a1 .1), eqb-true (wordAt ws 11) 0 (a2 .1), eqb-true (wordAt ws 15) 0 (a3 .1), eqb-true (wordAt ws 19) 0 (a4 .1), eqb-true (wordAt ws 23) 0 (a5 .1), eqb-true (wordAt ws 64) 0 (a6 .1), eqb-true (wordAt ws 65) 0 (a7 .1), eqb-true (wordAt ws 66) 0 (a8 .1), eqb-true (wordAt ws 67) 0 (a9 .1))
+    let a9 = and-true (eqb (wordAt ws 7) 0 && eqb (wordAt ws 11) 0 && eqb (wordAt ws 15) 0 && eqb (wordAt ws 19) 0 && eqb (wordAt ws 23) 0 && eqb (wordAt ws 64) 0 && eqb (wordAt ws 65) 0 && eqb (wordAt ws 66) 0) (eqb (wordAt ws 67) 0) h in
+    let a8 = and-true (eqb (wordAt ws 7) 0 && eqb (wordAt ws 11) 0 && eqb (wordAt ws 15) 0 && eqb (wordAt ws 19) 0 && eqb (wordAt ws 23) 0 && eqb (wordAt ws 64) 0 && eqb (wordAt ws 65) 0) (eqb (wordAt ws 66) 0) (a9 .0) in
+    let a7 = and-true (eqb (wordAt ws 7) 0 && eqb (wordAt ws 11) 0 && eqb (wordAt ws 15) 0 && eqb (wordAt ws 19) 0 && eqb (wordAt ws 23) 0 && eqb (wordAt ws 64) 0) (eqb (wordAt ws 65) 0) (a8 .0) in
+    let a6 = and-true (eqb (wordAt ws 7) 0 && eqb (wordAt ws 11) 0 && eqb (wordAt ws 15) 0 && eqb (wordAt ws 19) 0 && eqb (wordAt ws 23) 0) (eqb (wordAt ws 64) 0) (a7 .0) in
+    let a5 = and-true (eqb (wordAt ws 7) 0 && eqb (wordAt ws 11) 0 && eqb (wordAt ws 15) 0 && eqb (wordAt ws 19) 0) (eqb (wordAt ws 23) 0) (a6 .0) in
+    let a4 = and-true (eqb (wordAt ws 7) 0 && eqb (wordAt ws 11) 0 && eqb (wordAt ws 15) 0) (eqb (wordAt ws 19) 0) (a5 .0) in
+    let a3 = and-true (eqb (wordAt ws 7) 0 && eqb (wordAt ws 11) 0) (eqb (wordAt ws 15) 0) (a4 .0) in
+    let a2 = and-true (eqb (wordAt ws 7) 0) (eqb (wordAt ws 11) 0) (a3 .0) in
+    (eqb-true (wordAt ws 7) 0 (a2 .0), eqb-true (wordAt ws 11) 0 (a2 .1), eqb-true (wordAt ws 15) 0 (a3 .1), eqb-true (wordAt ws 19) 0 (a4 .1), eqb-true (wordAt ws 23) 0 (a5 .1), eqb-true (wordAt ws 64) 0 (a6 .1), eqb-true (wordAt ws 65) 0 (a7 .1), eqb-true (wordAt ws 66) 0 (a8 .1), eqb-true (wordAt ws 67) 0 (a9 .1))
 
 slots : (ws : List ℕ) → slotsRight ws ≡ true →
     (slotRight ws 24 ≡ true) × (slotRight ws 29 ≡ true) × (slotRight ws 34 ≡ true) × (slotRight ws 39 ≡ true) × (slotRight ws 44 ≡ true) × (slotRight ws 49 ≡ true) × (slotRight ws 54 ≡ true) × (slotRight ws 59 ≡ true)
@@ -129,10 +130,10 @@ module _ (ws : List ℕ) (small : (i : ℕ) → getD ws i 0 < 2 ^ 32) where
           let z = zeros ws k (rw e at h) in
           rw (z .0, z .1, z .2, z .3, z .4)
 
-  plain : (wordAt ws 3 ≡ 0) × (wordAt ws 7 ≡ 0) × (wordAt ws 11 ≡ 0) × (wordAt ws 15 ≡ 0) × (wordAt ws 19 ≡ 0) × (wordAt ws 23 ≡ 0) × (wordAt ws 64 ≡ 0) × (wordAt ws 65 ≡ 0) × (wordAt ws 66 ≡ 0) × (wordAt ws 67 ≡ 0) →
+  plain : isRuleNumber (wordAt ws 3) ≡ true → (wordAt ws 7 ≡ 0) × (wordAt ws 11 ≡ 0) × (wordAt ws 15 ≡ 0) × (wordAt ws 19 ≡ 0) × (wordAt ws 23 ≡ 0) × (wordAt ws 64 ≡ 0) × (wordAt ws 65 ≡ 0) × (wordAt ws 66 ≡ 0) × (wordAt ws 67 ≡ 0) →
       wordsWith (recordIn ws) (rowIn ws 24) (rowIn ws 29) (rowIn ws 34) (rowIn ws 39) (rowIn ws 44) (rowIn ws 49) (rowIn ws 54) (rowIn ws 59) ≡ table 68 (λ i. getD ws i 0)
   unfolding wordsWith recordIn clientsIn table
-  plain z =
+  plain rule z =
       rw (
         low-is (wordAt ws 0) (small 0),
         low-is (wordAt ws 1) (small 1),
@@ -148,23 +149,26 @@ module _ (ws : List ℕ) (small : (i : ℕ) → getD ws i 0 < 2 ^ 32) where
         z .6,
         z .7,
         z .8,
-        z .9,
+        number-back (wordAt ws 3) rule,
       )
 
-  words-are : length ws ≡ 68 → spareRight ws ≡ true → slotsRight ws ≡ true → wordsOf (recordIn ws) ≡ ws
+  words-are : length ws ≡ 68 → isRuleNumber (wordAt ws 3) ≡ true → spareRight ws ≡ true → slotsRight ws ≡ true → wordsOf (recordIn ws) ≡ ws
   unfolding recordIn slotsIn
-  words-are n p q =
+  words-are n rule p q =
       let r = slots ws q in
       sym (rows-are (recordIn ws) (row-is 24 (r .0)) (row-is 29 (r .1)) (row-is 34 (r .2)) (row-is 39 (r .3)) (row-is 44 (r .4)) (row-is 49 (r .5)) (row-is 54 (r .6)) (row-is 59 (r .7)))
-      ∙ plain (spares ws p)
+      ∙ plain rule (spares ws p)
       ∙ ap (λ (m : ℕ). table m (λ i. getD ws i 0)) (sym n)
       ∙ table-is ws
 
-rest : (bytes : List ℕ) → isRecord bytes ≡ true → (spareRight (words bytes) ≡ true) × (slotsRight (words bytes) ≡ true)
+rest : (bytes : List ℕ) → isRecord bytes ≡ true → (isRuleNumber (wordAt (words bytes) 3) ≡ true) × (spareRight (words bytes) ≡ true) × (slotsRight (words bytes) ≡ true)
 unfolding isRecord
 rest bytes e =
-    let both = and-true (eqb (length bytes) 272) (spareRight (words bytes) && slotsRight (words bytes)) e in
-    and-true (spareRight (words bytes)) (slotsRight (words bytes)) (both .1)
+    let rule : Bool = isRuleNumber (wordAt (words bytes) 3) in
+    let all = and-true (eqb (length bytes) 272) (rule && spareRight (words bytes) && slotsRight (words bytes)) e in
+    let two = and-true (rule && spareRight (words bytes)) (slotsRight (words bytes)) (all .1) in
+    let one = and-true rule (spareRight (words bytes)) (two .0) in
+    (one .0, one .1, two .1)
 
 pub canonical : (bytes : List ℕ) → Canonical bytes
 unfolding recordOf bytesOf
@@ -172,4 +176,4 @@ canonical bytes h e =
     let n = record-size bytes e in
     let parts = rest bytes e in
     let long : length (words bytes) ≡ 68 = omega (arith, length-words bytes) in
-    rw e (ap wordsBytes (words-are (words bytes) (words-small bytes h) long (parts .0) (parts .1)) ∙ bytes-back bytes h (omega arith))
+    rw e (ap wordsBytes (words-are (words bytes) (words-small bytes h) long (parts .0) (parts .1) (parts .2)) ∙ bytes-back bytes h (omega arith))

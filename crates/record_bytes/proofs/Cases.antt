@@ -8,21 +8,23 @@ use lib.ListN.{length, drop-of-length-le}
 use lib.Dec.{eqb}
 use borrow.Author.Tests.{eq-eqb, ne-eqb, eqb-true}
 use Rattle.word.proofs.Tests.{and-true}
+use Rattle.reset.specs.Reset.{isRuleNumber}
 use Rattle.record.specs.Rules.{valid}
 use Rattle.word.specs.Word.{wordsBytes, words}
 use Rattle.word.specs.Splice.{spliced}
 use Rattle.word.proofs.Written.{length-bytes}
 use Rattle.record.specs.declared.Record.{Record}
 use Rattle.record_bytes.specs.declared.write.Row.{Row}
+use Rattle.record_bytes.specs.Layout.{wordAt}
 use Rattle.record_bytes.specs.Written.{rowAt, wordsWith, wordsOf, bytesOf, written}
 use Rattle.record_bytes.specs.Read.{slotsRight, spareRight, isRecord, recordIn, noRecord, recordOf}
 use Rattle.record_bytes.specs.RoundTrip.{Untrusted}
 
 -- ---- decode
 
-pub judged : (bytes : List ℕ) (a b t : Bool) → length bytes ≡ 272 → a ≡ spareRight (words bytes) → b ≡ slotsRight (words bytes) → (a && b) ≡ t → isRecord bytes ≡ t
+pub judged : (bytes : List ℕ) (w : ℕ) (r a b t : Bool) → length bytes ≡ 272 → w ≡ wordAt (words bytes) 3 → r ≡ isRuleNumber w → a ≡ spareRight (words bytes) → b ≡ slotsRight (words bytes) → (r && a && b) ≡ t → isRecord bytes ≡ t
 unfolding isRecord
-judged bytes a b t n ea eb e = rw (eq-eqb (length bytes) 272 n, ← ea, ← eb) e
+judged bytes w r a b t n ew er ea eb e = rw (eq-eqb (length bytes) 272 n, ← ew, ← er, ← ea, ← eb) e
 
 pub judged-short : (bytes : List ℕ) → (length bytes ≡ 272 → ⊥) → isRecord bytes ≡ false
 unfolding isRecord
@@ -84,7 +86,7 @@ valid-record bytes v = go (isRecord bytes) refl
 
 pub record-size : (bytes : List ℕ) → isRecord bytes ≡ true → length bytes ≡ 272
 unfolding isRecord
-record-size bytes e = eqb-true (length bytes) 272 (and-true (eqb (length bytes) 272) (spareRight (words bytes) && slotsRight (words bytes)) e .0)
+record-size bytes e = eqb-true (length bytes) 272 (and-true (eqb (length bytes) 272) (isRuleNumber (wordAt (words bytes) 3) && spareRight (words bytes) && slotsRight (words bytes)) e .0)
 
 pub written-whole : (r : Record) (bytes : List ℕ) → length bytes ≡ 272 → written r bytes ≡ bytesOf r
 unfolding written

@@ -8,6 +8,8 @@ use lib.ListN.{length, getD}
 use lib.Dec.{eqb}
 use borrow.Author.Tests.{eq-eqb}
 use Rattle.word.specs.Word.{words}
+use Rattle.reset.specs.Reset.{isRuleNumber}
+use Rattle.reset.proofs.Numbers.{rule-back, own-number}
 use Rattle.record.specs.declared.Client.{Client}
 use Rattle.record.specs.declared.Slot.{Slot}
 use Rattle.record.specs.declared.SlotState.{SlotState}
@@ -75,6 +77,10 @@ module _ (r : Record) where
   spare : spareRight (wordsOf r) ≡ true
   unfolding spareRight wordsOf wordsWith
   spare = refl
+
+  rule : isRuleNumber (wordAt (wordsOf r) 3) ≡ true
+  unfolding wordsOf wordsWith
+  rule = own-number (r .setup .reset)
 
   s0 : Stands (wordsOf r) 24 (rowAt r 0)
   unfolding wordsOf wordsWith
@@ -154,6 +160,7 @@ module _ (r : Record) where
         low-is (r .setup .common) (s .common),
         low-is (r .opened) (s .opened),
         low-is (r .read) (s .read),
+        rule-back (r .setup .reset),
       )
 
   words-stand : Typed r → Small r → recordIn (wordsOf r) ≡ r
@@ -162,7 +169,7 @@ module _ (r : Record) where
 
   is-record : Typed r → isRecord (bytesOf r) ≡ true
   unfolding isRecord
-  is-record t = rw (eq-eqb (length (bytesOf r)) 272 (length-record r), record-words r t, spare, slots-right)
+  is-record t = rw (eq-eqb (length (bytesOf r)) 272 (length-record r), record-words r t, rule, spare, slots-right)
 
   pub back : Typed r → Small r → recordOf (bytesOf r) ≡ r
   unfolding recordOf

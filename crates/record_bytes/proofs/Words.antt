@@ -6,6 +6,9 @@ use native.Mathlib.Omega.{arith}
 use lib.ListN.{getD}
 use Rattle.word.specs.Word.{leBytes, wordsBytes, words}
 use Rattle.word.proofs.Words.{words-leBytes}
+use Rattle.reset.specs.declared.ResetRule.{ResetRule}
+use Rattle.reset.specs.declared.ResetRule.the-variants.{Unblended, SrcOver}
+use Rattle.reset.specs.Reset.{numberOf}
 use Rattle.record.specs.declared.Client.{Client}
 use Rattle.record.specs.declared.Slot.{Slot}
 use Rattle.record.specs.declared.SlotState.{SlotState}
@@ -56,9 +59,13 @@ slot-at P n [] h i = n
 slot-at P n (s ∷ ss) h zero = h .0
 slot-at P n (s ∷ ss) h (suc i) = slot-at P n ss (h .1) i
 
+number-below : (rule : ResetRule) → numberOf rule < 2 ^ 32
+number-below Unblended = zero-below
+number-below SrcOver = one-below
+
 head-below : (r : Record) → r .next < 2 ^ 32 → Below (headWords r)
 head-below r h =
-    low-below (r .setup .ring) also low-below (r .setup .memory) also low-below (r .setup .common) also zero-below
+    low-below (r .setup .ring) also low-below (r .setup .memory) also low-below (r .setup .common) also number-below (r .setup .reset)
     also low-below (r .opened) also low-below (r .read) also h also zero-below also none
 
 client-below : (c : Client) → ClientTyped c → Below (clientWords c)

@@ -1,5 +1,5 @@
 -- Where the numbers of a record stand in its 272 bytes: 68 little-endian words of 32 bits.
---    0 ring, 1 memory, 2 common, 3 zero, 4 opened, 5 read, 6 next, 7 zero
+--    0 ring, 1 memory, 2 common, 3 the reset rule's number, 4 opened, 5 read, 6 next, 7 zero
 --    8, 12, 16, 20 a client: start, length, pending, zero
 --    24, 29, 34, 39, 44, 49, 54, 59 a slot: 0 if it is free and 1 if it is ready, client, ticket, offset, length; of a free one all five are zero
 --    64 to 67 zero

@@ -4,6 +4,8 @@ use mathlib.Core.List.{List, [], _∷_}
 use Prim.Native.Nat.{ℕ, _+_}
 use lib.ListN.{length}
 use lib.Dec.{eqb}
+use Rattle.reset.specs.declared.ResetRule.the-variants.{Unblended}
+use Rattle.reset.specs.Reset.{isRuleNumber, ruleOf}
 use Rattle.word.specs.Word.{words}
 use Rattle.record.specs.declared.Setup.{Setup}
 use Rattle.record.specs.declared.Client.{Client}
@@ -30,17 +32,18 @@ slotsRight ws =
 -- the words that are kept for later
 unfoldable pub spareRight : List ℕ → Bool
 spareRight ws =
-    eqb (wordAt ws 3) 0 && eqb (wordAt ws 7) 0
+    eqb (wordAt ws 7) 0
     && eqb (wordAt ws 11) 0 && eqb (wordAt ws 15) 0 && eqb (wordAt ws 19) 0 && eqb (wordAt ws 23) 0
     && eqb (wordAt ws 64) 0 && eqb (wordAt ws 65) 0 && eqb (wordAt ws 66) 0 && eqb (wordAt ws 67) 0
 
+-- a third reset rule is none
 unfoldable pub isRecord : (bytes : List ℕ) → Bool
-isRecord bytes = eqb (length bytes) 272 && (spareRight (words bytes) && slotsRight (words bytes))
+isRecord bytes = eqb (length bytes) 272 && (isRuleNumber (wordAt (words bytes) 3) && spareRight (words bytes) && slotsRight (words bytes))
 
 -- ---- what they stand for
 
 abbrev pub setupIn : List ℕ → Setup
-setupIn ws = record { ring = wordAt ws 0; memory = wordAt ws 1; common = wordAt ws 2 }
+setupIn ws = record { ring = wordAt ws 0; memory = wordAt ws 1; common = wordAt ws 2; reset = ruleOf (wordAt ws 3) }
 
 abbrev pub clientIn : List ℕ → ℕ → Client
 clientIn ws k = record { window = record { start = wordAt ws k; length = wordAt ws (k + 1) }; pending = wordAt ws (k + 2) }
@@ -72,7 +75,7 @@ recordIn ws = record {
 -- a record of no engine
 unfoldable pub noRecord : Record
 noRecord = record {
-  setup = record { ring = 0; memory = 0; common = 0 };
+  setup = record { ring = 0; memory = 0; common = 0; reset = Unblended };
   clients = noClient ∷ noClient ∷ noClient ∷ noClient ∷ [];
   opened = 0;
   slots = free ∷ free ∷ free ∷ free ∷ free ∷ free ∷ free ∷ free ∷ [];

@@ -4,6 +4,7 @@ use mathlib.Core.List.{List, [], _∷_, _++_}
 use Prim.Native.Nat.{ℕ}
 use lib.ListN.{length, getD}
 use lib.Dec.{eqb}
+use Rattle.reset.specs.Reset.{numberOf}
 use Rattle.word.specs.Word.{wordsBytes}
 use Rattle.record.specs.declared.Client.{Client}
 use Rattle.record.specs.declared.Batch.{Batch}
@@ -18,7 +19,7 @@ use Rattle.record_bytes.specs.declared.write.Row.{Row}
 use Rattle.record_bytes.specs.Layout.{low}
 
 abbrev pub headWords : Record → List ℕ
-headWords r = low (r .setup .ring) ∷ low (r .setup .memory) ∷ low (r .setup .common) ∷ 0 ∷ low (r .opened) ∷ low (r .read) ∷ r .next ∷ 0 ∷ []
+headWords r = low (r .setup .ring) ∷ low (r .setup .memory) ∷ low (r .setup .common) ∷ numberOf (r .setup .reset) ∷ low (r .opened) ∷ low (r .read) ∷ r .next ∷ 0 ∷ []
 
 abbrev pub clientWords : Client → List ℕ
 clientWords c = c .window .start ∷ c .window .length ∷ c .pending ∷ 0 ∷ []

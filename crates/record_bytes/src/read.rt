@@ -12,6 +12,7 @@ use record::Setup;
 use record::Slot;
 use record::SlotState;
 use record::Window;
+use reset::ResetRule;
 
 fn word_at(bytes: &[u8], k: usize) -> u32
     requires { ⌜ (length (now bytes) ≡ 272) × (k < 68) ⌝ }
@@ -35,6 +36,7 @@ fn setup_in(bytes: &[u8]) -> Setup
         ring: size_at(bytes, 0),
         memory: size_at(bytes, 1),
         common: size_at(bytes, 2),
+        reset: ResetRule::from_number(word_at(bytes, 3)),
     }
 }
 
@@ -152,8 +154,7 @@ fn spare_right(bytes: &[u8]) -> bool
     requires { ⌜ length (now bytes) ≡ 272 ⌝ }
     ensures { λ r. ⌜ r ≡ spareRight (words (now (bytes .entry))) ⌝ }
 {
-    (word_at(bytes, 3) == 0)
-        & (word_at(bytes, 7) == 0)
+    (word_at(bytes, 7) == 0)
         & (word_at(bytes, 11) == 0)
         & (word_at(bytes, 15) == 0)
         & (word_at(bytes, 19) == 0)
@@ -182,6 +183,7 @@ fn no_record() -> Record
             ring: 0,
             memory: 0,
             common: 0,
+            reset: ResetRule::Unblended,
         },
         clients: clients,
         opened: 0,
@@ -198,7 +200,8 @@ pub fn decode(bytes: &[u8]) -> Record
     if bytes.len() != 272 {
         return no_record();
     }
-    if !(spare_right(bytes) & slots_right(bytes)) {
+    let rule = ResetRule::is_number(word_at(bytes, 3));
+    if !(rule & spare_right(bytes) & slots_right(bytes)) {
         return no_record();
     }
     record_in(bytes)

@@ -44,6 +44,8 @@ fn words_of(engine: Record) -> [u32; 68]
     ensures { λ r. ⌜ r ≡ wordsOf engine ⌝ }
 {
     let setup = engine.setup;
+    let rule = setup.reset;
+    let reset = rule.number();
     let clients = engine.clients;
     let slots = engine.slots;
     let c0 = clients[0];
@@ -66,7 +68,7 @@ fn words_of(engine: Record) -> [u32; 68]
         (setup.ring % 4294967296) as u32,
         (setup.memory % 4294967296) as u32,
         (setup.common % 4294967296) as u32,
-        0,
+        reset,
         (engine.opened % 4294967296) as u32,
         (engine.read % 4294967296) as u32,
         engine.next,

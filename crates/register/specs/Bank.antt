@@ -3,6 +3,8 @@ use Prim.Native.Nat.{ℕ, _+_}
 use mathlib.Core.Bool.{cond}
 use lib.Dec.{eqb}
 use Rattle.gradient.specs.declared.Steps.{Steps}
+use Rattle.reset.specs.declared.ResetRule.{ResetRule}
+use Rattle.reset.specs.Reset.{blendingAtReset}
 use Rattle.register.specs.declared.bank.SurfaceRegisters.{SurfaceRegisters}
 use Rattle.register.specs.declared.bank.Bank.{Bank}
 use Rattle.register.specs.declared.bank.WriteFault.the-variants.{NotWritable, Forbidden}
@@ -16,15 +18,15 @@ resetSurface = record { control = 0; size = 0; stride = 0; address = 0 }
 abbrev pub resetSteps : Steps
 resetSteps = record { alpha = 0; red = 0; green = 0; blue = 0 }
 
--- reset is 0, but 0x090 resets to 0x00001300 (01 decides; 002 prints 0 for the word and 2 and 3 for its fields)
-abbrev pub resetBank : Bank
-resetBank = record {
+-- reset is 0, but for 0x090, which the engine's reset rule decides (02, request 2)
+abbrev pub resetBank : ResetRule → Bank
+resetBank rule = record {
   source = resetSurface;
   destination = resetSurface;
   output = resetSurface;
   colour = 0;
   steps = resetSteps;
-  blending = 0x00001300;
+  blending = blendingAtReset rule;
 }
 
 -- what the register at `register` holds after a word was written at an offset: that word if it stands there, else what it held

@@ -10,7 +10,6 @@ use lib.ListN.{length, replicate, length-replicate}
 use lib.Dec.{ltb, eqb, eqb·suc-zero}
 use borrow.Author.Tests.{lt-ltb, le-ltb, ltb-false}
 use Rattle.word.proofs.Tests.{split}
-use Rattle.register.specs.Bank.{resetBank}
 use Rattle.queue.specs.Answers.{answerUnlessRefused}
 use Rattle.queue.specs.Refusals.{firstRefusal as firstRow}
 use Rattle.queue.specs.Calls.{setUpResult}
@@ -26,7 +25,7 @@ use Rattle.claims.proofs.Related.{Related}
 use Rattle.claims.proofs.Steps.{Alike}
 use Rattle.claims.proofs.Follows.{together, at-end}
 use Rattle.records.specs.Records.{Entry, FileEnd, File}
-use Rattle.replay.specs.Lines.{setup, opening, engineOpened, replayStart, submitAndRun, entryLine, endingLine, printedFrom, lines}
+use Rattle.replay.specs.Lines.{setup, fileReset, opening, engineOpened, replayStart, submitAndRun, entryLine, endingLine, printedFrom, lines}
 use Rattle.replay.specs.Answered.{recordRefusal, replayWindow, verdict, ticketOfCount, answerAfter, countAfter, drawnAfter, linesAfter, lineFeeds, OneLine, acceptedFrom, submitAndRunAll, RecordAnswered, ReplayAnswersHold}
 use Rattle.replay.proofs.LineFeeds.{feeds-append, one-feed, answer-one}
 
@@ -95,7 +94,7 @@ module _ (count : ℕ) (s : State) (S : Stands count s) (entry : Entry) where
   taken = holding count (S .memory) entry
 
   abbrev drawn : List ℕ
-  drawn = batchSemantics .draw (windowIn now (entry .client)) 16384 (entry .batch) (S .memory)
+  drawn = batchSemantics setup .draw (windowIn now (entry .client)) 16384 (entry .batch) (S .memory)
 
   abbrev submitted : CallResult
   submitted = performCall (submit (entry .client) (entry .batch)) s
@@ -127,11 +126,11 @@ module _ (count : ℕ) (s : State) (S : Stands count s) (entry : Entry) where
     unfolding submitAndRun
     served-yes = rw (told-yes .0)
 
-    run-step : step batchSemantics setup 32768 run taken ≡ runStep batchSemantics 16384 taken (taken .waiting)
+    run-step : step (batchSemantics setup) setup 32768 run taken ≡ runStep (batchSemantics setup) 16384 taken (taken .waiting)
     unfolding refuseOr effect refusalTable firstHolding
     run-step = rw (S .size)
 
-    run-alike : Alike setup 32768 ran (runStep batchSemantics 16384 taken (taken .waiting))
+    run-alike : Alike setup 32768 ran (runStep (batchSemantics setup) 16384 taken (taken .waiting))
     run-alike = rw run-step at (together setup 32768 run taken (submitted .after) (told-yes .1))
 
     completes : ran .answer ≡ completed (entry .client) (count % 4294967296) (verdict entry)
@@ -141,13 +140,13 @@ module _ (count : ℕ) (s : State) (S : Stands count s) (entry : Entry) where
     drawn-size =
         let w : Window = replayWindow (entry .client) in
         let h : entry .client ≤ 3 = owner entry e in
-        rw (window-is count (S .memory) (entry .client) h) (confined resetBank w 16384 (entry .batch) .sized (S .memory) (omega (arith, S .size), omega (arith, S .size)) ∙ S .size)
+        rw (window-is count (S .memory) (entry .client) h) (confined fileReset w 16384 (entry .batch) .sized (S .memory) (omega (arith, S .size), omega (arith, S .size)) ∙ S .size)
 
-    drawn-memory : ran .after .memory ≡ batchSemantics .draw (replayWindow (entry .client)) 16384 (entry .batch) (s .memory)
+    drawn-memory : ran .after .memory ≡ batchSemantics setup .draw (replayWindow (entry .client)) 16384 (entry .batch) (s .memory)
     drawn-memory =
         sym (memory-is (run-alike .1))
-        ∙ ap (λ (w : Window). batchSemantics .draw w 16384 (entry .batch) (S .memory)) (window-is count (S .memory) (entry .client) (owner entry e))
-        ∙ ap (batchSemantics .draw (replayWindow (entry .client)) 16384 (entry .batch)) (memory-is (S .related))
+        ∙ ap (λ (w : Window). batchSemantics setup .draw w 16384 (entry .batch) (S .memory)) (window-is count (S .memory) (entry .client) (owner entry e))
+        ∙ ap (batchSemantics setup .draw (replayWindow (entry .client)) 16384 (entry .batch)) (memory-is (S .related))
 
   -- what is answered, and where it leads
   record Told : Type 0 where
@@ -214,7 +213,7 @@ set-up : SetUpAccepted setup
 unfolding setUpResult answerUnlessRefused firstRow
 set-up = refl
 
-opens-four : (n : ℕ) (memory : List ℕ) → modelAfterAll batchSemantics setup n opening memory ≡ resting 0 memory
+opens-four : (n : ℕ) (memory : List ℕ) → modelAfterAll (batchSemantics setup) setup n opening memory ≡ resting 0 memory
 unfolding after effect refuseOr refusalTable firstHolding overlapAny
 opens-four n memory = refl
 

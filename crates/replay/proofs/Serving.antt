@@ -4,6 +4,7 @@ use mathlib.Core.List.{List}
 use Prim.Native.Nat.{ℕ, zero, suc, _<_}
 use native.Mathlib.Omega.{arith}
 use lib.ListN.{replicate}
+use Rattle.reset.specs.declared.ResetRule.the-variants.{Unblended}
 use Rattle.record.specs.declared.Window.{Window}
 use Rattle.record.specs.declared.Record.{Record}
 use Rattle.queue.specs.declared.Reply.{Reply}
@@ -28,7 +29,7 @@ windowFrom start = record { start = start; length = 12288 }
 
 abbrev opened : Record
 opened =
-    let none : Record = setUpResult 32768 65536 16384 .engine in
+    let none : Record = setUpResult 32768 65536 16384 Unblended .engine in
     let one : Record = openResult none (windowFrom 16384) .engine in
     let two : Record = openResult one (windowFrom 28672) .engine in
     let three : Record = openResult two (windowFrom 40960) .engine in

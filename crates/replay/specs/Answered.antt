@@ -27,7 +27,7 @@ replayWindow client = window (16384 + client * 12288) 12288
 
 -- status, fault and offset of the record's own batch, judged in its own client's window
 abbrev pub verdict : Entry → CompletionStatus
-verdict entry = batchSemantics .verdict (replayWindow (entry .client)) 16384 (entry .batch)
+verdict entry = batchSemantics setup .verdict (replayWindow (entry .client)) 16384 (entry .batch)
 
 -- ---- after other records, of which so many were accepted
 
@@ -50,7 +50,7 @@ linesAfter count (entry ∷ entries) ending = answerLine (entry .client) (answer
 
 -- memory after it: its own batch drawn in its own client's window; a refused record draws nothing
 abbrev pub drawnAfter : Entry → List ℕ → List ℕ
-drawnAfter entry memory = cond (eqb (recordRefusal entry) 0) (batchSemantics .draw (replayWindow (entry .client)) 16384 (entry .batch) memory) memory
+drawnAfter entry memory = cond (eqb (recordRefusal entry) 0) (batchSemantics setup .draw (replayWindow (entry .client)) 16384 (entry .batch) memory) memory
 
 -- ---- lines
 

@@ -3,6 +3,9 @@ use mathlib.Core.List.{List, [], _∷_, _++_}
 use mathlib.Core.Bool.{Bool, true, false, cond}
 use Prim.Native.Nat.{ℕ}
 use lib.ListN.{replicate}
+use Rattle.reset.specs.declared.ResetRule.the-variants.{Unblended}
+use Rattle.register.specs.declared.bank.Bank.{Bank}
+use Rattle.register.specs.Bank.{resetBank}
 use Rattle.model.specs.Calls.{Setup, Call, opens, submit, run, CompletionStatus, Answer, opened, accepted, completed, ready, refused}
 use Rattle.claims.specs.Engine.{State, CallResult, performCall, stateAfter, initialState}
 use Rattle.text.specs.Hex.{hexWord}
@@ -74,9 +77,13 @@ linesFrom s file = printedFrom s (file .entries) (file .ending)
 
 -- ---- the start
 
--- "a 32,768-byte ring, 65,536 .. bytes of memory, 16,384 of them common"
+-- "a 32,768-byte ring, 65,536 .. bytes of memory, 16,384 of them common"; "Replay of edition 1 files must go on with 0x00001300" (02, request 2)
 abbrev pub setup : Setup
-setup = record { ring = 32768; memory = 65536; common = 16384 }
+setup = record { ring = 32768; memory = 65536; common = 16384; reset = Unblended }
+
+-- the registers at the start of every batch of a file
+abbrev pub fileReset : Bank
+fileReset = resetBank (setup .reset)
 
 -- "four windows of 12,288", after common
 abbrev pub opening : List Call

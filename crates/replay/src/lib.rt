@@ -20,6 +20,7 @@ use batch::Verdict;
 use engine::Outcome;
 use queue::Answer;
 use record::Record;
+use reset::ResetRule;
 use text::line;
 
 // What is to come next: the version byte, a record, or nothing that is looked at.
@@ -60,7 +61,7 @@ struct Decided {
 pub fn start() -> Replay
     ensures { λ r. ⌜ r ≡ replayAt atStart ⌝ }
 {
-    let none = engine::set_up(32768, 65536, 16384);
+    let none = engine::set_up(32768, 65536, 16384, ResetRule::Unblended);
     let first = none.engine;
     let one = engine::open(first, 16384, 12288);
     let second = one.engine;

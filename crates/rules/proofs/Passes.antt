@@ -99,7 +99,7 @@ is-readable bounds s e = go (isWritableSpan bounds s) refl
 
 -- ---- 28
 
-same-format : (a b : Format) → sameFormat a b ≡ true → a ≡ b
+pub same-format : (a b : Format) → sameFormat a b ≡ true → a ≡ b
 same-format Argb8888 Argb8888 e = refl
 same-format Argb8888 Rgb888 e = absurd (false≢true e)
 same-format Argb8888 Rgb565 e = absurd (false≢true e)

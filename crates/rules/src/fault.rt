@@ -33,7 +33,7 @@ impl Fault {
         }
     }
 
-    // The status word of a batch with this fault.
+    // The status of a batch with this fault: the lower half of its status word.
     pub fn status(self) -> u32
         ensures { λ r. ⌜ r ≡ faultStatus self ⌝ }
     {

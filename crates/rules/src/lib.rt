@@ -6,3 +6,4 @@ pub use fault::Fault;
 pub use task::Bounds;
 pub use task::Check;
 pub use task::check_task;
+pub use task::same_format;

@@ -145,7 +145,7 @@ fn out_of_bounds(bounds: Bounds, t: Task) -> bool
         | (t.blending.on & !is_readable(bounds, t.destination.surface))
 }
 
-fn same_format(a: Format, b: Format) -> bool
+pub fn same_format(a: Format, b: Format) -> bool
     ensures { λ r. ⌜ r ≡ sameFormat a b ⌝ }
 {
     a.layout().code == b.layout().code

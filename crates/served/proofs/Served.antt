@@ -13,7 +13,7 @@ use Rattle.record.specs.Rules.{valid}
 use Rattle.queue.specs.declared.Reply.{Reply}
 use Rattle.queue.specs.Answers.{refusalNumberOf, valueOf}
 use Rattle.queue.specs.Refusals.{firstRefusal, openTable, setUpTable}
-use Rattle.queue.specs.Calls.{unlessRefused, initialRecord, withClient, newBatch, withBatch, setUpResult, openResult, submitResult, submitNumber, submitRing, pendingAnswer}
+use Rattle.queue.specs.Calls.{unlessRefused, initialRecord, noSetup, withClient, newBatch, withBatch, setUpResult, openResult, submitResult, submitNumber, submitRing, pendingAnswer}
 use Rattle.queue.proofs.Stays.{unless-keeps, set-up-number, open-number, submit-number, set-up-stays, open-stays, submit-stays}
 use Rattle.engine.specs.declared.Ran.{Ran}
 use Rattle.engine.specs.Outcome.{runRefusalOf as refusalOf, valuesOf}
@@ -181,26 +181,26 @@ both-zero : (t : Bool) (n : ℕ) → 0 ≡ cond t n 11 → n ≡ 0
 both-zero true n e = sym e
 both-zero false n e = absurd (omega arith)
 
-module _ (setup : Setup) (before bytes ring memory : List ℕ) (u : SetsUp before (setup .ring) (setup .memory) (setup .common) 0 bytes) where
+module _ (setup : Setup) (before bytes ring memory : List ℕ) (u : SetsUp before (setup .ring) (setup .memory) (setup .common) (setup .reset) 0 bytes) where
   abbrev made : Record
-  made = setUpResult (setup .ring) (setup .memory) (setup .common) .engine
+  made = setUpResult (setup .ring) (setup .memory) (setup .common) (setup .reset) .engine
 
   abbrev numbers : Numbers
-  numbers = record { ring = setup .ring; memory = setup .memory; common = setup .common }
+  numbers = record { ring = setup .ring; memory = setup .memory; common = setup .common; reset = setup .reset }
 
   taken : SetUpAccepted setup
-  taken = both-zero (eqb (length before) 272) (refusalNumberOf (setUpResult (setup .ring) (setup .memory) (setup .common) .answer)) (u .number-is)
+  taken = both-zero (eqb (length before) 272) (refusalNumberOf (setUpResult (setup .ring) (setup .memory) (setup .common) (setup .reset) .answer)) (u .number-is)
 
   typed-made : Typed made
   unfolding setUpResult
   typed-made =
-      unless-keeps Typed (firstRefusal (setUpTable numbers)) (initialRecord (record { ring = 0; memory = 0; common = 0 })) (initialRecord numbers)
-      (fresh-typed (record { ring = 0; memory = 0; common = 0 })) (λ q. fresh-typed numbers)
+      unless-keeps Typed (firstRefusal (setUpTable numbers)) (initialRecord noSetup) (initialRecord numbers)
+      (fresh-typed noSetup) (λ q. fresh-typed numbers)
 
   begins : Agrees (record { bytes = bytes; ring = ring; memory = memory }) (initialState setup ring memory)
   begins = record {
     holds = record {
-      are = u .record-is ∙ unless-zero before (bytesOf made) (setUpNumber before (setup .ring) (setup .memory) (setup .common)) (sym (u .number-is));
+      are = u .record-is ∙ unless-zero before (bytesOf made) (setUpNumber before (setup .ring) (setup .memory) (setup .common) (setup .reset)) (sym (u .number-is));
       ok = set-up-stays numbers (sym (set-up-number numbers) ∙ taken);
       right = typed-made;
     };

@@ -79,13 +79,13 @@ AllPlain (c ∷ cs) = Plain c × AllPlain cs
 -- ---- the promise: every answer and every byte of memory is the reference model's, every byte of the ring the engine's
 
 pub record Served (setup : Setup) (ring memory : List ℕ) (calls : List Call) (said : List Answer) (last : Lent) : Type 0 where
-  pub every-answer : said ≡ answers batchSemantics setup (length ring) calls (initialModel memory)
-  pub every-byte : last .memory ≡ modelAfterAll batchSemantics setup (length ring) calls memory .memory
+  pub every-answer : said ≡ answers (batchSemantics setup) setup (length ring) calls (initialModel memory)
+  pub every-byte : last .memory ≡ modelAfterAll (batchSemantics setup) setup (length ring) calls memory .memory
   pub ring-end : last .ring ≡ stateAfter calls (initialState setup ring memory) .ring
 
 abbrev pub Promise : Type 0
 Promise = (setup : Setup) (before bytes ring memory : List ℕ) (calls : List Call) (said : List Answer) (last : Lent) →
-    SetsUp before (setup .ring) (setup .memory) (setup .common) 0 bytes →
+    SetsUp before (setup .ring) (setup .memory) (setup .common) (setup .reset) 0 bytes →
     AllPlain calls →
     ServesAll calls (record { bytes = bytes; ring = ring; memory = memory }) said last →
     Served setup ring memory calls said last

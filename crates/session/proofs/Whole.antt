@@ -9,6 +9,7 @@ use lib.Seq.{drop-drop, drop-length}
 use lib.Dec.{eqb}
 use borrow.Author.Tests.{lt-ltb, le-ltb, eq-eqb, ne-eqb}
 use borrow.Rule.Slice.PartMut.{putMid}
+use Rattle.reset.specs.declared.ResetRule.{ResetRule}
 use Rattle.word.specs.Word.{wordsBytes}
 use Rattle.word.specs.Splice.{spliced}
 use Rattle.word.proofs.Splice.{length-spliced, take-spliced, drop-spliced}
@@ -37,21 +38,21 @@ unfolding answerUnlessRefused
 value-set zero = refl
 value-set (suc n) = refl
 
-set-up-value : (ring memory common : ℕ) → valueOf (setUpResult ring memory common .answer) ≡ 0
+set-up-value : (ring memory common : ℕ) (reset : ResetRule) → valueOf (setUpResult ring memory common reset .answer) ≡ 0
 unfolding setUpResult
-set-up-value ring memory common = value-set (firstRefusal (setUpTable (record { ring = ring; memory = memory; common = common })))
+set-up-value ring memory common reset = value-set (firstRefusal (setUpTable (record { ring = ring; memory = memory; common = common; reset = reset })))
 
-pub set-up-words : (setup : Setup) (r : Reply) (words : List ℕ) → r ≡ setUpResult (setup .ring) (setup .memory) (setup .common) →
+pub set-up-words : (setup : Setup) (r : Reply) (words : List ℕ) → r ≡ setUpResult (setup .ring) (setup .memory) (setup .common) (setup .reset) →
     words ≡ shortAnswer (refusalNumberOf (r .answer)) (valueOf (r .answer)) → words ≡ shortAnswer (setUpNumber setup) 0
-set-up-words setup r words e w = w ∙ rw (e, set-up-value (setup .ring) (setup .memory) (setup .common))
+set-up-words setup r words e w = w ∙ rw (e, set-up-value (setup .ring) (setup .memory) (setup .common) (setup .reset))
 
 -- ---- no call is played
 
 module _ (setup : Setup) (ring memory script buffer : List ℕ) where
   -- memory and ring by the calls that are played
-  memory-is : (cs : List Call) → playedCalls setup (length buffer) script ≡ cs → memoryAfter setup ring memory script buffer ≡ modelAfterAll batchSemantics setup (length ring) cs memory .memory
+  memory-is : (cs : List Call) → playedCalls setup (length buffer) script ≡ cs → memoryAfter setup ring memory script buffer ≡ modelAfterAll (batchSemantics setup) setup (length ring) cs memory .memory
   unfolding memoryAfter
-  memory-is cs e = ap (λ (played : List Call). modelAfterAll batchSemantics setup (length ring) played memory .memory) e
+  memory-is cs e = ap (λ (played : List Call). modelAfterAll (batchSemantics setup) setup (length ring) played memory .memory) e
 
   ring-is : (cs : List Call) → playedCalls setup (length buffer) script ≡ cs → ringAfter setup ring memory script buffer ≡ stateAfter cs (initialState setup ring memory) .ring
   unfolding ringAfter
@@ -128,7 +129,7 @@ module _ (setup : Setup) (ring memory script buffer : List ℕ) (room : 24 ≤ l
       }
 
   -- the same in the code's values: the buffer `answered` after set up's answer, and the part of it after that, which is lent
-  pub played-done : (words answerUnlessRefused : List ℕ) (r : Reply) (count : ℕ) (ring′ memory′ rest′ : List ℕ) → r ≡ setUpResult (setup .ring) (setup .memory) (setup .common) →
+  pub played-done : (words answerUnlessRefused : List ℕ) (r : Reply) (count : ℕ) (ring′ memory′ rest′ : List ℕ) → r ≡ setUpResult (setup .ring) (setup .memory) (setup .common) (setup .reset) →
       words ≡ shortAnswer (setUpNumber setup) 0 → answerUnlessRefused ≡ spliced 0 (wordsBytes words) buffer →
       CallsMatch (decode (length (take (length answerUnlessRefused - 24) (drop 24 answerUnlessRefused)) / 24) script) (mkState (r .engine) ring memory) (take (length answerUnlessRefused - 24) (drop 24 answerUnlessRefused)) count ring′ memory′ rest′ →
       ScriptResult setup ring memory script buffer (24 + count) ring′ memory′ (putMid 24 (length answerUnlessRefused - 24) answerUnlessRefused rest′)

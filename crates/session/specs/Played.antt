@@ -20,7 +20,7 @@ use Rattle.session.specs.Answers.{answerBytes}
 
 -- what set up is refused with, 0 if it is accepted
 abbrev pub setUpNumber : Setup → ℕ
-setUpNumber setup = refusalNumberOf (setUpResult (setup .ring) (setup .memory) (setup .common) .answer)
+setUpNumber setup = refusalNumberOf (setUpResult (setup .ring) (setup .memory) (setup .common) (setup .reset) .answer)
 
 -- The calls that are played, in a buffer of `room` bytes. An answer has 24 bytes; of n + 1 answers that fit, the first is set up's own, and
 -- n are left for calls. A call whose answer would not fit is not played. If set up is refused, no call is.
@@ -35,11 +35,11 @@ module _ (setup : Setup) (ring memory script buffer : List ℕ) where
   unfoldable pub answerOutput : List ℕ
   answerOutput =
       cond (ltb (length buffer) 24) []
-      (wordsBytes (shortAnswer (setUpNumber setup) 0) ++ answerBytes (answers batchSemantics setup (length ring) played (initialModel memory)))
+      (wordsBytes (shortAnswer (setUpNumber setup) 0) ++ answerBytes (answers (batchSemantics setup) setup (length ring) played (initialModel memory)))
 
   -- memory after it is the model's
   unfoldable pub memoryAfter : List ℕ
-  memoryAfter = modelAfterAll batchSemantics setup (length ring) played memory .memory
+  memoryAfter = modelAfterAll (batchSemantics setup) setup (length ring) played memory .memory
 
   -- the ring after it: batches are copied in by submit alone
   unfoldable pub ringAfter : List ℕ

@@ -17,6 +17,7 @@ use crate::script::Request;
 use engine::Ran;
 use queue::Reply;
 use record::Record;
+use reset::ResetRule;
 
 // An answer's words, and the record after the call.
 struct Step {
@@ -116,19 +117,20 @@ pub fn play(
     ring_length: usize,
     memory_length: usize,
     common_length: usize,
+    reset: ResetRule,
     ring: &mut [u8],
     memory: &mut [u8],
     script: &[u8],
     answers: &mut [u8],
 ) -> usize
-    ensures { λ r. ⌜ ScriptResult (record { ring = «ring_length»; memory = «memory_length»; common = «common_length» })
+    ensures { λ r. ⌜ ScriptResult (record { ring = «ring_length»; memory = «memory_length»; common = «common_length»; reset = reset })
         (now (ring .entry)) (now (memory .entry)) (now (script .entry)) (now (answers .entry))
         r (now (ring .exit)) (now (memory .exit)) (now (answers .exit)) ⌝ }
 {
     if answers.len() < 24 {
         return 0;
     }
-    let reply = engine::set_up(ring_length, memory_length, common_length);
+    let reply = engine::set_up(ring_length, memory_length, common_length, reset);
     let engine = reply.engine;
     let told = reply.answer;
     let words = answers::answer_words(told);

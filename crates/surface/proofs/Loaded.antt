@@ -32,11 +32,11 @@ use Rattle.surface.proofs.Outside.{pixel-in-row, pixel-in-span, inside-
 -- ---- what the low bytes of a number spell
 
 -- byte k + 1 of a number is byte k of what is left without its lowest
-byte-next : (n k : ℕ) → byteOf n (suc k) ≡ byteOf (n / 256) k
+pub byte-next : (n k : ℕ) → byteOf n (suc k) ≡ byteOf (n / 256) k
 unfolding byteOf
 byte-next n k = sym (ap (λ (m : ℕ). m % 256) (div-div-eq-div-mul n 256 (256 ^ k)) ∙ ap (λ (m : ℕ). n / m % 256) (sym (pow-succ' 256 k)))
 
-byte-lowest : (n : ℕ) → byteOf n 0 ≡ n % 256
+pub byte-lowest : (n : ℕ) → byteOf n 0 ≡ n % 256
 unfolding byteOf
 byte-lowest n = omega arith
 

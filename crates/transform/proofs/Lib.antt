@@ -1,12 +1,2 @@
 -- Laws of flips and rotations.
 pub mod Inside
--- a test of all sixteen settings, and what it says of each
-pub mod Each
--- the laws of the settings, computed
-pub mod Settings
--- how much the bits of a setting come to
-pub mod Bits
--- the source pixel of a composed setting
-pub mod Composed
--- the same source pixels exactly for the same orientation
-pub mod Same

@@ -8,7 +8,7 @@
  *     uint32_t client, ticket;
  *     struct wenditsal_completion done;
  *
- *     if (wenditsal_set_up(engine, sizeof engine, sizeof ring, sizeof memory, 16384) == 0
+ *     if (wenditsal_set_up(engine, sizeof engine, sizeof ring, sizeof memory, 16384, WENDITSAL_RESET_SRC_OVER) == 0
  *         && wenditsal_open(engine, sizeof engine, 16384, 12288, &client) == 0
  *         && wenditsal_submit(engine, sizeof engine, ring, sizeof ring, client, batch, batch_size, &ticket) == 0
  *         && wenditsal_run(engine, sizeof engine, ring, sizeof ring, memory, sizeof memory, &done) == 0)
@@ -83,7 +83,8 @@ extern "C" {
  *
  * A batch is groups of little-endian words of 32 bits: a header, and the words for the registers at its offset, offset + 4, ..  A header has
  * the offset in bits 31:16, the number of words that follow in 15:2, and the task end in 0. All registers are at reset at the start of every
- * batch, 0 but 0x090, which is 0x00001300, and stay from task to task inside it. Registers and their allowed bits, all others zero:
+ * batch, 0 but 0x090, which is 0x00000B01 or 0x00001300 by the engine's reset rule (below), and stay from task to task inside it. Registers and
+ * their allowed bits, all others zero:
  *   0x010 source control         31:24 global alpha, 23:22 alpha mode (0 pixel's, 1 global, 2 (pixel's x global + 127) / 255), 14:8 format,
  *                                7 V flip, 6 H flip, 5:4 quarter turns clockwise, after the flips, 3:2 mode (0 buffer, 1 colour,
  *                                2 shaded along x, 3 shaded along y), 0 enable
@@ -106,9 +107,9 @@ extern "C" {
  *
  * ---- Faults
  *
- * All of a batch is checked before any of it is drawn, and a faulty one draws nothing. The first fault is reported, in this order: of a
- * header 20, 21; then of each word 23, 24; after a task's last group 25 to 28, the lowest first; after the last group 22. Its place is a byte
- * offset in the batch.
+ * The first fault ends a batch: the tasks before it stand, and nothing after them is drawn. It is looked for in this order: of a header 20, 21;
+ * then of each word 23, 24; after a task's last group 25 to 28, the lowest first; after the last group 22. Its place is a byte offset in the
+ * batch. The status is that of the table, with the number of the tasks that stand in the upper half: two good tasks and then 23 give 0x00020002.
  *    no  place      status      when
  *   20  header     0x00000002  header bit 1, 16 or 17 set
  *   21  header     0x00000100  group length 0 or past the batch's end
@@ -133,14 +134,14 @@ extern "C" {
  *
  * WENDITSAL_ENGINE_SIZE bytes that set up fills and the other calls read and write. They may be copied, stored and sent to another machine. They
  * are 68 little-endian words of 32 bits, by number:
- *    0  ring length      1  memory length    2  common length     3  zero
+ *    0  ring length      1  memory length    2  common length     3  reset rule: 0 or 1
  *    4  clients open     5  read offset      6  next ticket       7  zero
  *    8  four clients of four words each: window start, window length, batches ready, zero
  *   24  eight slots of five words each: 1 if a batch is ready in it and 0 if it is free, client, ticket, offset in the ring, length; of a free
  *       slot all five are zero
  *   64  four words that are zero
- * The words that are zero are kept for later, and a record in which one is not is none. A record has this one form: two records
- * are the same exactly if their bytes are. The three words of a client that is not open may be any.
+ * The words that are zero are kept for later, and a record in which one is not, or with a third reset rule, is none. A record has this one form:
+ * two records are the same exactly if their bytes are. The three words of a client that is not open may be any.
  *
  * Its rules: the lengths and the open windows are such as set up and open accept; the read offset is a multiple of 4 below the ring length; the
  * ready batches lie end to end from it in the order of their tickets, their lengths such as submit accepts, in all no more than the ring, each
@@ -150,11 +151,27 @@ extern "C" {
 #define WENDITSAL_ENGINE_SIZE 272
 
 /*
+ * The reset rule: what register 0x090, blending, holds at the start of every batch. It is chosen at set up, and no call changes it.
+ *   WENDITSAL_RESET_SRC_OVER   0x00000B01: tasks blend by SRC_OVER until their batch writes 0x090, and 25 to 28 judge their destination. For new
+ *                              engines: whoever leaves 0x090 alone keeps the page's opacity.
+ *   WENDITSAL_RESET_UNBLENDED  0x00001300: blending is off until their batch turns it on. For what was written for it, as replay files of version 1.
+ * 0 is the second, any other number the first, so that there is no third.
+ */
+#define WENDITSAL_RESET_UNBLENDED 0
+#define WENDITSAL_RESET_SRC_OVER 1
+
+/*
  * Sets up an engine for a ring of ring_length and a memory of memory_length bytes, of which the first common_length are common: every client may
  * read there and none may draw. Fills engine; what it held before does not matter. No client is open, no batch ready, the next ticket is 0.
  * Refusals: 11, 1, 2.
  */
-uint32_t wenditsal_set_up(uint8_t *engine, size_t engine_size, size_t ring_length, size_t memory_length, size_t common_length);
+uint32_t wenditsal_set_up(
+    uint8_t *engine,
+    size_t engine_size,
+    size_t ring_length,
+    size_t memory_length,
+    size_t common_length,
+    uint32_t reset_rule);
 
 /*
  * Opens a client with the length bytes of memory from start on as its window, in which it may draw and from which it may read. Answers its id in
@@ -188,9 +205,9 @@ struct wenditsal_completion {
 };
 
 /*
- * Takes the oldest ready batch, whichever client's it is, judges it, draws it into memory if it is faultless, and frees its slot and its room in
- * the ring. A faulty batch is no refusal: 0 is returned, and the fault is in *completion. No byte changes outside the output rows of the batch's
- * tasks, and none outside its client's window.
+ * Takes the oldest ready batch, whichever client's it is, judges it, draws its tasks into memory, of a faulty batch those before the fault, and
+ * frees its slot and its room in the ring. A faulty batch is no refusal: 0 is returned, and the fault is in *completion. No byte changes outside
+ * the output rows of the tasks that are drawn, and none outside its client's window.
  * Refusals: 11, 10, 9.
  */
 uint32_t wenditsal_run(
@@ -246,7 +263,10 @@ struct wenditsal_destination {
     uint32_t enable;
 };
 
-/* A task's fields, each as in its register; any numbers may be handed in. At reset all are 0 but the factors, which are 2 and 3. */
+/*
+ * A task's fields, each as in its register; any numbers may be handed in. At reset all are 0 but the last three, which are 1, 3 and 1 by
+ * WENDITSAL_RESET_SRC_OVER, and 2, 3 and 0 by WENDITSAL_RESET_UNBLENDED.
+ */
 struct wenditsal_fields {
     struct wenditsal_source source;
     struct wenditsal_destination destination;
@@ -325,8 +345,8 @@ uint32_t wenditsal_inverse(uint32_t setting);
 /* ---- A whole list of calls at once */
 
 /*
- * Sets up an engine of its own with the lengths of ring, memory and common, and plays the script on the lent ring and memory, with the answers that
- * the calls above give. Returns how many bytes of answers it wrote; other bytes of the answer buffer stay as they were.
+ * Sets up an engine of its own with the lengths of ring, memory and common and a reset rule, and plays the script on the lent ring and memory, with
+ * the answers that the calls above give. Returns how many bytes of answers it wrote; other bytes of the answer buffer stay as they were.
  *
  * The script is a list of calls, numbers little-endian and with no padding:
  *   0x00 open     start u32, length u32
@@ -343,6 +363,7 @@ size_t wenditsal_play(
     size_t ring_length,
     size_t memory_length,
     size_t common_length,
+    uint32_t reset_rule,
     uint8_t *ring,
     size_t ring_size,
     uint8_t *memory,

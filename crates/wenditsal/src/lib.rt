@@ -1,9 +1,10 @@
 // What other languages link. The header for C is include/wenditsal.h.
 ghost use mathlib.Core.Path.{_≡_};
 ghost use lib.ListN.{length};
-ghost use Rattle.transform.specs.Compose.{compose, inverse};
-ghost use Rattle.transform.specs.Bits.{settingOf, bitsOf};
 ghost use Rattle.encoder.specs.Forms.{firstForm, secondForm};
+ghost use Rattle.reset.specs.Reset.{ruleOf};
+ghost use Rattle.orientation.specs.Compose.{compose, inverse};
+ghost use Rattle.orientation.specs.Bits.{settingOf, bitsOf};
 ghost use Rattle.encoder.specs.Encoder.{encodeRefusalOf, answerOf, bufferAfter};
 ghost use Rattle.session.specs.Played.{ScriptResult};
 ghost use Rattle.calls.specs.Calls.{SetsUp, Opens, Submits, Pends, Runs};
@@ -11,20 +12,23 @@ ghost use Rattle.tint.specs.Tint.{numberOf as tintNumber, answerOf as tintAnswe
 use encoder::Fields;
 use encoder::SurfaceFields;
 use gradient::Steps;
+use reset::ResetRule;
 use tint::Tint;
 
-// Sets up an engine and plays a script on the lent ring and memory. Returns how many bytes of answers it wrote.
+// Sets up an engine and plays a script on the lent ring and memory. Returns how many bytes of answers it wrote. A `reset` of 0 is the old reset
+// rule, any other number the new one, so that nobody can ask for a third.
 #[no_mangle]
 pub extern "C" fn wenditsal_play(
     ring_length: usize,
     memory_length: usize,
     common_length: usize,
+    reset: u32,
     ring: &mut [u8],
     memory: &mut [u8],
     script: &[u8],
     answers: &mut [u8],
 ) -> usize
-    ensures { λ r. ⌜ ScriptResult (record { ring = «ring_length»; memory = «memory_length»; common = «common_length» })
+    ensures { λ r. ⌜ ScriptResult (record { ring = «ring_length»; memory = «memory_length»; common = «common_length»; reset = ruleOf reset })
         (now (ring .entry)) (now (memory .entry)) (now (script .entry)) (now (answers .entry))
         r (now (ring .exit)) (now (memory .exit)) (now (answers .exit)) ⌝ }
 {
@@ -32,6 +36,7 @@ pub extern "C" fn wenditsal_play(
         ring_length,
         memory_length,
         common_length,
+        ResetRule::from_number(reset),
         ring,
         memory,
         script,
@@ -42,17 +47,18 @@ pub extern "C" fn wenditsal_play(
 // The engine's calls, one at a time, on a record that is lent as bytes. Each returns the refusal's number, 0 without one. Any bytes may be
 // handed in: no call has a `requires`.
 
-// Sets up an engine and writes its record.
+// Sets up an engine and writes its record; `reset` as above.
 #[no_mangle]
 pub extern "C" fn wenditsal_set_up(
     engine: &mut [u8],
     ring: usize,
     memory: usize,
     common: usize,
+    reset: u32,
 ) -> u32
-    ensures { λ r. ⌜ SetsUp (now (engine .entry)) ring memory common r (now (engine .exit)) ⌝ }
+    ensures { λ r. ⌜ SetsUp (now (engine .entry)) ring memory common (ruleOf reset) r (now (engine .exit)) ⌝ }
 {
-    calls::set_up(engine, ring, memory, common)
+    calls::set_up(engine, ring, memory, common, ResetRule::from_number(reset))
 }
 
 // Opens a client with a window; answers its id.
@@ -166,7 +172,7 @@ pub extern "C" fn wenditsal_encode_tint(
 pub extern "C" fn wenditsal_compose(first: u32, second: u32) -> u32
     ensures { λ r. ⌜ r ≡ bitsOf (compose (settingOf first) (settingOf second)) ⌝ }
 {
-    transform::compose_bits(first, second)
+    compose::compose_bits(first, second)
 }
 
 // The setting that undoes one.
@@ -174,5 +180,5 @@ pub extern "C" fn wenditsal_compose(first: u32, second: u32) -> u32
 pub extern "C" fn wenditsal_inverse(setting: u32) -> u32
     ensures { λ r. ⌜ r ≡ bitsOf (inverse (settingOf setting)) ⌝ }
 {
-    transform::inverse_bits(setting)
+    compose::inverse_bits(setting)
 }

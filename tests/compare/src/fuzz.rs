@@ -9,6 +9,7 @@ use independent::engine::Numbers;
 use independent::made_tasks::steps;
 use independent::play::List;
 use independent::random::Random;
+use independent::registers::UNBLENDED;
 use independent::replay::{self, COMMON, MEMORY, RING, WINDOW};
 use independent::{replay_files, scripts};
 use std::time::{Duration, Instant};
@@ -89,7 +90,8 @@ fn noise(trials: &mut Trials, random: &mut Random, _: u64) -> Agreed {
         buffers.engine = vec![0; 272];
         let (ring, memory) = (buffers.ring.len() as u64 / 128 * 128, buffers.memory.len() as u64);
         buffers.ring.truncate(ring as usize);
-        trials.call(&Call::SetUp(Numbers { ring, memory, common: memory / 4 }), &mut buffers)?;
+        let numbers = Numbers { ring, memory, common: memory / 4 };
+        trials.call(&Call::SetUp(numbers, scripts::reset(random)), &mut buffers)?;
         trials.call(&Call::Open { start: memory as u32 / 2, length: memory as u32 / 4 }, &mut buffers)?;
     }
     for _ in 0..8 {
@@ -125,7 +127,8 @@ fn replay_file(trials: &mut Trials, random: &mut Random, round: u64) -> Agreed {
     let file = replay_files::file(random.word().into(), round);
     let (engine, ring, memory) = (vec![0; 272], vec![0; RING as usize], vec![0; MEMORY as usize]);
     let mut buffers = Buffers { engine, ring, memory };
-    trials.call(&Call::SetUp(Numbers { ring: RING, memory: MEMORY.into(), common: COMMON.into() }), &mut buffers)?;
+    let numbers = Numbers { ring: RING, memory: MEMORY.into(), common: COMMON.into() };
+    trials.call(&Call::SetUp(numbers, UNBLENDED), &mut buffers)?;
     for client in 0..4 {
         trials.call(&Call::Open { start: replay::window_start(client), length: WINDOW }, &mut buffers)?;
     }

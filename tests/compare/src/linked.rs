@@ -52,6 +52,7 @@ mod library {
             ring_length: usize,
             memory_length: usize,
             common_length: usize,
+            reset: u32,
             ring: *mut u8,
             ring_size: usize,
             memory: *mut u8,
@@ -62,7 +63,7 @@ mod library {
             answers_size: usize,
         ) -> usize;
 
-        pub fn wenditsal_set_up(engine: *mut u8, size: usize, ring: usize, memory: usize, common: usize) -> u32;
+        pub fn wenditsal_set_up(engine: *mut u8, size: usize, ring: usize, memory: usize, common: usize, reset: u32) -> u32;
 
         pub fn wenditsal_open(engine: *mut u8, size: usize, start: u32, length: u32, client: *mut u32) -> u32;
 
@@ -132,8 +133,8 @@ mod library {
     }
 
     missing! {
-        wenditsal_play(usize, usize, usize, *mut u8, usize, *mut u8, usize, *const u8, usize, *mut u8, usize) -> usize;
-        wenditsal_set_up(*mut u8, usize, usize, usize, usize) -> u32;
+        wenditsal_play(usize, usize, usize, u32, *mut u8, usize, *mut u8, usize, *const u8, usize, *mut u8, usize) -> usize;
+        wenditsal_set_up(*mut u8, usize, usize, usize, usize, u32) -> u32;
         wenditsal_open(*mut u8, usize, u32, u32, *mut u32) -> u32;
         wenditsal_submit(*mut u8, usize, *mut u8, usize, u32, *const u8, usize, *mut u32) -> u32;
         wenditsal_run(*mut u8, usize, *const u8, usize, *mut u8, usize, *mut u32) -> u32;
@@ -162,6 +163,7 @@ pub fn play(list: &List, guards: usize) -> Option<Played> {
             ring_length,
             memory_length,
             common_length,
+            list.reset,
             ring.pointer(),
             ring.length,
             memory.pointer(),
@@ -194,10 +196,10 @@ pub fn call(call: &Call, buffers: &mut Buffers, guards: usize) -> Option<Answer>
     // As above; a pointer without a size is good for as many words as the call answers.
     let number = unsafe {
         match *call {
-            Call::SetUp(numbers) => {
+            Call::SetUp(numbers, reset) => {
                 let [ring, memory, common] = lengths(&numbers);
                 handed_out.write(0);
-                library::wenditsal_set_up(record, size, ring, memory, common)
+                library::wenditsal_set_up(record, size, ring, memory, common, reset)
             }
             Call::Open { start, length } => library::wenditsal_open(record, size, start, length, handed_out),
             Call::Submit { client, batch } => {

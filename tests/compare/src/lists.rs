@@ -29,7 +29,8 @@ fn first_call(expected: &Played, found: &Played) -> Option<String> {
 /// The list in words, so that a difference can be looked into.
 pub fn described(list: &List) -> Vec<String> {
     let (ring, memory, answers) = (list.ring.len(), list.memory.len(), list.answers.len());
-    let mut lines = vec![format!("{:?}; lent: ring {ring}, memory {memory}, answers {answers}", list.numbers)];
+    let (numbers, reset) = (list.numbers, list.reset);
+    let mut lines = vec![format!("{numbers:?}, reset {reset}; lent: ring {ring}, memory {memory}, answers {answers}")];
     for (number, call) in Calls(&list.script).enumerate() {
         let call = match call {
             Call::Open { start, length } => format!("open {start} {length}"),

@@ -136,7 +136,7 @@ impl Trials {
 
 fn name(call: &Call) -> &'static str {
     match call {
-        Call::SetUp(_) => "set up",
+        Call::SetUp(..) => "set up",
         Call::Open { .. } => "open",
         Call::Submit { .. } => "submit",
         Call::Run => "run",

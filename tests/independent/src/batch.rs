@@ -1,4 +1,4 @@
-//! A batch read and judged (01, "Groups and registers" and "Faults of a taken batch"; 02, request 7). A batch is taken apart into groups
+//! A batch read and judged (01, "Groups and registers" and "Faults of a taken batch"; 02, requests 5 and 7). A batch is taken apart into groups
 //! first; the groups are then gone through in order.
 use crate::registers::{size, Bank, Refusal, Task};
 use crate::surface::{is_inside, Run, Surface};
@@ -36,11 +36,13 @@ pub struct Reading {
 }
 
 impl Reading {
-    /// Status, fault number and place as run answers them.
+    /// Status, fault number and place as run answers them. The upper half of the status is the number of tasks, before a fault too; the
+    /// finish bit is clear then (02, request 5).
     pub fn answer(&self) -> [u32; 3] {
+        let tasks = self.tasks.len() as u32 * 65536;
         match self.fault {
-            Some(fault) => [fault.status(), fault.number, fault.place],
-            None => [self.tasks.len() as u32 * 65536 + 1, 0, 0],
+            Some(fault) => [tasks + fault.status(), fault.number, fault.place],
+            None => [tasks + 1, 0, 0],
         }
     }
 
@@ -167,6 +169,7 @@ pub fn judge(task: &Task, bounds: &Bounds) -> Option<u32> {
 #[cfg(test)]
 mod tests {
     use super::*;
+    use crate::registers::UNBLENDED;
     use crate::writer::WORKED;
 
     /// The worked words are one task of a desk with this window.
@@ -176,21 +179,21 @@ mod tests {
 
     #[test]
     fn worked_words() {
-        assert_eq!(read(&WORKED, &bounds(), &Bank::reset()).answer(), [0x00010001, 0, 0]);
+        assert_eq!(read(&WORKED, &bounds(), &Bank::reset(UNBLENDED)).answer(), [0x00010001, 0, 0]);
         let mut words = WORKED;
         words[19] = 64;
-        assert_eq!(read(&words, &bounds(), &Bank::reset()).answer(), [0x00000002, 27, 72]);
+        assert_eq!(read(&words, &bounds(), &Bank::reset(UNBLENDED)).answer(), [0x00000002, 27, 72]);
     }
 
     #[test]
     fn three_tasks() {
         let words = [WORKED, WORKED, WORKED].concat();
-        assert_eq!(read(&words, &bounds(), &Bank::reset()).answer(), [0x00030001, 0, 0]);
+        assert_eq!(read(&words, &bounds(), &Bank::reset(UNBLENDED)).answer(), [0x00030001, 0, 0]);
     }
 
     #[test]
     fn half_written() {
-        assert_eq!(read(&WORKED[..18], &bounds(), &Bank::reset()).answer(), [0x00000100, 22, 56]);
-        assert_eq!(read(&WORKED[..19], &bounds(), &Bank::reset()).answer(), [0x00000100, 21, 72]);
+        assert_eq!(read(&WORKED[..18], &bounds(), &Bank::reset(UNBLENDED)).answer(), [0x00000100, 22, 56]);
+        assert_eq!(read(&WORKED[..19], &bounds(), &Bank::reset(UNBLENDED)).answer(), [0x00000100, 21, 72]);
     }
 }

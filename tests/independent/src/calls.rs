@@ -12,9 +12,10 @@ pub struct Buffers {
     pub memory: Vec<u8>,
 }
 
+/// Set up is handed the reset rule beside its numbers, as any number.
 #[derive(Clone, Copy, Debug)]
 pub enum Call<'a> {
-    SetUp(Numbers),
+    SetUp(Numbers, u32),
     Open { start: u32, length: u32 },
     Submit { client: u32, batch: &'a [u8] },
     Run,
@@ -44,8 +45,8 @@ impl Answer {
 
 /// One call on lent buffers.
 pub fn call(call: &Call, buffers: &mut Buffers) -> Answer {
-    if let Call::SetUp(numbers) = call {
-        return Answer::of_one(set_up(*numbers, &mut buffers.engine));
+    if let Call::SetUp(numbers, reset) = call {
+        return Answer::of_one(set_up(*numbers, *reset, &mut buffers.engine));
     }
     let Some(mut record) = record_bytes::read(&buffers.engine) else { return Answer::of(Err(11)) };
     let answer = on_record(call, &mut record, buffers);
@@ -56,17 +57,17 @@ pub fn call(call: &Call, buffers: &mut Buffers) -> Answer {
 }
 
 /// A buffer that no record fits in is refused first.
-fn set_up(numbers: Numbers, engine: &mut Vec<u8>) -> Result<u32, Refusal> {
+fn set_up(numbers: Numbers, reset: u32, engine: &mut Vec<u8>) -> Result<u32, Refusal> {
     if engine.len() != record_bytes::LENGTH {
         return Err(11);
     }
-    *engine = record_bytes::written(&queue::set_up(numbers)?);
+    *engine = record_bytes::written(&queue::set_up(numbers, reset)?);
     Ok(0)
 }
 
 fn on_record(call: &Call, record: &mut Record, buffers: &mut Buffers) -> Answer {
     match *call {
-        Call::SetUp(_) => unreachable!("set up reads no record"),
+        Call::SetUp(..) => unreachable!("set up reads no record"),
         Call::Open { start, length } => Answer::of_one(record.open(start, length)),
         Call::Submit { client, batch } => Answer::of_one(record.submit(&mut buffers.ring, client, batch)),
         Call::Pending { client } => Answer::of_one(record.pending(client)),
@@ -89,7 +90,7 @@ mod tests {
         let numbers = Numbers { ring: 128, memory: 256, common: 64 };
         let mut told = |asked: &Call| call(asked, &mut buffers);
         assert_eq!(told(&Call::Pending { client: 0 }).number, 11);
-        assert_eq!(told(&Call::SetUp(numbers)).number, 0);
+        assert_eq!(told(&Call::SetUp(numbers, 1)).number, 0);
         assert_eq!(told(&Call::Open { start: 64, length: 64 }), Answer { number: 0, values: [0; 5] });
         assert_eq!(told(&Call::Submit { client: 0, batch: &[9; 4] }).number, 0);
         assert_eq!(told(&Call::Pending { client: 0 }).values, [1, 0, 0, 0, 0]);
@@ -102,7 +103,7 @@ mod tests {
     fn lengths() {
         let mut short = Buffers { engine: vec![0; 271], ring: vec![], memory: vec![] };
         let numbers = Numbers { ring: 0, memory: 0, common: 0 };
-        assert_eq!(call(&Call::SetUp(numbers), &mut short).number, 11);
+        assert_eq!(call(&Call::SetUp(numbers, 1), &mut short).number, 11);
         assert_eq!(short.engine, vec![0; 271]);
     }
 }

@@ -4,6 +4,7 @@ use crate::engine::Numbers;
 use crate::pixel::FORMATS;
 use crate::play::{List, ANSWER};
 use crate::random::Random;
+use crate::registers::SRC_OVER;
 use crate::sample_tasks::{batch, copy, Place};
 use crate::transform::{moved, turned_size, Setting, Size};
 
@@ -85,7 +86,7 @@ impl Drawing {
         script.push(2);
         let mut random = Random::new(u64::from(bits(self.first) * 256 + bits(self.second)));
         let (ring, memory) = (vec![0; NUMBERS.ring as usize], random.bytes(NUMBERS.memory as usize));
-        List { numbers: NUMBERS, script, ring, memory, answers: vec![0; 4 * ANSWER] }
+        List { numbers: NUMBERS, reset: SRC_OVER, script, ring, memory, answers: vec![0; 4 * ANSWER] }
     }
 
     /// The pixels of a place in memory, as bytes, row by row.

@@ -40,10 +40,10 @@ fn field(word: &str) -> Option<u32> {
     Some((low..=high).map(|bit| 1 << bit).sum())
 }
 
-/// What was read: of registers offset, bits and reset value; of refusals number and calls.
+/// What was read: of registers offset, bits and reset values; of refusals number and calls.
 #[derive(Default)]
 struct Tables {
-    registers: Vec<(u32, u32, u32)>,
+    registers: Vec<(u32, u32, [u32; 2])>,
     blends: Vec<String>,
     faults: Vec<String>,
     refusals: Vec<(u32, String)>,
@@ -52,7 +52,7 @@ struct Tables {
 impl Tables {
     fn lines(mut self) -> Vec<String> {
         self.registers.sort_unstable();
-        let registers = self.registers.iter().map(|(offset, bits, reset)| register_line(*offset, *bits, *reset));
+        let registers = self.registers.iter().map(|(offset, bits, resets)| register_line(*offset, *bits, *resets));
         let refusals = CALLS.iter().map(|call| {
             let of_call = self.refusals.iter().filter(|(_, calls)| calls.split(", ").any(|other| other == *call));
             refusal_line(call, &of_call.map(|(number, _)| *number).collect::<Vec<u32>>())
@@ -70,8 +70,8 @@ pub fn manual(text: &str) -> Vec<String> {
         let cells: Vec<&str> = line.trim_matches('|').split('|').map(str::trim).collect();
         match (heading, cells.as_slice()) {
             ("Registers", [offset, _, allowed, reset]) => {
-                let numbers = number(offset).zip(number(reset));
-                tables.registers.extend(numbers.map(|(offset, reset)| (offset, bits(allowed), reset)));
+                let numbers = number(offset).zip(resets(reset));
+                tables.registers.extend(numbers.map(|(offset, resets)| (offset, bits(allowed), resets)));
             }
             ("Blend modes", [name, source, destination]) => {
                 let codes = source.parse().ok().zip(destination.parse().ok());
@@ -94,7 +94,7 @@ pub fn manual(text: &str) -> Vec<String> {
 pub fn header(text: &str) -> Vec<String> {
     let mut tables = Tables::default();
     let rows = rows(text);
-    let (mut title, mut reset) = ("", (0, 0));
+    let (mut title, mut reset) = ("", (0, [0; 2]));
     for row in &rows {
         title = row.strip_prefix("---- ").unwrap_or(title);
         reset = other_reset(row).unwrap_or(reset);
@@ -103,7 +103,7 @@ pub fn header(text: &str) -> Vec<String> {
         match (title, number(first.trim_matches(',')), columns.as_slice()) {
             ("Batches", Some(_), [_, allowed @ ..]) if first.starts_with("0x") => {
                 let named = row.split(' ').map(|word| word.trim_matches(',')).take_while(|word| word.starts_with("0x"));
-                let (allowed, of) = (bits(&allowed.join(" ")), |offset| if offset == reset.0 { reset.1 } else { 0 });
+                let (allowed, of) = (bits(&allowed.join(" ")), |offset| if offset == reset.0 { reset.1 } else { [0; 2] });
                 tables.registers.extend(named.filter_map(number).map(|offset| (offset, allowed, of(offset))));
             }
             ("Faults", Some(fault), [_, status, ..]) => {
@@ -116,10 +116,16 @@ pub fn header(text: &str) -> Vec<String> {
     tables.lines()
 }
 
-/// The one register whose reset value is not 0: "0 but OFFSET, which is VALUE".
-fn other_reset(row: &str) -> Option<(u32, u32)> {
+/// A reset value by either rule: "VALUE", or "NEW or OLD".
+fn resets(text: &str) -> Option<[u32; 2]> {
+    let (new, old) = text.split_once(" or ").unwrap_or((text, text));
+    number(new).zip(number(old)).map(|(new, old)| [new, old])
+}
+
+/// The one register whose reset value is not 0: "0 but OFFSET, which is NEW or OLD by".
+fn other_reset(row: &str) -> Option<(u32, [u32; 2])> {
     let (offset, rest) = row.split_once("0 but ")?.1.split_once(", which is ")?;
-    number(offset).zip(number(rest.split(',').next()?))
+    number(offset).zip(resets(rest.split_once(" by ")?.0))
 }
 
 /// The lines of the header's comments, with those that are indented further joined to the one before.

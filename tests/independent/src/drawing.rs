@@ -46,30 +46,45 @@ pub fn drawn(task: &Task, memory: &[u8]) -> Vec<u8> {
     after
 }
 
-/// Memory after a batch that was read: a faulty one draws nothing at all.
+/// Memory after a batch that was read: the tasks before a fault stand (02, request 5).
 pub fn drawn_reading(reading: &Reading, memory: &[u8]) -> Vec<u8> {
-    let tasks = if reading.fault.is_none() { &reading.tasks[..] } else { &[] };
-    tasks.iter().fold(memory.to_vec(), |memory, task| drawn(task, &memory))
+    reading.tasks.iter().fold(memory.to_vec(), |memory, task| drawn(task, &memory))
 }
 
-/// Memory after a batch. Status, fault and place beside it.
-pub fn drawn_batch(words: &[u32], bounds: &Bounds, memory: &[u8]) -> ([u32; 3], Vec<u8>) {
-    let reading = batch::read(words, bounds, &Bank::reset());
+/// Memory after a batch, by a reset rule. Status, fault and place beside it.
+pub fn drawn_batch(words: &[u32], bounds: &Bounds, reset: u32, memory: &[u8]) -> ([u32; 3], Vec<u8>) {
+    let reading = batch::read(words, bounds, &Bank::reset(reset));
     (reading.answer(), drawn_reading(&reading, memory))
 }
 
 #[cfg(test)]
 mod tests {
     use super::*;
+    use crate::registers::UNBLENDED;
     use crate::writer::WORKED;
 
     /// The worked words fill two pixels of half-clear red.
     #[test]
     fn worked_words() {
         let bounds = Bounds { window: 16384..28672, common: 16384 };
-        let (answer, memory) = drawn_batch(&WORKED, &bounds, &[0; 65536]);
+        let (answer, memory) = drawn_batch(&WORKED, &bounds, UNBLENDED, &[0; 65536]);
         assert_eq!(answer, [0x00010001, 0, 0]);
         assert_eq!(memory[16383..16393], [0, 0, 0, 255, 128, 0, 0, 255, 128, 0]);
         assert_eq!(memory.iter().filter(|byte| **byte != 0).count(), 4);
+    }
+
+    /// 02, request 5: two good tasks, then 23; and 21 after two good tasks. What they drew stands, and nothing after the fault is drawn.
+    #[test]
+    fn tasks_before_a_fault_stand() {
+        let bounds = Bounds { window: 16384..28672, common: 16384 };
+        let words = |last: &[u32]| [&WORKED[..], &[0x0110_0005, 0x5000], last].concat();
+        let after = |last: &[u32]| drawn_batch(&words(last), &bounds, UNBLENDED, &[0; 65536]);
+        let (answer, memory) = after(&[0x0024_0005, 0, 0x0110_0005, 0x6000]);
+        assert_eq!(answer, [0x00020002, 23, 92]);
+        assert_eq!(
+            [&memory[16384..16388], &memory[0x5000..0x5004], &memory[0x6000..0x6004]].concat(),
+            [0, 0, 255, 128, 0, 0, 255, 128, 0, 0, 0, 0]
+        );
+        assert_eq!(after(&[0x0010_0014]).0, [0x00020100, 21, 88]);
     }
 }

@@ -51,6 +51,8 @@ pub struct Completion {
 #[derive(Clone)]
 pub struct Book {
     numbers: Numbers,
+    /// The reset rule.
+    reset: u32,
     /// The length of the ring that is lent with each call.
     lent_ring: u64,
     windows: Vec<Run>,
@@ -62,12 +64,13 @@ pub struct Book {
 }
 
 impl Book {
-    pub fn set_up(numbers: Numbers, lent_ring: usize, memory: &[u8]) -> Result<Self, Refusal> {
+    pub fn set_up(numbers: Numbers, reset: u32, lent_ring: usize, memory: &[u8]) -> Result<Self, Refusal> {
         if let Some(number) = numbers.refusal() {
             return Err(number);
         }
         let (windows, waiting, asked) = (Vec::new(), VecDeque::new(), Vec::new());
-        Ok(Book { numbers, lent_ring: lent_ring as u64, windows, waiting, accepted: 0, memory: memory.to_vec(), asked })
+        let (lent_ring, memory) = (lent_ring as u64, memory.to_vec());
+        Ok(Book { numbers, reset, lent_ring, windows, waiting, accepted: 0, memory, asked })
     }
 
     /// The windows in the order of opening.
@@ -129,7 +132,7 @@ impl Book {
         }
         let Waiting { client, ticket, bytes } = self.waiting.pop_front().ok_or(9u32)?;
         let words = ring::words(&bytes, 0, bytes.len() as u64);
-        let reading = batch::read(&words, &self.bounds(client as usize), &Bank::reset());
+        let reading = batch::read(&words, &self.bounds(client as usize), &Bank::reset(self.reset));
         let [status, fault, place] = reading.answer();
         self.memory = drawing::drawn_reading(&reading, &self.memory);
         self.asked.extend(reading.asked());
@@ -178,19 +181,20 @@ impl RingBytes {
 #[cfg(test)]
 mod tests {
     use super::*;
+    use crate::registers::{SRC_OVER, UNBLENDED};
     use crate::words::bytes;
     use crate::writer::WORKED;
 
-    fn book() -> Book {
+    fn book(reset: u32) -> Book {
         let numbers = Numbers { ring: 128, memory: 65536, common: 16384 };
-        let mut book = Book::set_up(numbers, 128, &[0; 65536]).ok().unwrap();
+        let mut book = Book::set_up(numbers, reset, 128, &[0; 65536]).ok().unwrap();
         assert_eq!(book.open(16384, 12288), Ok(0));
         book
     }
 
     #[test]
     fn refusals() {
-        let mut book = book();
+        let mut book = book(UNBLENDED);
         assert_eq!([book.open(16383, 1), book.open(28671, 9), book.open(65536, 1), book.open(50000, 0)], [Err(4); 4]);
         assert_eq!([book.submit(1, &[]), book.submit(0, &[]), book.submit(0, &[0; 6])], [Err(5), Err(6), Err(6)]);
         assert_eq!(book.run(), Err(9));
@@ -200,11 +204,27 @@ mod tests {
 
     #[test]
     fn worked_words() {
-        let mut book = book();
+        let mut book = book(UNBLENDED);
         assert_eq!(book.submit(0, &bytes(&WORKED)), Ok(0));
         assert_eq!(book.run(), Ok(Completion { client: 0, ticket: 0, status: 0x00010001, fault: 0, place: 0 }));
         assert_eq!(book.memory[16384..16388], [0, 0, 255, 128]);
         assert_eq!(book.pending(0), Ok(0));
+    }
+
+    /// The worked words without 0x050, 0x060 and 0x090: drawn as they are by the old rule, 25 by the new one. What a batch writes to 0x090
+    /// holds for that batch alone.
+    #[test]
+    fn by_either_rule() {
+        let silent = bytes(&[&WORKED[..6], &WORKED[14..]].concat());
+        let off = bytes(&[&WORKED[..6], &WORKED[12..]].concat());
+        for (rule, first) in [(UNBLENDED, (0x00010001, 0, 0)), (SRC_OVER, (2, 25, 40)), (7, (2, 25, 40))] {
+            let mut book = book(rule);
+            let told = [&silent, &off, &silent].map(|batch| {
+                book.submit(0, batch).unwrap();
+                book.run().map(|done| (done.status, done.fault, done.place)).unwrap()
+            });
+            assert_eq!(told, [first, (0x00010001, 0, 0), first]);
+        }
     }
 
     /// R1 of 01: ring 128, offset 120, length 24.

@@ -2,7 +2,7 @@
 use crate::batch::Bounds;
 use crate::made_tasks::{broken, good, steps, Fields};
 use crate::random::Random;
-use crate::registers::{offsets, Bank, Refusal};
+use crate::registers::{offsets, Bank, Refusal, UNBLENDED};
 use crate::ring;
 use crate::words::bytes;
 use crate::writer::{registers, shaded_registers, shaded_written, written, SHADED_GROUPS};
@@ -30,16 +30,16 @@ pub fn difference(before: &Bank, after: &Bank) -> Vec<u32> {
     words
 }
 
-/// Tasks as one batch, each written whole or only where it differs from what the registers hold. It ends before a task
+/// Tasks as one batch for a reset rule, each written whole or only where it differs from what the registers hold. It ends before a task
 /// that would make it longer than `room` words, but has the first.
-fn joined(random: &mut Random, tasks: &[Fields], room: usize) -> Vec<u32> {
-    let mut bank = Bank::reset();
+fn joined(random: &mut Random, tasks: &[Fields], room: usize, reset: u32) -> Vec<u32> {
+    let mut bank = Bank::reset(reset);
     let mut words = Vec::new();
     for fields in tasks {
         // in the first form the steps stay what they are
         let kept = bank.task().steps;
         let steps = if random.one_in(2) { kept } else { steps(random) };
-        let after = shaded_registers(fields, &steps).unwrap_or_else(Bank::reset);
+        let after = shaded_registers(fields, &steps).unwrap_or_else(|| Bank::reset(reset));
         let mut task = difference(&bank, &after);
         if words.len() + WHOLE <= room && random.one_in(3) {
             let first = steps == kept && random.one_in(2);
@@ -105,7 +105,7 @@ fn spoil_word(random: &mut Random, words: &mut [u32], at: usize) {
         let k = random.below(count);
         let word = if random.one_in(4) { random.word() } else { words[at + 1 + k as usize] ^ 1 << random.below(32) };
         let offset = (words[at] >> 16) + 4 * k;
-        if Bank::reset().write(offset, word) == Err(Refusal::Word) {
+        if Bank::reset(UNBLENDED).write(offset, word) == Err(Refusal::Word) {
             words[at + 1 + k as usize] = word;
             return;
         }
@@ -113,19 +113,19 @@ fn spoil_word(random: &mut Random, words: &mut [u32], at: usize) {
 }
 
 /// A batch of a few good tasks, the last of which may be made to break a rule.
-fn tasks(random: &mut Random, bounds: &Bounds, room: usize, fault: Option<u32>) -> Vec<u32> {
+fn tasks(random: &mut Random, bounds: &Bounds, room: usize, fault: Option<u32>, reset: u32) -> Vec<u32> {
     let most = random.pick(&[1, 1, 2, 3, 6]);
     let mut tasks: Vec<Fields> = (0..1 + random.below(most)).map(|_| good(random, bounds)).collect();
     if let Some(fault) = fault {
         let at = random.below(tasks.len() as u32) as usize;
         tasks[at] = broken(random, bounds, fault);
     }
-    joined(random, &tasks, room)
+    joined(random, &tasks, room, reset)
 }
 
 /// Groups that write only a few registers of a good task: what an earlier batch left must not make it whole.
 fn few(random: &mut Random, bounds: &Bounds) -> Vec<u32> {
-    let bank = registers(&good(random, bounds)).unwrap_or_else(Bank::reset);
+    let bank = registers(&good(random, bounds)).unwrap_or_else(|| Bank::reset(UNBLENDED));
     let mut words = Vec::new();
     let count = 1 + random.below(4);
     for k in 0..count {
@@ -135,8 +135,8 @@ fn few(random: &mut Random, bounds: &Bounds) -> Vec<u32> {
     words
 }
 
-fn damaged(random: &mut Random, bounds: &Bounds, room: usize) -> Vec<u32> {
-    let mut words = tasks(random, bounds, room, None);
+fn damaged(random: &mut Random, bounds: &Bounds, room: usize, reset: u32) -> Vec<u32> {
+    let mut words = tasks(random, bounds, room, None, reset);
     for _ in 0..1 + random.below(4) {
         let at = random.below(words.len() as u32) as usize;
         words[at] = if random.one_in(4) { random.word() } else { words[at] ^ 1 << random.below(32) };
@@ -150,23 +150,23 @@ fn noise(random: &mut Random, room: usize) -> Vec<u32> {
     (0..count).map(|_| if random.one_in(2) { random.word() } else { header(random) }).collect()
 }
 
-/// A batch for a client, mostly of at most `room` bytes.
-pub fn batch(random: &mut Random, bounds: &Bounds, room: usize) -> Vec<u8> {
+/// A batch for a client, mostly of at most `room` bytes, made for a reset rule.
+pub fn batch(random: &mut Random, bounds: &Bounds, room: usize, reset: u32) -> Vec<u8> {
     let room = (room / 4).max(1);
     let words = match random.below(32) {
-        0..=14 => tasks(random, bounds, room, None),
+        0..=14 => tasks(random, bounds, room, None, reset),
         15..=19 => {
-            let mut words = tasks(random, bounds, room, None);
+            let mut words = tasks(random, bounds, room, None, reset);
             let fault = 20 + random.below(5);
             spoil(random, &mut words, fault);
             words
         }
         20..=25 => {
             let fault = 25 + random.below(4);
-            tasks(random, bounds, room, Some(fault))
+            tasks(random, bounds, room, Some(fault), reset)
         }
         26..=28 => few(random, bounds),
-        29..=30 => damaged(random, bounds, room),
+        29..=30 => damaged(random, bounds, room, reset),
         _ => noise(random, room),
     };
     bytes(&words)

@@ -6,6 +6,7 @@ use crate::engine::Numbers;
 use crate::made_batches;
 use crate::play::{Call, Calls, List, Played, ANSWER};
 use crate::random::Random;
+use crate::scripts;
 use crate::words::read_le32;
 use std::collections::VecDeque;
 use std::ops::Range;
@@ -104,23 +105,23 @@ fn numbers(random: &mut Random) -> Numbers {
 }
 
 /// Up to four clients. Their windows touch one another or leave a gap; batches are good, faulty, damaged or noise.
-fn clients(random: &mut Random, numbers: &Numbers) -> Vec<Client> {
+fn clients(random: &mut Random, numbers: &Numbers, reset: u32) -> Vec<Client> {
     let count = random.pick(&[2, 2, 3, 3, 4, 4, 4, 1]);
     let share = (numbers.memory - numbers.common) as u32 / count;
     let client = |id: u32, random: &mut Random| {
         let start = numbers.common as u32 + id * share;
         let window = start..start + share - random.pick(&[0, 0, 1, share / 4]);
         let bounds = Bounds { window: window.start.into()..window.end.into(), common: numbers.common };
-        let batches = (0..random.below(6)).map(|_| batch(random, &bounds, numbers.ring as usize)).collect();
+        let batches = (0..random.below(6)).map(|_| batch(random, &bounds, numbers.ring as usize, reset)).collect();
         Client { window, batches }
     };
     (0..count).map(|id| client(id, random)).collect()
 }
 
 /// A batch of a length that is accepted.
-fn batch(random: &mut Random, bounds: &Bounds, ring: usize) -> Vec<u8> {
+fn batch(random: &mut Random, bounds: &Bounds, ring: usize, reset: u32) -> Vec<u8> {
     let room = ring / random.pick(&[1, 2, 3]);
-    let mut batch = made_batches::batch(random, bounds, room);
+    let mut batch = made_batches::batch(random, bounds, room, reset);
     batch.truncate(ring);
     if batch.is_empty() {
         batch.extend([0; 4]);
@@ -132,12 +133,13 @@ fn batch(random: &mut Random, bounds: &Bounds, ring: usize) -> Vec<u8> {
 pub fn pair(seed: u64, number: u64) -> [List; 2] {
     let random = &mut Random::of_case(seed, number);
     let numbers = numbers(random);
-    let clients = clients(random, &numbers);
+    let reset = scripts::reset(random);
+    let clients = clients(random, &numbers, reset);
     let (ring, memory) = (random.bytes(numbers.ring as usize), random.bytes(numbers.memory as usize));
     [(), ()].map(|_| {
         let Script { bytes, calls, .. } = script(random, &clients, numbers.ring as usize);
         let answers = random.bytes(ANSWER * (calls + 1));
-        List { numbers, script: bytes, ring: ring.clone(), memory: memory.clone(), answers }
+        List { numbers, reset, script: bytes, ring: ring.clone(), memory: memory.clone(), answers }
     })
 }
 

@@ -3,6 +3,7 @@
 use crate::engine::Numbers;
 use crate::made_tasks::{Fields, DESTINATION};
 use crate::play::{List, ANSWER};
+use crate::registers::SRC_OVER;
 use crate::sample_tasks::{batch, blended, copy, fill, set, Place, ARGB8888, RGB565, RGB888};
 
 const NUMBERS: Numbers = Numbers { ring: 128, memory: 1024, common: 64 };
@@ -42,7 +43,7 @@ impl Pair {
         }
         let bytes = |count: u64| (0..count).map(|i| (i * 37 + i / 11) as u8).collect();
         let answers = vec![0; ANSWER * (2 + 2 * places.len())];
-        List { numbers: NUMBERS, script, ring: bytes(NUMBERS.ring), memory: bytes(NUMBERS.memory), answers }
+        List { numbers: NUMBERS, reset: SRC_OVER, script, ring: bytes(NUMBERS.ring), memory: bytes(NUMBERS.memory), answers }
     }
 }
 

@@ -50,6 +50,8 @@ impl<'a> Iterator for Calls<'a> {
 #[derive(Clone)]
 pub struct List {
     pub numbers: Numbers,
+    /// The reset rule, as any number.
+    pub reset: u32,
     pub script: Vec<u8>,
     pub ring: Vec<u8>,
     pub memory: Vec<u8>,
@@ -112,7 +114,7 @@ pub fn play(list: &List) -> Played {
     if !played.has_room() {
         return played;
     }
-    let set_up = Book::set_up(list.numbers, list.ring.len(), &list.memory);
+    let set_up = Book::set_up(list.numbers, list.reset, list.ring.len(), &list.memory);
     played.answer(set_up.as_ref().map(|_| [0; 5]).map_err(|number| *number));
     let Ok(mut book) = set_up else { return played };
     let mut ring = RingBytes::new(&list.ring);
@@ -131,10 +133,12 @@ pub fn play(list: &List) -> Played {
 #[cfg(test)]
 mod tests {
     use super::*;
+    use crate::registers::SRC_OVER;
 
     fn list(script: &[u8], room: usize) -> List {
         let numbers = Numbers { ring: 128, memory: 256, common: 64 };
-        List { numbers, script: script.to_vec(), ring: vec![1; 128], memory: vec![2; 256], answers: vec![7; room] }
+        let (script, answers) = (script.to_vec(), vec![7; room]);
+        List { numbers, reset: SRC_OVER, script, ring: vec![1; 128], memory: vec![2; 256], answers }
     }
 
     #[test]

@@ -2,7 +2,7 @@
 //! that says of each byte who drew it last.
 use crate::batch::{self, Reading};
 use crate::engine::Book;
-use crate::registers::{Bank, Task};
+use crate::registers::{Bank, Task, UNBLENDED};
 use crate::replay::{opened, records, Record, MEMORY};
 use crate::ring;
 use std::collections::BTreeMap;
@@ -67,10 +67,9 @@ impl Answers {
         let done = book.run().expect("a batch to run");
         self.tickets += 1;
         let words = ring::words(record.batch, 0, record.batch.len() as u64);
-        let reading = batch::read(&words, &book.bounds(done.client as usize), &Bank::reset());
-        if done.fault == 0 {
-            self.draw(done.ticket, &reading);
-        } else {
+        let reading = batch::read(&words, &book.bounds(done.client as usize), &Bank::reset(UNBLENDED));
+        self.draw(done.ticket, &reading);
+        if done.fault != 0 {
             self.faults.insert(done.ticket, explained(&words, &reading, done.fault, done.place));
         }
     }
@@ -147,7 +146,8 @@ mod tests {
         assert_eq!(answers.fault(0), "24 4 00000007 010 00000000");
         assert_eq!(answers.fault(1), "24 84 00000007 010 00000005");
         assert_eq!(answers.fault(2), "24 8 FFFFFFFF 054 00000000");
-        assert_eq!(answers.touched(16384), "not drawn");
+        // the task before the fault stands, so ticket 1 answers both questions (02, request 5)
+        assert_eq!(answers.touched(16384), "1 0 1");
     }
 
     #[test]

@@ -2,6 +2,7 @@
 use crate::batch::Bounds;
 use crate::drawing;
 use crate::engine::{Completion, Numbers, Refusal};
+use crate::registers::{SRC_OVER, UNBLENDED};
 use crate::ring;
 use crate::surface::{run, shares, Run};
 
@@ -26,6 +27,8 @@ pub struct Ready {
 #[derive(Clone, Debug, PartialEq)]
 pub struct Record {
     pub numbers: Numbers,
+    /// The reset rule's own number.
+    pub reset: u32,
     pub clients: [Client; PLACES],
     pub open: u64,
     pub slots: [Option<Ready>; SLOTS],
@@ -34,12 +37,13 @@ pub struct Record {
 }
 
 /// The record of an accepted set up.
-pub fn set_up(numbers: Numbers) -> Result<Record, Refusal> {
+pub fn set_up(numbers: Numbers, reset: u32) -> Result<Record, Refusal> {
     if let Some(number) = numbers.refusal() {
         return Err(number);
     }
     let clients = [Client::default(); PLACES];
-    Ok(Record { numbers, clients, open: 0, slots: [None; SLOTS], read: 0, next: 0 })
+    let reset = if reset == UNBLENDED { UNBLENDED } else { SRC_OVER };
+    Ok(Record { numbers, reset, clients, open: 0, slots: [None; SLOTS], read: 0, next: 0 })
 }
 
 /// 6.
@@ -174,7 +178,8 @@ impl Record {
         }
         let Ready { client, ticket, offset, length } = self.take_oldest().ok_or(9u32)?;
         let bounds = Bounds { window: self.window(client as usize), common: self.numbers.common };
-        let ([status, fault, place], after) = drawing::drawn_batch(&ring::words(lent, offset, length), &bounds, memory);
+        let words = ring::words(lent, offset, length);
+        let ([status, fault, place], after) = drawing::drawn_batch(&words, &bounds, self.reset, memory);
         *memory = after;
         Ok(Completion { client, ticket, status, fault, place })
     }
@@ -195,7 +200,7 @@ mod tests {
     use super::*;
 
     fn record() -> Record {
-        let mut record = set_up(Numbers { ring: 128, memory: 1024, common: 256 }).unwrap();
+        let mut record = set_up(Numbers { ring: 128, memory: 1024, common: 256 }, SRC_OVER).unwrap();
         assert_eq!(record.open(256, 256), Ok(0));
         assert_eq!(record.open(512, 512), Ok(1));
         record
@@ -207,8 +212,8 @@ mod tests {
         assert_eq!(record.open(255, 1), Err(4));
         assert_eq!(record.open(1024, 1), Err(4));
         assert_eq!(record.open(1000, 0), Err(4));
-        assert_eq!(set_up(Numbers { ring: 100, memory: 0, common: 1 }), Err(1));
-        assert_eq!(set_up(Numbers { ring: 128, memory: 0, common: 1 }), Err(2));
+        assert_eq!(set_up(Numbers { ring: 100, memory: 0, common: 1 }, SRC_OVER), Err(1));
+        assert_eq!(set_up(Numbers { ring: 128, memory: 0, common: 1 }, SRC_OVER), Err(2));
     }
 
     #[test]

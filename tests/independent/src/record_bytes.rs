@@ -1,6 +1,7 @@
 //! The engine record as bytes, from the header's words: 68 words of 32 bits, low byte first.
 use crate::engine::Numbers;
 use crate::queue::{Client, Ready, Record};
+use crate::registers::{SRC_OVER, UNBLENDED};
 use crate::words::read_le32;
 
 /// Bytes of a record.
@@ -14,8 +15,11 @@ const CLIENT: usize = 4;
 const SLOTS: usize = 24;
 const SLOT: usize = 5;
 
+/// The word of the reset rule.
+const RESET: usize = 3;
+
 /// Words that must be zero: in the head, at the end of each client, and after the slots.
-const ZERO: [usize; 10] = [3, 7, 11, 15, 19, 23, 64, 65, 66, 67];
+const ZERO: [usize; 9] = [7, 11, 15, 19, 23, 64, 65, 66, 67];
 
 /// The record that bytes stand for, if they are one, valid or not.
 pub fn read(bytes: &[u8]) -> Option<Record> {
@@ -23,7 +27,8 @@ pub fn read(bytes: &[u8]) -> Option<Record> {
         return None;
     }
     let word = |at: usize| read_le32(bytes, 4 * at).expect("one of the 68 words");
-    if ZERO.iter().any(|at| word(*at) != 0) {
+    let reset = word(RESET);
+    if ZERO.iter().any(|at| word(*at) != 0) || !matches!(reset, UNBLENDED | SRC_OVER) {
         return None;
     }
     let mut slots = [None; 8];
@@ -36,7 +41,7 @@ pub fn read(bytes: &[u8]) -> Option<Record> {
     };
     let [ring, memory, common, open, read] = [0, 1, 2, 4, 5].map(|at| u64::from(word(at)));
     let numbers = Numbers { ring, memory, common };
-    Some(Record { numbers, clients: std::array::from_fn(client), open, slots, read, next: word(6) })
+    Some(Record { numbers, reset, clients: std::array::from_fn(client), open, slots, read, next: word(6) })
 }
 
 /// A slot of its five words: 1 and its batch if it is ready, all zero if it is free. Nothing if they are neither.
@@ -54,7 +59,8 @@ fn read_slot(words: [u32; SLOT]) -> Option<Option<Ready>> {
 pub fn written(record: &Record) -> Vec<u8> {
     let word = |n: u64| u32::try_from(n).expect("a number of 32 bits");
     let Numbers { ring, memory, common } = record.numbers;
-    let mut words = vec![word(ring), word(memory), word(common), 0, word(record.open), word(record.read), record.next, 0];
+    let lengths = [word(ring), word(memory), word(common)];
+    let mut words = [&lengths[..], &[record.reset, word(record.open), word(record.read), record.next, 0]].concat();
     words.extend(record.clients.iter().flat_map(|client| [client.start, client.length, client.pending, 0]));
     for slot in &record.slots {
         words.extend(
@@ -73,7 +79,7 @@ mod tests {
     use crate::queue::set_up;
 
     fn record() -> Record {
-        let mut record = set_up(Numbers { ring: 256, memory: 4096, common: 1024 }).unwrap();
+        let mut record = set_up(Numbers { ring: 256, memory: 4096, common: 1024 }, 5).unwrap();
         record.open(1024, 100).unwrap();
         record.open(2000, 8).unwrap();
         record.submit(&mut vec![0; 256], 1, &[1; 12]).unwrap();
@@ -85,13 +91,13 @@ mod tests {
         let bytes = written(&record());
         assert_eq!(bytes.len(), LENGTH);
         assert_eq!(read(&bytes), Some(record()));
-        assert_eq!((bytes[1], bytes[4 * 12], bytes[4 * 24], bytes[4 * 28]), (1, 208, 1, 12));
+        assert_eq!((bytes[1], bytes[4 * RESET], bytes[4 * 12], bytes[4 * 24], bytes[4 * 28]), (1, 1, 208, 1, 12));
     }
 
-    /// Words that must be zero, a tag that is none, a number in a free slot, another length.
+    /// Words that must be zero, a third reset rule, a tag that is none, a number in a free slot, another length.
     #[test]
     fn no_record() {
-        for at in ZERO.into_iter().chain([29, 30, 33]) {
+        for at in ZERO.into_iter().chain([RESET, 29, 30, 33]) {
             let mut bytes = written(&record());
             bytes[4 * at] = 2;
             assert_eq!(read(&bytes), None);

@@ -62,14 +62,18 @@ pub enum Refusal {
     Word,
 }
 
+/// The two reset rules as numbers (02, request 2). Every other number stands for the second.
+pub const UNBLENDED: u32 = 0;
+pub const SRC_OVER: u32 = 1;
+
 /// The registers' words by their offsets. What is not there is 0.
 #[derive(Clone, Debug, PartialEq)]
 pub struct Bank(BTreeMap<u32, u32>);
 
 impl Bank {
-    /// Reset is 0, but 0x090 resets to 0x00001300.
-    pub fn reset() -> Self {
-        Bank(BTreeMap::from([(0x090, 0x0000_1300)]))
+    /// Reset is 0, but 0x090 resets to 0x00001300 by the old rule, and to 0x00000B01 by the new one.
+    pub fn reset(rule: u32) -> Self {
+        Bank(BTreeMap::from([(0x090, if rule == UNBLENDED { 0x0000_1300 } else { 0x0000_0B01 })]))
     }
 
     pub fn word(&self, offset: u32) -> u32 {
@@ -163,16 +167,17 @@ mod tests {
 
     #[test]
     fn words_are_refused() {
-        let mut bank = Bank::reset();
+        let mut bank = Bank::reset(UNBLENDED);
         assert_eq!(bank.write(0x024, 0), Err(Refusal::Offset));
         assert_eq!(bank.write(0x040, 0), Err(Refusal::Offset));
         assert_eq!(bank.write(0x030, 0x0200_0000), Err(Refusal::Word));
         assert_eq!(bank.write(0x014, 0x2000), Err(Refusal::Word));
         assert_eq!(bank.write(0x100, 0x100), Err(Refusal::Word));
         assert_eq!(bank.write(0x090, 0x3000), Err(Refusal::Word));
-        assert_eq!(bank, Bank::reset());
+        assert_eq!(bank, Bank::reset(UNBLENDED));
         assert_eq!(bank.write(0x090, 0x0B01), Ok(()));
         assert!(bank.task().blend && bank.task().factors == (1, 3));
+        assert_eq!([bank.clone(), bank], [Bank::reset(SRC_OVER), Bank::reset(u32::MAX)]);
     }
 
     #[test]

@@ -1,5 +1,6 @@
 //! Replay files (01, "Writer and replay"): read as records first, then played on an engine of fixed numbers, one line each.
 use crate::engine::{Book, Numbers};
+use crate::registers::UNBLENDED;
 use crate::words::read_be32;
 
 pub const RING: u64 = 32768;
@@ -34,10 +35,10 @@ pub fn records(file: &[u8]) -> (Vec<Record<'_>>, Option<&'static str>) {
     (records, None)
 }
 
-/// The engine that a file is played on.
+/// The engine that a file is played on, with the old reset rule.
 pub fn opened() -> Book {
     let numbers = Numbers { ring: RING, memory: MEMORY.into(), common: COMMON.into() };
-    let mut book = Book::set_up(numbers, RING as usize, &[0; MEMORY as usize]).ok().expect("allowed numbers");
+    let mut book = Book::set_up(numbers, UNBLENDED, RING as usize, &[0; MEMORY as usize]).ok().expect("allowed numbers");
     for client in 0..4 {
         book.open(window_start(client), WINDOW).expect("an allowed window");
     }

@@ -2,6 +2,7 @@
 use crate::batch::Bounds;
 use crate::made_batches;
 use crate::random::Random;
+use crate::registers::UNBLENDED;
 use crate::replay::{record, window_start, COMMON, WINDOW};
 
 /// What a client of the replay program may touch, or a part of it, so that its tasks meet one another.
@@ -18,7 +19,7 @@ fn bounds(random: &mut Random, client: u32) -> Bounds {
 /// A batch of the longest allowed length, or near it: tasks again and again, and what is left over.
 fn long(random: &mut Random, bounds: &Bounds) -> Vec<u8> {
     let length = 32768 - random.pick(&[0, 0, 4, 128]);
-    let batch = made_batches::batch(random, bounds, 200);
+    let batch = made_batches::batch(random, bounds, 200, UNBLENDED);
     let mut bytes = batch.repeat(length / batch.len());
     if random.one_in(2) {
         bytes.resize(length, 0);
@@ -29,7 +30,8 @@ fn long(random: &mut Random, bounds: &Bounds) -> Vec<u8> {
 fn random_record(random: &mut Random) -> Vec<u8> {
     let client = random.below(4);
     let bounds = bounds(random, client);
-    let mut batch = if random.one_in(48) { long(random, &bounds) } else { made_batches::batch(random, &bounds, 400) };
+    let mut batch =
+        if random.one_in(48) { long(random, &bounds) } else { made_batches::batch(random, &bounds, 400, UNBLENDED) };
     match random.below(24) {
         0 => batch.clear(),
         1 => batch.truncate(batch.len() - 1 - random.below(3) as usize),

@@ -2,7 +2,7 @@
 use crate::made_batches::difference;
 use crate::made_tasks::Fields;
 use crate::pixel::RULES;
-use crate::registers::Bank;
+use crate::registers::{Bank, UNBLENDED};
 use crate::replay::{record, window_start};
 use crate::sample_tasks::{batch, blended, copy, file, fill, Place, ARGB8888, RGB565, RGB888};
 use crate::words::bytes;
@@ -90,7 +90,7 @@ pub fn four_clients() -> Vec<u8> {
 /// The words that take the registers from reset to a task's, or from one task's to the next one's.
 fn change(before: Option<&Fields>, after: &Fields) -> Vec<u32> {
     let bank = |fields: &Fields| registers(fields).expect("allowed fields");
-    difference(&before.map_or_else(Bank::reset, bank), &bank(after))
+    difference(&before.map_or_else(|| Bank::reset(UNBLENDED), bank), &bank(after))
 }
 
 pub fn left_over() -> Vec<u8> {
@@ -131,11 +131,16 @@ pub fn cut() -> Vec<u8> {
     whole[..whole.len() - 7].to_vec()
 }
 
-/// A good task and then one that reaches past the window: neither is drawn.
-pub fn judged_first() -> Vec<u8> {
+/// Two good tasks and then 23; two and then 21; one, one that reaches past the window, and one after that.
+pub fn before_a_fault() -> Vec<u8> {
     let sheet = sheet(16, 8);
     let beyond = Place { address: window_start(1) - 4, ..sheet };
-    file(&[(0, batch(&[fill(sheet, 0xFFE0_4040), fill(beyond, 0xFF40_40E0)]))])
+    let then = |tasks: &[Fields], words: &[u32]| (0, [batch(tasks), bytes(words)].concat());
+    file(&[
+        then(&[fill(sheet, 0xFFE0_4040), fill(sheet.part(4, 2, 8, 4), 0xFF40_E040)], &[0x0024_0005, 0]),
+        then(&[fill(sheet.part(0, 0, 2, 8), 0xFF40_40E0), fill(sheet.part(14, 0, 2, 8), 0xFF40_40E0)], &[0x0010_0014]),
+        then(&[fill(sheet.part(6, 3, 4, 2), 0xFFE0_E040), fill(beyond, 0xFF00_0000), fill(sheet, 0xFF00_0000)], &[]),
+    ])
 }
 
 /// Two batches of 20,000 bytes in a ring of 32,768: the second goes on at byte 0. Each task sets a pixel of its own.

@@ -51,10 +51,10 @@ pub const SAMPLES: [Sample; 20] = [
         "registers start at reset in every batch, and stay from task to task",
     ),
     sample(
-        "judged_first",
+        "before_a_fault",
         &["16384 64 16 8 ARGB8888"],
-        files::judged_first,
-        "a good task before a faulty one: the whole batch is judged first, so nothing is drawn",
+        files::before_a_fault,
+        "two good tasks and then 23, two and then 21, one before a faulty one: the tasks before a fault stand, and those after it are not drawn",
     ),
     sample(
         "wrapped",
@@ -150,7 +150,7 @@ mod tests {
 
     #[test]
     fn faultless() {
-        assert_eq!(lines("judged_first"), "0 0 00000002 27 152\n");
+        assert_eq!(lines("before_a_fault"), "0 0 00020002 23 164\n0 1 00020100 21 160\n0 2 00010002 27 152\n");
         for name in ["hello", "wrapped", "blend", "rules", "turn", "formats", "page", "scores", "margins"] {
             assert!(lines(name).lines().all(|line| line.contains("0001 0 0")), "{name}: {}", lines(name));
         }

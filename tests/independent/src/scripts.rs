@@ -4,6 +4,7 @@ use crate::engine::{Book, Numbers};
 use crate::made_batches;
 use crate::play::{List, ANSWER};
 use crate::random::Random;
+use crate::registers::{SRC_OVER, UNBLENDED};
 
 /// How the calls of a list are mixed: of 16, how many submits and runs; the rest are pendings and opens. And into how many
 /// parts the ring's length is divided for a batch's room.
@@ -28,6 +29,7 @@ struct Script<'a> {
     calls: usize,
     book: Book,
     numbers: Numbers,
+    reset: u32,
 }
 
 impl Script<'_> {
@@ -79,7 +81,9 @@ impl Script<'_> {
         let client = if known { self.random.below(open) as u8 } else { self.unknown_client() };
         let bounds = if known { self.book.bounds(client.into()) } else { no_bounds() };
         let room = self.numbers.ring as usize / self.random.pick(&[1, parts as usize]);
-        let batch = made_batches::batch(self.random, &bounds, room);
+        // Now and then a batch is made for the other reset rule: 0x090 is forgotten, or written where it need not be.
+        let reset = if self.random.one_in(8) { 1 - self.reset.min(1) } else { self.reset };
+        let batch = made_batches::batch(self.random, &bounds, room, reset);
         let batch = self.with_odd_length(batch);
         self.call(1, &[&[client], &(batch.len() as u32).to_le_bytes(), &batch]);
     }
@@ -173,6 +177,12 @@ fn numbers(random: &mut Random) -> Numbers {
     Numbers { ring: ring.into(), memory, common: common.into() }
 }
 
+/// A reset rule, half of the time the old one; the new one is any other number.
+pub fn reset(random: &mut Random) -> u32 {
+    let any = random.word();
+    random.pick(&[UNBLENDED, UNBLENDED, UNBLENDED, SRC_OVER, SRC_OVER, any.max(1)])
+}
+
 /// Bytes to lend: as many as the set-up number says, or, once in 32 times, some others. Long ones are not lent.
 fn lent(random: &mut Random, number: u64) -> Vec<u8> {
     let length = number.min(65536) as u32;
@@ -200,12 +210,13 @@ pub fn list(seed: u64, number: u64) -> List {
     let (ring, memory) = (lent(random, numbers.ring), lent(random, numbers.memory));
     let allowed = Numbers { ring: 128, memory: 4096, common: 256 };
     // A refused set up plays nothing; its script is then one for other numbers.
-    let known = if Book::set_up(numbers, 0, &[]).is_ok() { numbers } else { allowed };
-    let book = Book::set_up(known, 0, &[]).ok().expect("allowed numbers");
+    let known = if Book::set_up(numbers, 0, 0, &[]).is_ok() { numbers } else { allowed };
+    let reset = reset(random);
+    let book = Book::set_up(known, reset, 0, &[]).ok().expect("allowed numbers");
     let mix = &MIXES[random.below(5) as usize];
     let most = random.pick(&[4, 20, 40, 60]);
     let (opens, calls) = (random.pick(&[0, 1, 1, 2, 2, 3, 3, 4, 4, 5, 5, 6]), 1 + random.below(most));
-    let mut script = Script { random, bytes: Vec::new(), calls: 0, book, numbers: known };
+    let mut script = Script { random, bytes: Vec::new(), calls: 0, book, numbers: known, reset };
     for _ in 0..opens {
         script.open();
     }
@@ -214,5 +225,5 @@ pub fn list(seed: u64, number: u64) -> List {
     }
     script.end();
     let Script { bytes, calls, random, .. } = script;
-    List { numbers, script: bytes, ring, memory, answers: buffer(random, calls) }
+    List { numbers, reset, script: bytes, ring, memory, answers: buffer(random, calls) }
 }

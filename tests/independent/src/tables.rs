@@ -4,12 +4,14 @@ use crate::batch::Fault;
 use crate::calls::{call, Buffers, Call};
 use crate::engine::Numbers;
 use crate::pixel::RULES;
-use crate::registers::{allowed_bits, offsets, Bank};
+use crate::registers::{allowed_bits, offsets, Bank, SRC_OVER, UNBLENDED};
 use crate::tint::tinted;
 use crate::writer::{reset_with, shaded_written, written};
 
-pub fn register_line(offset: u32, bits: u32, reset: u32) -> String {
-    format!("register 0x{offset:03X}: bits 0x{bits:08X}, reset 0x{reset:08X}")
+/// With the reset values by the new rule and by the old one.
+pub fn register_line(offset: u32, bits: u32, [new, old]: [u32; 2]) -> String {
+    let other = if new == old { String::new() } else { format!(" or 0x{old:08X}") };
+    format!("register 0x{offset:03X}: bits 0x{bits:08X}, reset 0x{new:08X}{other}")
 }
 
 pub fn fault_line(number: u32, status: u32) -> String {
@@ -25,8 +27,8 @@ pub fn refusal_line(call: &str, numbers: &[u32]) -> String {
 }
 
 pub fn lines() -> Vec<String> {
-    let reset = Bank::reset();
-    let registers = offsets().into_iter().map(|offset| register_line(offset, allowed_bits(offset), reset.word(offset)));
+    let resets = |offset| [SRC_OVER, UNBLENDED].map(|rule| Bank::reset(rule).word(offset));
+    let registers = offsets().into_iter().map(|offset| register_line(offset, allowed_bits(offset), resets(offset)));
     let blends = RULES.iter().map(|(name, source, destination)| blend_line(name, *source, *destination));
     let faults = (20..=28).map(|number| fault_line(number, Fault { number, place: 0 }.status()));
     registers.chain(blends).chain(faults).chain(refusals()).collect()
@@ -38,7 +40,7 @@ const GOOD: Numbers = Numbers { ring: 128, memory: 1024, common: 256 };
 fn buffers(clients: u32, batches: usize) -> Buffers {
     let mut buffers = Buffers { engine: vec![0; 272], ring: vec![0; 128], memory: vec![0; 1024] };
     let mut accepted = |asked: &Call| assert_eq!(call(asked, &mut buffers).number, 0);
-    accepted(&Call::SetUp(GOOD));
+    accepted(&Call::SetUp(GOOD, SRC_OVER));
     (0..clients).for_each(|client| accepted(&Call::Open { start: 256 + 64 * client, length: 64 }));
     (0..batches).for_each(|_| accepted(&Call::Submit { client: 0, batch: &[0; 16] }));
     buffers
@@ -53,7 +55,7 @@ fn refusals() -> Vec<String> {
     let none = || Buffers { engine: vec![0; 272], ..buffers(0, 0) };
     let no_room = || Buffers { engine: vec![], ..buffers(0, 0) };
     let other_ring = |clients, batches| Buffers { ring: vec![0; 64], ..buffers(clients, batches) };
-    let set_up = |ring| Call::SetUp(Numbers { ring, memory: 1 << 25, common: 0 });
+    let set_up = |ring| Call::SetUp(Numbers { ring, memory: 1 << 25, common: 0 }, SRC_OVER);
     let open = Call::Open { start: 0, length: 1 };
     let submit = |client, batch| Call::Submit { client, batch };
     let pending = Call::Pending { client: 4 };

@@ -46,8 +46,9 @@ impl Tally {
             (0, ..) => format!("{call}: done"),
             (number, ..) => format!("{call}: refusal {number:2}"),
         };
-        if what == "run: faultless" {
-            self.add("tasks drawn".into(), u64::from(word(3) >> 16));
+        if (word(0), call) == (0, "run") {
+            let drawn = if word(4) == 0 { "tasks drawn" } else { "tasks drawn before a fault" };
+            self.add(drawn.into(), u64::from(word(3) >> 16));
         }
         self.add(what, 1);
     }

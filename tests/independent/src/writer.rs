@@ -1,6 +1,6 @@
 //! The task writer (01, "Writer and replay"; 02, request 3): a task's fields as the 80 bytes of one task, or with steps as 100.
 use crate::gradient::Steps;
-use crate::registers::Bank;
+use crate::registers::{Bank, UNBLENDED};
 
 /// Each field's register, its lowest bit and its width, in the order in which fields are given.
 pub const FIELDS: [(u32, u32, u32); 29] = [
@@ -86,7 +86,7 @@ pub const WORKED: [u32; 20] = [
 
 /// What a task's registers hold, if every field fits its bits and its register's rule.
 pub fn registers(fields: &[u32; 29]) -> Option<Bank> {
-    let mut bank = Bank::reset();
+    let mut bank = Bank::reset(UNBLENDED);
     for (offset, words) in gathered(fields)? {
         bank.write(offset, words).ok()?;
     }
@@ -144,7 +144,7 @@ fn in_groups(bank: &Bank, groups: &[(u32, u32)]) -> Vec<u8> {
     bytes
 }
 
-/// The fields of a task with everything but the given ones as at reset.
+/// The fields of a task with everything but the given ones as at reset by the old rule.
 pub fn reset_with(changes: &[(usize, u32)]) -> [u32; 29] {
     let mut fields = [0; 29];
     fields[26] = 2;

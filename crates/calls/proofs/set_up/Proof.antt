@@ -4,7 +4,7 @@ use Rattle.calls.proofs.set_up.Statement.{statement}
 use Rattle.calls.proofs.set_up.Tie as tie
 
 returns : tie.Need-returns
-returns c = set-up-lent _ _ _ _ (c .if1 .taken)
+returns c = set-up-lent _ _ _ _ _ (c .if1 .taken)
 
 set-up-requires : tie.Need-set-up-requires
 set-up-requires c κs = search needs
@@ -16,7 +16,7 @@ same-length : tie.Need-same-length
 same-length c = search needs
 
 returns-2 : tie.Need-returns-2
-returns-2 c = set-up-told _ _ _ _ _ _ _ _ (c .before .before .before .before .before .before .if1 .left) (c .before .before .before .before .before .set-up .ensures) (c .before .before .tell .ensures)
+returns-2 c = set-up-told _ _ _ _ _ _ _ _ _ (c .before .before .before .before .before .before .if1 .left) (c .before .before .before .before .before .set-up .ensures) (c .before .before .tell .ensures)
 
 pub set-up-spec : {M : Type 1} → statement M
 set-up-spec = tie.close (tie.spec returns set-up-requires tell-requires same-length returns-2)

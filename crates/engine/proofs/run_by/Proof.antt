@@ -51,8 +51,8 @@ bounds-for-requires c κs =
     let one = owner-small (c .before .before .before .before .before .before .before .before .args .engine) (a .ok) (a .some) in
     omega (arith, ap (λ (b : Batch). b .client) (taken c))
 
-reset-requires : tie.Need-reset-requires
-reset-requires c κs = search needs
+bank-for-requires : tie.Need-bank-for-requires
+bank-for-requires c κs = search needs
 
 run-batch-requires : tie.Need-run-batch-requires
 run-batch-requires c κs =
@@ -79,7 +79,7 @@ returns-2 c =
     let e = b .before .before .before .before in
     let s = b .before .before .before .before .before .before .before .before in
     let d = c .before .before .before .run-batch in
-    let r = c .before .before .before .before .reset in
+    let r = c .before .before .before .before .bank-for in
     run-made (s .args .engine) (now (s .args .ring)) (now (s .args .memory)) (sym (e .before .run-refusal .ensures) ∙ e .if1 .left)
     (b .batch-of .result) (taken b) (f .result) (f .ensures .0) (r .result) (r .ensures)
     (d .result) (d .ensures .0) (c .without-oldest .result) (c .without-oldest .ensures) _ (d .ensures .1)
@@ -95,7 +95,7 @@ run-by-spec =
     array-copy-out-batch-of
     batch-of-requires
     bounds-for-requires
-    reset-requires
+    bank-for-requires
     run-batch-requires
     without-oldest-requires
     same-length

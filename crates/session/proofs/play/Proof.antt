@@ -44,7 +44,7 @@ add-result : tie.Need-add-result
 add-result c =
     let p = c .before .before .before .before .before .before .play-calls in
     let w = c .before .before .before .before .before .before .before .before .before .before .before .before .before .write-answer in
-    omega (arith, count-small _ _ (w .last .0) _ _ _ _ (omega (arith, w .kept .0, c .before .before .before .before .before .before .before .before .before .before .before .before .before .before .before .before .before .before .if1 .left)) (p .ensures) (p .kept .1 .1 .1 .1 .0), w .kept .0, c .before .before .before .before .before .before .before .before .before .before .before .before .before .before .before .before .before .before .before .before .before .before .before .good .1 .1 .1 .1 .1 .1 .0 .0)
+    omega (arith, count-small _ _ (w .last .0) _ _ _ _ (omega (arith, w .kept .0, c .before .before .before .before .before .before .before .before .before .before .before .before .before .before .before .before .before .before .if1 .left)) (p .ensures) (p .kept .1 .1 .1 .1 .0), w .kept .0, c .before .before .before .before .before .before .before .before .before .before .before .before .before .before .before .before .before .before .before .before .before .before .before .good .1 .1 .1 .1 .1 .1 .1 .0 .0)
 
 same-length-2 : tie.Need-same-length-2
 same-length-2 c = search needs

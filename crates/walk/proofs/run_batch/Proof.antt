@@ -1,55 +1,163 @@
-use mathlib.Core.Path.{sym, ap, _∙_}
+use mathlib.Core.Path.{_≡_, refl, sym, ap, _∙_}
+use mathlib.Core.List.{List}
+use Prim.Native.Nat.{ℕ, _-_, _<_, _≤_}
+use native.Mathlib.Omega.{arith}
+use lib.ListN.{length}
 use denote.Ref.{now}
+use borrow.Author.Needs.{needs}
 use Rattle.ring.specs.Segment.{batchWords}
 use Rattle.batch.specs.declared.verdict.Judgement.{Judgement}
-use Rattle.raster.proofs.Fold.{faultless-batch, faulty-batch}
-use borrow.Author.Needs.{needs}
+use Rattle.batch.specs.declared.verdict.Verdict.{Verdict}
+use Rattle.batch.specs.Batch.{decodeBatch, validationOf}
+use Rattle.batch.specs.Walk.{decodeRest}
+use Rattle.batch.proofs.Ways.{words-fit}
+use Rattle.batch.proofs.Steps.{counted, counted-none, step-onward, step-task, step-faulty, step-end}
+use Rattle.batch.proofs.Tasks.{step-sound}
+use Rattle.raster.specs.Task.{drawTasks}
+use Rattle.raster.proofs.Judged.{drawable}
+use Rattle.raster.proofs.Fold.{step-draws, step-stops, step-ends, batch-tasks}
 use Rattle.walk.proofs.run_batch.Statement.{statement}
 use Rattle.walk.proofs.run_batch.Tie as tie
 
-judge-requires : tie.Need-judge-requires
-judge-requires c κs = search needs
+abbrev Inv-loop : tie.InvT-loop
+Inv-loop memory₀ ring offset size bounds slow source₀ destination₀ window current₀ at₀ count₀ memory source destination current at count =
+    let ws = batchWords ring offset size in
+    (at ≤ length ws)
+    × (drawTasks (decodeBatch bounds current₀ ws .tasks) memory₀ ≡ drawTasks (decodeRest bounds ws current at .tasks) memory)
+    × (length memory ≡ length memory₀)
+    × (length source ≡ 16384)
+    × (length destination ≡ 16384)
+    × (count ≤ at)
+    × (validationOf (decodeBatch bounds current₀ ws) ≡ counted count (decodeRest bounds ws current at))
 
-enum-told : tie.Need-enum-told
-enum-told c = search needs
+abbrev μ-loop : tie.MeasureT-loop
+μ-loop memory₀ ring offset size bounds slow source₀ destination₀ window current₀ at₀ count₀ memory source destination current at count = length (batchWords ring offset size) - at
 
-draw-batch-requires : tie.Need-draw-batch-requires
-draw-batch-requires c κs = search needs
+-- the words of the batch
+abbrev Ws : tie.Start Inv-loop μ-loop → List ℕ
+Ws c = batchWords (now (c .args .ring)) (c .args .offset) (c .args .size)
 
-same-length : tie.Need-same-length
-same-length c = search needs
+-- a task ends past where it began
+onward : (c : tie.After-task Inv-loop μ-loop) →
+    (c .before .before .before .loop .at < c .task .given .0 .1 .1 .0)
+    × (c .task .given .0 .1 .1 .0 ≤ length (Ws (c .before .before .before .before .before .before .before)))
+onward c =
+    let s = c .before .before .before .before .before .before .before in
+    let l = c .before .before .before .loop in
+    let n = c .before .before .next-task in
+    step-onward (s .args .bounds) (Ws s) (l .current) (l .at) (n .result) (n .ensures) _ _ _ (c .task .given .1)
 
-returns : tie.Need-returns
-returns c =
+loop-holds : tie.Need-loop-holds Inv-loop μ-loop
+loop-holds c =
+    let s = c .before .before .before in
+    (omega arith, refl, refl, refl, refl, omega arith, counted-none (decodeBatch (s .args .bounds) (s .args .bank) (Ws s)))
+
+next-task-requires : tie.Need-next-task-requires Inv-loop μ-loop
+next-task-requires c κs = search needs
+
+enum-known-task : tie.Need-enum-known-task Inv-loop μ-loop
+enum-known-task c = search needs
+
+slice-aggregate-draw-task : tie.Need-slice-aggregate-draw-task Inv-loop μ-loop
+slice-aggregate-draw-task c = search needs
+
+slice-aggregate-draw-task-2 : tie.Need-slice-aggregate-draw-task-2 Inv-loop μ-loop
+slice-aggregate-draw-task-2 c = search needs
+
+draw-task-requires : tie.Need-draw-task-requires Inv-loop μ-loop
+draw-task-requires c κs =
     let t = c .before .before .before .before in
-    let j = t .before .before in
-    let a = j .before .before .before .args in
-    let v = ap (λ (g : Judgement). g .verdict) (j .judge .ensures) in (
-      v,
-      c .before .before .draw-batch .ensures
-          ∙ faultless-batch (a .bounds) (a .bank) (batchWords (now (a .ring)) (a .offset) (a .size)) (now (a .memory)) _ (sym v ∙ t .enum-told .given .1),
+    let s = t .before .before .before .before .before .before .before in
+    let l = t .before .before .before .loop in
+    let n = t .before .before .next-task in (
+      drawable (s .args .bounds) (t .task .given .0 .0)
+          (step-sound (s .args .bounds) (Ws s) (l .current) (l .at) (n .result) (n .ensures) _ _ _ (t .task .given .1))
+          (length (l .memory)) (omega (arith, s .pre .window, l .inv .2)) (omega (arith, s .pre .common, l .inv .2)),
+      record { source = omega (arith, l .inv .3); destination = omega (arith, l .inv .4) },
     )
 
-enum-told-2 : tie.Need-enum-told-2
-enum-told-2 c = search needs
+add-count : tie.Need-add-count Inv-loop μ-loop
+add-count c =
+    let t = c .before .before .before .before .before .before .before .before .before in
+    let s = t .before .before .before .before .before .before .before in
+    let l = t .before .before .before .loop in
+    omega (arith, onward t, l .inv .5, words-fit (now (s .args .ring)) (s .args .offset) (s .args .size), s .fits .size)
 
-returns-2 : tie.Need-returns-2
+loop-less : tie.Need-loop-less Inv-loop μ-loop
+loop-less c = omega (arith, onward (c .before .before .before .before .before .before .before .before .before))
+
+loop-again : tie.Need-loop-again Inv-loop μ-loop
+loop-again c =
+    let t = c .before .before .before .before .before .before .before .before .before in
+    let s = t .before .before .before .before .before .before .before in
+    let l = t .before .before .before .loop in
+    let n = t .before .before .next-task in
+    let d = c .before .before .before .before .draw-task in (
+      onward t .1,
+      l .inv .1
+          ∙ step-draws (s .args .bounds) (Ws s) (l .current) (l .at) (n .result) (n .ensures) (l .memory) _ _ _ (t .task .given .1)
+          ∙ ap (drawTasks (decodeRest (s .args .bounds) (Ws s) (t .task .given .0 .1 .0) (t .task .given .0 .1 .1 .0) .tasks)) (sym (d .ensures)),
+      d .kept .0 ∙ l .inv .2,
+      d .kept .1 .1 .1 .0 ∙ l .inv .3,
+      d .kept .1 .1 .1 .1 .0 ∙ l .inv .4,
+      omega (arith, onward t, l .inv .5),
+      l .inv .6 ∙ step-task (s .args .bounds) (Ws s) (l .current) (l .at) (n .result) (n .ensures) (l .count) _ _ _ (t .task .given .1),
+    )
+
+enum-known-fault : tie.Need-enum-known-fault Inv-loop μ-loop
+enum-known-fault c = search needs
+
+same-length : tie.Need-same-length Inv-loop μ-loop
+same-length c = search needs
+
+-- what the judgement is, and what is drawn, where the walk stands at this
+abbrev verdict-of : Judgement → Verdict
+verdict-of j = j .verdict
+
+returns : tie.Need-returns Inv-loop μ-loop
+returns c =
+    let s = c .before .before .before .before .before .before .before .before in
+    let l = c .before .before .before .before .loop in
+    let n = c .before .before .before .next-task in (
+      sym (ap verdict-of (l .inv .6 ∙ step-faulty (s .args .bounds) (Ws s) (l .current) (l .at) (n .result) (n .ensures) (l .count) _ _ _ (c .before .fault .given .1))),
+      sym (batch-tasks (s .args .bounds) (s .args .bank) (Ws s) (now (s .args .memory)) ∙ l .inv .1
+          ∙ step-stops (s .args .bounds) (Ws s) (l .current) (l .at) (n .result) (n .ensures) (l .memory) _ _ _ (c .before .fault .given .1)),
+    )
+
+enum-told : tie.Need-enum-told Inv-loop μ-loop
+enum-told c = search needs
+
+same-length-2 : tie.Need-same-length-2 Inv-loop μ-loop
+same-length-2 c = search needs
+
+returns-2 : tie.Need-returns-2 Inv-loop μ-loop
 returns-2 c =
-    let j = c .before .before in
-    let a = j .before .before .before .args in
-    let v = ap (λ (g : Judgement). g .verdict) (j .judge .ensures) in (
-      v,
-      sym (faulty-batch (a .bounds) (a .bank) (batchWords (now (a .ring)) (a .offset) (a .size)) (now (a .memory)) _ _ (sym v ∙ c .enum-told2 .given .1)),
+    let s = c .before .before .before .before .before .before .before in
+    let l = c .before .before .before .loop in
+    let n = c .before .before .next-task in (
+      sym (ap verdict-of (l .inv .6 ∙ step-end (s .args .bounds) (Ws s) (l .current) (l .at) (n .result) (n .ensures) (l .count) (c .enum-told .given .1))),
+      sym (batch-tasks (s .args .bounds) (s .args .bank) (Ws s) (now (s .args .memory)) ∙ l .inv .1
+          ∙ step-ends (s .args .bounds) (Ws s) (l .current) (l .at) (n .result) (n .ensures) (l .memory) (c .enum-told .given .1)),
     )
 
 pub run-batch-spec : {M : Type 1} → statement M
 run-batch-spec =
     tie.close
     (tie.spec
-    judge-requires
-    enum-told
-    draw-batch-requires
+    Inv-loop
+    μ-loop
+    loop-holds
+    next-task-requires
+    enum-known-task
+    slice-aggregate-draw-task
+    slice-aggregate-draw-task-2
+    draw-task-requires
+    add-count
+    loop-less
+    loop-again
+    enum-known-fault
     same-length
     returns
-    enum-told-2
+    enum-told
+    same-length-2
     returns-2)

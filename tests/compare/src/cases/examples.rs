@@ -17,12 +17,14 @@ pub fn compare(trials: &mut Trials) -> Agreed {
     pixels(trials)
 }
 
-/// H1, H2, T1, the worked words from the encoder, and those with address 64.
+/// H1, H2, T1, the worked words from the encoder, and those with address 64; two good tasks and then 23 or 21 (02, request 5).
 fn words(trials: &mut Trials) -> Agreed {
     let bench = bench(REPLAY, 36864);
     trials.words(&bench, &[0x0010_000C, 0x0000_0005, 0x0001_0002, 0x0000_0000])?;
     trials.words(&bench, &[0x0030_0011, 0, 0, 0, 0])?;
     trials.words(&bench, &[WORKED, WORKED, WORKED].concat())?;
+    trials.words(&bench, &[&WORKED[..], &WORKED, &[0x0024_0005, 0]].concat())?;
+    trials.words(&bench, &[&WORKED[..], &WORKED, &[0x0010_0014]].concat())?;
     let worked = [(0, 2), (1, 1), (7, 1), (8, 0x80FF_0000), (9, 1), (21, 2), (22, 1), (23, 8), (24, 16384)];
     trials.task(&bench, &reset_with(&worked))?;
     trials.task(&bench, &reset_with(&[&worked[..8], &[(24, 64)]].concat()))?;

@@ -1,6 +1,6 @@
 //! Every fault at every place of a batch, in a ring that it wraps in, and which of two faults is told.
 use super::rules::{passing, written};
-use crate::bench::{bench, read_from};
+use crate::bench::{bench, read_from, under};
 use crate::trials::{Agreed, Trials};
 use independent::calls::{Buffers, Call};
 use independent::engine::Numbers;
@@ -103,7 +103,7 @@ fn generated(trials: &mut Trials) -> Agreed {
         let numbers = Numbers { ring: 1024, memory: 1400, common };
         let bench = bench(numbers, 24);
         for _ in 0..10_000 {
-            let bench = read_from(&bench, 4 * u64::from(random.below(256)));
+            let bench = under(&read_from(&bench, 4 * u64::from(random.below(256))), random.below(2));
             let words = groups(random);
             let mut after = trials.words(&bench, &words)?;
             trials.call(&Call::Run, &mut after)?;

@@ -11,6 +11,7 @@ mod pixels;
 mod queue;
 mod records;
 mod registers;
+mod resets;
 mod rules;
 mod spans;
 mod transforms;
@@ -31,6 +32,7 @@ const SUBJECTS: [Subject; 16] = [
     ("registers", registers::compare),
     ("headers and groups", headers::compare),
     ("faults at every place", faults::compare),
+    ("reset rules", resets::compare),
     ("rules of a task", rules::compare),
     ("spans", spans::compare),
     ("pixels", pixels::compare),

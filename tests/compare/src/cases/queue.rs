@@ -30,14 +30,14 @@ fn set_ups(trials: &mut Trials) -> Agreed {
     for ring in rings {
         for memory in memories {
             for common in memories {
-                trials.try_call(&Call::SetUp(Numbers { ring, memory, common }), &buffers)?;
+                trials.try_call(&Call::SetUp(Numbers { ring, memory, common }, (ring ^ memory) as u32), &buffers)?;
             }
         }
     }
     for length in 0..=300 {
         buffers.engine = vec![0x5A; length];
-        trials.try_call(&Call::SetUp(NUMBERS), &buffers)?;
-        trials.try_call(&Call::SetUp(Numbers { ring: 0, ..NUMBERS }), &buffers)?;
+        trials.try_call(&Call::SetUp(NUMBERS, 0), &buffers)?;
+        trials.try_call(&Call::SetUp(Numbers { ring: 0, ..NUMBERS }, 1), &buffers)?;
     }
     Ok(())
 }

@@ -7,6 +7,7 @@ use independent::engine::Numbers;
 use independent::queue::{Client, Ready, Record};
 use independent::random::Random;
 use independent::record_bytes;
+use independent::registers::SRC_OVER;
 use independent::words::{read_le32, replaced};
 
 const NUMBERS: Numbers = Numbers { ring: 256, memory: 4096, common: 1024 };
@@ -47,9 +48,10 @@ fn fresh() -> Record {
     bench::record(NUMBERS, &WINDOWS[..3], 0, 0)
 }
 
-/// Three batches waiting, in slots out of order, the middle one in two parts.
+/// Three batches waiting, with the new reset rule, in slots out of order, the middle one in two parts.
 fn waiting() -> Record {
     let mut record = bench::record(NUMBERS, &WINDOWS, 200, 41);
+    record.reset = SRC_OVER;
     record.slots[6] = Some(Ready { client: 2, ticket: 38, offset: 200, length: 40 });
     record.slots[0] = Some(Ready { client: 0, ticket: 39, offset: 240, length: 100 });
     record.slots[3] = Some(Ready { client: 2, ticket: 40, offset: 84, length: 116 });
@@ -72,7 +74,7 @@ fn full() -> Record {
 type Damage = fn(&mut Record);
 
 /// Each rule broken alone in the record of three batches; in others some of these break no rule, or several.
-const BREAKINGS: [Damage; 32] = [
+const BREAKINGS: [Damage; 33] = [
     |_| (),
     |r| r.numbers.ring = 0,
     |r| r.numbers.ring = 32896,
@@ -80,6 +82,7 @@ const BREAKINGS: [Damage; 32] = [
     |r| r.numbers.memory = 16777217,
     |r| r.numbers.memory = u64::from(u32::MAX),
     |r| r.numbers.common = 4097,
+    |r| r.reset = 2,
     |r| r.open = 5,
     |r| r.open = u64::from(u32::MAX),
     |r| r.clients[2].length = 0,

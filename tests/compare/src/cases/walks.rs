@@ -33,7 +33,7 @@ fn alone(call: play::Call) -> Call {
 pub fn walk(trials: &mut Trials, list: &List, random: &mut Random) -> Agreed {
     let engine = random.bytes(record_bytes::LENGTH);
     let mut buffers = Buffers { engine, ring: list.ring.clone(), memory: list.memory.clone() };
-    let set_up = trials.call(&Call::SetUp(list.numbers), &mut buffers)?;
+    let set_up = trials.call(&Call::SetUp(list.numbers, list.reset), &mut buffers)?;
     let mut answers = vec![set_up];
     for call in Calls(&list.script).take_while(|_| set_up.number == 0) {
         let call = alone(call);

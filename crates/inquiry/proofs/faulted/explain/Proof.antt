@@ -3,7 +3,7 @@ use Prim.Native.Nat.{ℕ}
 use mathlib.Core.Path.{_≡_, sym, ap, _∙_}
 use mathlib.Core.List.{List}
 use Rattle.ring.specs.Segment.{batchWords}
-use Rattle.register.specs.Bank.{resetBank}
+use Rattle.replay.specs.Lines.{fileReset}
 use Rattle.register.specs.declared.bank.Bank.{Bank}
 use Rattle.batch.specs.Batch.{DecodedBatch, decodeBatch, validationOf}
 use Rattle.inquiry.proofs.Batch.{explained-none, explained-fault}
@@ -23,7 +23,7 @@ abbrev Ws : tie.Start → List ℕ
 Ws c = batchWords (c .args .ring .now) (c .args .offset) (c .args .size)
 
 abbrev said : tie.Start → DecodedBatch
-said c = decodeBatch (c .args .bounds) resetBank (Ws c)
+said c = decodeBatch (c .args .bounds) fileReset (Ws c)
 
 judged : (c : tie.After-judge) → c .judge .result ≡ validationOf (said (c .before .before .before))
 judged c =
@@ -64,7 +64,7 @@ returns-2 c =
     let s = c .before .before .before .before .before .before .before .before .before .before .before in
     let j = c .before .before .before .before .before .before .before .before in
     rw (c .before .before .number .ensures, c .before .word-at .ensures, c .detail-of .ensures, c .before .before .before .register-at .ensures)
-    (explained-fault (Ws s) (said s) (j .judge .result) (judged j) _ _ (c .before .before .before .before .before .verdict .given .1))
+    (explained-fault (Ws s) (said s) (j .judge .result) (judged j) _ _ _ (c .before .before .before .before .before .verdict .given .1))
 
 pub explain-spec : {M : Type 1} → statement M
 explain-spec =

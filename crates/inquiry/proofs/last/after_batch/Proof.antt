@@ -1,11 +1,11 @@
 use borrow.Author.Needs.{needs}
 use Prim.Native.Nat.{ℕ, _+_, _-_, _<_, _≤_}
-use mathlib.Core.Path.{_≡_, sym, ap, _∙_}
+use mathlib.Core.Path.{_≡_, refl, sym, ap, _∙_}
 use mathlib.Core.List.{List}
 use native.Mathlib.Omega.{arith}
 use lib.ListN.{length}
 use Rattle.ring.specs.Segment.{batchWords}
-use Rattle.register.specs.Bank.{resetBank}
+use Rattle.replay.specs.Lines.{fileReset}
 use Rattle.register.specs.declared.bank.Bank.{Bank}
 use Rattle.batch.specs.Batch.{decodeBatch, tasksDrawn}
 use Rattle.batch.specs.Walk.{decodeRest}
@@ -14,7 +14,7 @@ use Rattle.batch.proofs.Steps.{step-onward}
 use Rattle.provenance.specs.declared.Touched.{Touched}
 use Rattle.provenance.specs.Drawn.{numbered}
 use Rattle.provenance.specs.Touched.{lastFrom}
-use Rattle.inquiry.proofs.Batch.{restFrom, rest-start, rest-task, rest-fault, rest-end}
+use Rattle.inquiry.proofs.Batch.{restFrom, rest-task, rest-fault, rest-end}
 use Rattle.inquiry.proofs.last.after_batch.Statement.{statement}
 use Rattle.inquiry.proofs.last.after_batch.Tie as tie
 use Rattle.inquiry.proofs.last.after_batch.Reads as reads
@@ -24,14 +24,14 @@ use Rattle.inquiry.proofs.last.after_task.Reads as after-task-reads
 use Rattle.register.proofs.bank.Bank.reset.Reads as reset-reads
 
 abbrev Inv-loop : tie.InvT-loop
-Inv-loop ring offset size bounds ticket i found current₀ at₀ number₀ last₀ current at number last =
+Inv-loop ring offset size bounds ticket i current₀ at₀ number₀ last₀ current at number last =
     let ws = batchWords ring offset size in
     (at ≤ length ws)
     × (number ≤ at)
-    × (lastFrom found i (numbered ticket 0 (tasksDrawn (decodeBatch bounds current₀ ws))) ≡ restFrom found i ticket number last (decodeRest bounds ws current at))
+    × (lastFrom last₀ i (numbered ticket 0 (tasksDrawn (decodeBatch bounds current₀ ws))) ≡ restFrom i ticket number last (decodeRest bounds ws current at))
 
 abbrev μ-loop : tie.MeasureT-loop
-μ-loop ring offset size bounds ticket i found current₀ at₀ number₀ last₀ current at number last = length (batchWords ring offset size) - at
+μ-loop ring offset size bounds ticket i current₀ at₀ number₀ last₀ current at number last = length (batchWords ring offset size) - at
 
 -- the words of the batch
 abbrev Ws : tie.Start Inv-loop μ-loop → List ℕ
@@ -49,16 +49,14 @@ onward c =
 abbrev answerFrom : tie.Start Inv-loop μ-loop → Bank → Touched
 answerFrom s b = lastFrom (s .args .found) (s .args .i) (numbered (s .args .ticket) 0 (tasksDrawn (decodeBatch (s .args .bounds) b (Ws s))))
 
-from-reset : (c : tie.After-reset Inv-loop μ-loop) → answerFrom (c .before .before) resetBank ≡ answerFrom (c .before .before) (c .reset .result)
+from-reset : (c : tie.After-reset Inv-loop μ-loop) → answerFrom (c .before .before) fileReset ≡ answerFrom (c .before .before) (c .reset .result)
 from-reset c = ap (answerFrom (c .before .before)) (sym (c .reset .ensures))
 
 reset-requires : tie.Need-reset-requires Inv-loop μ-loop
 reset-requires c κs = search needs
 
 loop-holds : tie.Need-loop-holds Inv-loop μ-loop
-loop-holds c =
-    let s = c .before .before in
-    (omega arith, omega arith, rest-start (s .args .found) (s .args .i) (s .args .ticket) (decodeBatch (s .args .bounds) (c .reset .result) (Ws s)))
+loop-holds c = (omega arith, omega arith, refl)
 
 next-task-requires : tie.Need-next-task-requires Inv-loop μ-loop
 next-task-requires c κs = search needs
@@ -88,8 +86,8 @@ loop-again c =
       omega (arith, onward t),
       omega (arith, onward t, l .inv .1),
       l .inv .2
-          ∙ rest-task (s .args .found) (s .args .i) (s .args .ticket) (s .args .bounds) (Ws s) (l .current) (l .at) (n .result) (n .ensures) (l .number) (l .last) _ _ _ (t .task .given .1)
-          ∙ ap (λ (a : Touched). restFrom (s .args .found) (s .args .i) (s .args .ticket) (l .number + 1) a (decodeRest (s .args .bounds) (Ws s) (t .task .given .0 .1 .0) (t .task .given .0 .1 .1 .0))) (sym (c .after-task .ensures)),
+          ∙ rest-task (s .args .i) (s .args .ticket) (s .args .bounds) (Ws s) (l .current) (l .at) (n .result) (n .ensures) (l .number) (l .last) _ _ _ (t .task .given .1)
+          ∙ ap (λ (a : Touched). restFrom (s .args .i) (s .args .ticket) (l .number + 1) a (decodeRest (s .args .bounds) (Ws s) (t .task .given .0 .1 .0) (t .task .given .0 .1 .1 .0))) (sym (c .after-task .ensures)),
     )
 
 enum-told : tie.Need-enum-told Inv-loop μ-loop
@@ -100,7 +98,7 @@ returns c =
     let s = c .before .before .before .before .before .before in
     let l = c .before .before .before .loop in
     let n = c .before .before .next-task in
-    sym (from-reset (c .before .before .before .before) ∙ l .inv .2 ∙ rest-fault (s .args .found) (s .args .i) (s .args .ticket) (s .args .bounds) (Ws s) (l .current) (l .at) (n .result) (n .ensures) (l .number) (l .last) _ _ _ (c .enum-told .given .1))
+    sym (from-reset (c .before .before .before .before) ∙ l .inv .2 ∙ rest-fault (s .args .i) (s .args .ticket) (s .args .bounds) (Ws s) (l .current) (l .at) (n .result) (n .ensures) (l .number) (l .last) _ _ _ (c .enum-told .given .1))
 
 enum-told-2 : tie.Need-enum-told-2 Inv-loop μ-loop
 enum-told-2 c = search needs
@@ -110,7 +108,7 @@ returns-2 c =
     let s = c .before .before .before .before .before .before in
     let l = c .before .before .before .loop in
     let n = c .before .before .next-task in
-    sym (from-reset (c .before .before .before .before) ∙ l .inv .2 ∙ rest-end (s .args .found) (s .args .i) (s .args .ticket) (s .args .bounds) (Ws s) (l .current) (l .at) (n .result) (n .ensures) (l .number) (l .last) (c .enum-told2 .given .1))
+    sym (from-reset (c .before .before .before .before) ∙ l .inv .2 ∙ rest-end (s .args .i) (s .args .ticket) (s .args .bounds) (Ws s) (l .current) (l .at) (n .result) (n .ensures) (l .number) (l .last) (c .enum-told2 .given .1))
 
 pub after-batch-spec : {M : Type 1} → statement M
 after-batch-spec =

@@ -11,6 +11,12 @@ no-record-requires c κs = search needs
 returns : tie.Need-returns
 returns c = is-none _ _ (judged-short _ (c .before .if1 .taken)) (c .no-record .ensures)
 
+word-at-requires : tie.Need-word-at-requires
+word-at-requires c κs = search needs
+
+is-number-requires : tie.Need-is-number-requires
+is-number-requires c κs = search needs
+
 spare-right-requires : tie.Need-spare-right-requires
 spare-right-requires c κs = search needs
 
@@ -21,13 +27,21 @@ no-record-requires-2 : tie.Need-no-record-requires-2
 no-record-requires-2 c κs = search needs
 
 returns-2 : tie.Need-returns-2
-returns-2 c = is-none _ _ (judged _ (c .before .before .before .spare-right .result) (c .before .before .slots-right .result) false (c .before .before .before .before .if1 .left) (c .before .before .before .spare-right .ensures) (c .before .before .slots-right .ensures) (not-true (c .before .before .before .spare-right .result && c .before .before .slots-right .result) (c .before .if2 .taken))) (c .no-record2 .ensures)
+returns-2 c =
+    let s = c .before .before in
+    let a = s .before in
+    let r = a .before in
+    is-none _ _ (judged _ _ (r .is-number .result) (a .spare-right .result) (s .slots-right .result) false (r .before .before .if1 .left) (r .before .word-at .ensures) (r .is-number .ensures) (a .spare-right .ensures) (s .slots-right .ensures) (not-true (r .is-number .result && a .spare-right .result && s .slots-right .result) (c .before .if2 .taken))) (c .no-record2 .ensures)
 
 record-in-requires : tie.Need-record-in-requires
 record-in-requires c κs = search needs
 
 returns-3 : tie.Need-returns-3
-returns-3 c = is-some _ _ (judged _ (c .before .before .before .spare-right .result) (c .before .before .slots-right .result) true (c .before .before .before .before .if1 .left) (c .before .before .before .spare-right .ensures) (c .before .before .slots-right .ensures) (not-false (c .before .before .before .spare-right .result && c .before .before .slots-right .result) (c .before .if2 .left))) (c .record-in .ensures)
+returns-3 c =
+    let s = c .before .before in
+    let a = s .before in
+    let r = a .before in
+    is-some _ _ (judged _ _ (r .is-number .result) (a .spare-right .result) (s .slots-right .result) true (r .before .before .if1 .left) (r .before .word-at .ensures) (r .is-number .ensures) (a .spare-right .ensures) (s .slots-right .ensures) (not-false (r .is-number .result && a .spare-right .result && s .slots-right .result) (c .before .if2 .left))) (c .record-in .ensures)
 
 pub decode-spec : {M : Type 1} → statement M
 decode-spec =
@@ -35,6 +49,8 @@ decode-spec =
     (tie.spec
     no-record-requires
     returns
+    word-at-requires
+    is-number-requires
     spare-right-requires
     slots-right-requires
     no-record-requires-2

@@ -4,6 +4,9 @@ use borrow.Author.Needs.{needs}
 use Rattle.record_bytes.proofs.write.words_of.Statement.{statement}
 use Rattle.record_bytes.proofs.write.words_of.Tie as tie
 
+number-requires : tie.Need-number-requires
+number-requires c κs = search needs
+
 array-copy-out-c0 : tie.Need-array-copy-out-c0
 array-copy-out-c0 c = search needs
 
@@ -64,9 +67,6 @@ array-copy-out-row-of-8 c = search needs
 row-of-requires-8 : tie.Need-row-of-requires-8
 row-of-requires-8 c κs = search needs
 
-cast-t48 : tie.Need-cast-t48
-cast-t48 c = search needs
-
 cast-t50 : tie.Need-cast-t50
 cast-t50 c = search needs
 
@@ -79,14 +79,20 @@ cast-t54 c = search needs
 cast-t56 : tie.Need-cast-t56
 cast-t56 c = search needs
 
+cast-t58 : tie.Need-cast-t58
+cast-t58 c = search needs
+
 returns : tie.Need-returns
 unfolding wordsWith
-returns c = rows-are (c .before .before .before .before .before .before .before .before .before .before .before .before .before .before .before .before .before .before .before .before .before .before .before .before .before .before .before .before .before .before .before .before .args .engine) (c .before .before .before .before .before .before .before .before .before .before .before .before .before .before .before .before .before .before .before .row-of .ensures) (c .before .before .before .before .before .before .before .before .before .before .before .before .before .before .before .before .before .row-of2 .ensures) (c .before .before .before .before .before .before .before .before .before .before .before .before .before .before .before .row-of3 .ensures) (c .before .before .before .before .before .before .before .before .before .before .before .before .before .row-of4 .ensures) (c .before .before .before .before .before .before .before .before .before .before .before .row-of5 .ensures) (c .before .before .before .before .before .before .before .before .before .row-of6 .ensures) (c .before .before .before .before .before .before .before .row-of7 .ensures) (c .before .before .before .before .before .row-of8 .ensures)
+returns c =
+    let f = c .before .before .before .before .before .before .before .before .before .before .before .before .before .before .before .before .before .before .before .before .before .before .before .before .before .before .before .before .before .before .before in
+    rw (f .number .ensures) (rows-are (f .before .before .args .engine) (c .before .before .before .before .before .before .before .before .before .before .before .before .before .before .before .before .before .before .before .row-of .ensures) (c .before .before .before .before .before .before .before .before .before .before .before .before .before .before .before .before .before .row-of2 .ensures) (c .before .before .before .before .before .before .before .before .before .before .before .before .before .before .before .row-of3 .ensures) (c .before .before .before .before .before .before .before .before .before .before .before .before .before .row-of4 .ensures) (c .before .before .before .before .before .before .before .before .before .before .before .row-of5 .ensures) (c .before .before .before .before .before .before .before .before .before .row-of6 .ensures) (c .before .before .before .before .before .before .before .row-of7 .ensures) (c .before .before .before .before .before .row-of8 .ensures))
 
 pub words-of-spec : {M : Type 1} → statement M
 words-of-spec =
     tie.close
     (tie.spec
+    number-requires
     array-copy-out-c0
     array-copy-out-c1
     array-copy-out-c2
@@ -107,9 +113,9 @@ words-of-spec =
     row-of-requires-7
     array-copy-out-row-of-8
     row-of-requires-8
-    cast-t48
     cast-t50
     cast-t52
     cast-t54
     cast-t56
+    cast-t58
     returns)

@@ -1,8 +1,9 @@
 use mathlib.Core.Path.{sym, ap, _∙_}
-use Prim.Native.Nat.{_%_}
+use Prim.Native.Nat.{ℕ, _%_, _*_, _+_}
+use native.Mathlib.Omega.{arith}
 use Rattle.batch.specs.declared.verdict.Verdict.{Verdict}
 use Rattle.batch.specs.Batch.{statusWordOf}
-use Rattle.batch.proofs.Tasks.{tasks-rest, fault-rest}
+use Rattle.batch.proofs.Tasks.{tasks-rest, fault-small}
 use borrow.Author.Needs.{needs}
 use Rattle.batch.proofs.verdict.Verdict.status.Statement.{statement}
 use Rattle.batch.proofs.verdict.Verdict.status.Tie as tie
@@ -22,14 +23,27 @@ add-result c = search needs
 enum-known-self-2 : tie.Need-enum-known-self-2
 enum-known-self-2 c = search needs
 
+cast-result-2 : tie.Need-cast-result-2
+cast-result-2 c = search needs
+
+mul-result-2 : tie.Need-mul-result-2
+mul-result-2 c = search needs
+
 status-requires : tie.Need-status-requires
 status-requires c κs = search needs
 
+add-result-2 : tie.Need-add-result-2
+add-result-2 c = search (needs, c .status .ensures, fault-small (c .before .before .self2 .given .0 .1 .0))
+
 returns : tie.Need-returns
-returns c = tasks-rest (c .before .self .given .0 .0) ∙ ap (λ (v : Verdict). statusWordOf v % 4294967296) (sym (c .before .self .given .1))
+returns c = tasks-rest (c .before .self .given .0 .0) 1 (omega arith) ∙ ap (λ (v : Verdict). statusWordOf v % 4294967296) (sym (c .before .self .given .1))
 
 returns-2 : tie.Need-returns-2
-returns-2 c = c .status .ensures ∙ fault-rest (c .before .before .self2 .given .0 .0) ∙ ap (λ (v : Verdict). statusWordOf v % 4294967296) (sym (c .before .before .self2 .given .1))
+returns-2 c =
+    let t = c .before .before .self2 .given in
+    ap (λ (low : ℕ). t .0 .0 % 65536 * 65536 + low) (c .status .ensures)
+    ∙ tasks-rest (t .0 .0) _ (fault-small (t .0 .1 .0))
+    ∙ ap (λ (v : Verdict). statusWordOf v % 4294967296) (sym (t .1))
 
 pub status-spec : {M : Type 1} → statement M
 status-spec =
@@ -40,6 +54,9 @@ status-spec =
     mul-result
     add-result
     enum-known-self-2
+    cast-result-2
+    mul-result-2
     status-requires
+    add-result-2
     returns
     returns-2)

@@ -1,0 +1,201 @@
+-- "tasks before the faulty one stand" (02, 5): the words before a faulty task are by themselves a faultless batch with the same tasks.
+use mathlib.Core.Path.{_≡_, refl, sym, ap, _∙_}
+use mathlib.Core.Bool.{Bool, true, false, cond}
+use mathlib.Core.Logic.{_⊎_, inl, inr, ⊎-elim}
+use mathlib.Core.List.{List, [], _∷_}
+use Prim.Native.Nat.{ℕ, zero, suc, _+_, _*_, _≤_}
+use native.Mathlib.Omega.{arith}
+use lib.ListN.{length, take}
+use lib.Seq.{length-take-le}
+use lib.Dec.{eqb, ltb, eqb·suc-zero}
+use borrow.Author.Tests.{eqb-false, le-ltb}
+use Rattle.word.specs.Field.{field}
+use Rattle.word.proofs.Tests.{or-false}
+use Rattle.register.specs.Bank.{writeRegister}
+use Rattle.register.specs.Task.{taskOf}
+use Rattle.register.specs.declared.bank.Bank.{Bank}
+use Rattle.register.specs.declared.bank.Write.{Write}
+use Rattle.register.specs.declared.bank.Write.the-variants.{Bank as Taken, Refused}
+use Rattle.register.specs.declared.task.Task.{Task}
+use Rattle.rules.specs.declared.fault.Fault.{Fault}
+use Rattle.rules.specs.declared.fault.Fault.the-variants.{ReservedBits, GroupLength}
+use Rattle.rules.specs.declared.task.Bounds.{Bounds}
+use Rattle.rules.specs.declared.task.Check.{Check}
+use Rattle.rules.specs.declared.task.Check.the-variants.{Valid, Invalid}
+use Rattle.rules.specs.Rules.{checkTask}
+use Rattle.batch.specs.declared.verdict.Verdict.the-variants.{Faulty}
+use Rattle.batch.specs.Batch.{DecodedBatch, BatchEnd, finished, faulty, stopWith, consTask, DecoderState, start, inside, reservedBits, badGroupLength, decodeHeader, afterWrite, afterTaskCheck, groupOf, decodeFrom, decodeBatch, verdictOf}
+use Rattle.batch.proofs.Readings.{onFrom, onWith}
+use Rattle.batch.proofs.Steps.{faulty-stopped}
+use Rattle.raster.specs.Task.{drawTasks}
+use Rattle.raster.proofs.Fold.{batch-tasks}
+use Rattle.claims.specs.Demand2.{Standing}
+
+-- a fault lies at word m or past it
+abbrev Above : (m : ℕ) → BatchEnd → Type 0
+Above m finished = Unit {0}
+Above m (faulty f offset) = 4 * m ≤ offset
+
+above-less : (m n : ℕ) (e : BatchEnd) → m ≤ n → Above n e → Above m e
+above-less m n finished h a = tt
+above-less m n (faulty f offset) h a = omega arith
+
+-- the task that is read is the faulty one, and its group begins at word `head`
+abbrev First : (head : ℕ) → DecodedBatch → Type 0
+First head r = (r .tasks ≡ []) × Above head (r .ending)
+
+-- a group that is whole among fewer words
+whole : (count follow less : ℕ) → badGroupLength count follow ≡ false → count ≤ less → badGroupLength count less ≡ false
+whole zero follow less e h = absurd (eqb-false 0 0 (or-false (eqb 0 0) (ltb follow 0) e .0) refl)
+whole (suc n) follow less e h = rw (eqb·suc-zero n, le-ltb less (suc n) h)
+
+goes-on : (b : Bank) (k h follow : ℕ) (go : DecoderState → DecodedBatch) → reservedBits h ≡ false → badGroupLength (field 15 2 h) follow ≡ false → decodeHeader b k h follow go ≡ go (groupOf k h)
+goes-on b k h follow go e l = simp (e, l)
+
+module _ (bounds : Bounds) where
+  -- a reading of the first words alone, `least` of them at least: the same tasks, and then the end, no later than the fault
+  record Cut (b : Bank) (k : ℕ) (position : DecoderState) (least : ℕ) (ws : List ℕ) (r : DecodedBatch) : Type 0 where
+    count : ℕ
+    enough : least ≤ count
+    within : count ≤ length ws
+    bank : Bank
+    reads : decodeFrom bounds b k position (take count ws) ≡ record { tasks = r .tasks; ending = finished; bank = bank }
+    low : Above (k + count) (r .ending)
+
+  -- where a group is read, its task may be the faulty one
+  abbrev Claim : Bank → ℕ → DecoderState → List ℕ → DecodedBatch → Type 0
+  Claim b k start ws r = Cut b k start 0 ws r
+  Claim b k (inside left offset ends head) ws r = head ≤ k → First head r ⊎ Cut b k (inside left offset ends head) left ws r
+
+  -- a header follows
+  header-cut : (b : Bank) (k h : ℕ) (ws : List ℕ) (position : DecoderState)
+      → ((xs : List ℕ) → decodeFrom bounds b k position (h ∷ xs) ≡ decodeHeader b k h (length xs) (onFrom bounds b k xs))
+      → Claim b (k + 1) (groupOf k h) ws (decodeFrom bounds b (k + 1) (groupOf k h) ws)
+      → First k (decodeHeader b k h (length ws) (onFrom bounds b k ws)) ⊎ Cut b k position 0 (h ∷ ws) (decodeHeader b k h (length ws) (onFrom bounds b k ws))
+  header-cut b k h ws position opens on = by (reservedBits h) (badGroupLength (field 15 2 h) (length ws)) refl refl
+    where
+      after : DecodedBatch
+      after = decodeFrom bounds b (k + 1) (groupOf k h) ws
+
+      further : reservedBits h ≡ false → badGroupLength (field 15 2 h) (length ws) ≡ false → Cut b (k + 1) (groupOf k h) (field 15 2 h) ws after → Cut b k position 0 (h ∷ ws) after
+      further e l c =
+          let long : length (take (c .count) ws) ≡ c .count = length-take-le (c .count) ws (c .within) in
+          record {
+            count = suc (c .count);
+            enough = omega arith;
+            within = omega (arith, c .within);
+            bank = c .bank;
+            reads =
+                opens (take (c .count) ws)
+                ∙ goes-on b k h (length (take (c .count) ws)) (onFrom bounds b k (take (c .count) ws)) e (whole (field 15 2 h) (length ws) _ l (omega (arith, c .enough, long)))
+                ∙ c .reads;
+            low = above-less (k + suc (c .count)) (k + 1 + c .count) (after .ending) (omega arith) (c .low);
+          }
+
+      by : (r l : Bool) → reservedBits h ≡ r → badGroupLength (field 15 2 h) (length ws) ≡ l
+          → First k (cond r (stopWith b (faulty ReservedBits (4 * k))) (cond l (stopWith b (faulty GroupLength (4 * k))) after))
+          ⊎ Cut b k position 0 (h ∷ ws) (cond r (stopWith b (faulty ReservedBits (4 * k))) (cond l (stopWith b (faulty GroupLength (4 * k))) after))
+      by true l er el = inl (refl, omega arith)
+      by false true er el = inl (refl, omega arith)
+      by false false er el = ⊎-elim (λ (n : First k after). inl n) (λ (c : Cut b (k + 1) (groupOf k h) (field 15 2 h) ws after). inr (further er el c)) (on (omega arith))
+
+  -- before a task
+  start-none : (b : Bank) (k : ℕ) (ws : List ℕ) (r : DecodedBatch) → First k r → Cut b k start 0 ws r
+  unfolding decodeFrom
+  start-none b k ws r n = record {
+    count = 0;
+    enough = omega arith;
+    within = omega arith;
+    bank = b;
+    reads = rw (n .0);
+    low = above-less (k + 0) k (r .ending) (omega arith) (n .1);
+  }
+
+  start-cut : (b : Bank) (k h : ℕ) (ws : List ℕ) → Claim b (k + 1) (groupOf k h) ws (decodeFrom bounds b (k + 1) (groupOf k h) ws)
+      → Cut b k start 0 (h ∷ ws) (decodeFrom bounds b k start (h ∷ ws))
+  unfolding decodeFrom
+  start-cut b k h ws on =
+      ⊎-elim (start-none b k (h ∷ ws) (decodeFrom bounds b k start (h ∷ ws))) (λ (c : Cut b k start 0 (h ∷ ws) (decodeFrom bounds b k start (h ∷ ws))). c)
+      (header-cut b k h ws start (λ xs. refl) on)
+
+  -- in a group
+  word-cut : (b : Bank) (k n offset : ℕ) (ends : Bool) (head w : ℕ) (ws : List ℕ)
+      → ((next : Bank) → Claim next (k + 1) (inside n (offset + 4) ends head) ws (decodeFrom bounds next (k + 1) (inside n (offset + 4) ends head) ws))
+      → Claim b k (inside (suc n) offset ends head) (w ∷ ws) (decodeFrom bounds b k (inside (suc n) offset ends head) (w ∷ ws))
+  unfolding decodeFrom
+  word-cut b k n offset ends head w ws on lower = by (writeRegister b offset w) refl
+    where
+      by : (x : Write) → writeRegister b offset w ≡ x
+          → First head (afterWrite b k x (onWith bounds k (inside n (offset + 4) ends head) ws))
+          ⊎ Cut b k (inside (suc n) offset ends head) (suc n) (w ∷ ws) (afterWrite b k x (onWith bounds k (inside n (offset + 4) ends head) ws))
+      by (Refused f) e = inl (refl, omega arith)
+      by (Taken next) e =
+          let r = decodeFrom bounds next (k + 1) (inside n (offset + 4) ends head) ws in
+          ⊎-elim (λ (z : First head r). inl z)
+          (λ (c : Cut next (k + 1) (inside n (offset + 4) ends head) n ws r). inr (record {
+            count = suc (c .count);
+            enough = omega (arith, c .enough);
+            within = omega (arith, c .within);
+            bank = c .bank;
+            reads = ap (λ (x : Write). afterWrite b k x (onWith bounds k (inside n (offset + 4) ends head) (take (c .count) ws))) e ∙ c .reads;
+            low = above-less (k + suc (c .count)) (k + 1 + c .count) (r .ending) (omega arith) (c .low);
+          }))
+          (on next (omega arith))
+
+  -- after a group that ends the task
+  ended : (b : Bank) (k offset head : ℕ) (ws : List ℕ) → decodeFrom bounds b k (inside zero offset true head) ws ≡ afterTaskCheck (checkTask bounds (taskOf b)) b head (decodeFrom bounds b k start ws)
+  unfolding decodeFrom
+  ended b k offset head [] = refl
+  ended b k offset head (w ∷ ws) = refl
+
+  judged-cut : (b : Bank) (k offset head : ℕ) (ws : List ℕ) → Cut b k start 0 ws (decodeFrom bounds b k start ws)
+      → Claim b k (inside zero offset true head) ws (decodeFrom bounds b k (inside zero offset true head) ws)
+  judged-cut b k offset head ws c lower = rw (ended b k offset head ws) (by (checkTask bounds (taskOf b)) refl)
+    where
+      after : DecodedBatch
+      after = decodeFrom bounds b k start ws
+
+      by : (check : Check) → checkTask bounds (taskOf b) ≡ check → First head (afterTaskCheck check b head after) ⊎ Cut b k (inside zero offset true head) 0 ws (afterTaskCheck check b head after)
+      by Valid e = inr (record {
+        count = c .count;
+        enough = c .enough;
+        within = c .within;
+        bank = c .bank;
+        reads =
+            ended b k offset head (take (c .count) ws)
+            ∙ ap (λ (check : Check). afterTaskCheck check b head (decodeFrom bounds b k start (take (c .count) ws))) e
+            ∙ ap (consTask (taskOf b)) (c .reads);
+        low = c .low;
+      })
+      by (Invalid f) e = inl (refl, omega arith)
+
+  cut-from : (b : Bank) (k : ℕ) (position : DecoderState) (ws : List ℕ) → Claim b k position ws (decodeFrom bounds b k position ws)
+  unfolding decodeFrom
+  cut-from b k start [] = start-none b k [] (stopWith b finished) (refl, tt)
+  cut-from b k start (h ∷ ws) = start-cut b k h ws (cut-from b (k + 1) (groupOf k h) ws)
+  cut-from b k (inside (suc n) offset ends head) [] = λ lower. inl (refl, omega arith)
+  cut-from b k (inside (suc n) offset ends head) (w ∷ ws) = word-cut b k n offset ends head w ws (λ next. cut-from next (k + 1) (inside n (offset + 4) ends head) ws)
+  cut-from b k (inside zero offset false head) [] = λ lower. inl (refl, omega arith)
+  cut-from b k (inside zero offset false head) (h ∷ ws) = λ lower.
+      let r = decodeHeader b k h (length ws) (onFrom bounds b k ws) in
+      ⊎-elim (λ (n : First k r). inl (n .0, above-less head k (r .ending) lower (n .1))) (λ (c : Cut b k (inside zero offset false head) 0 (h ∷ ws) r). inr c)
+      (header-cut b k h ws (inside zero offset false head) (λ xs. refl) (cut-from b (k + 1) (groupOf k h) ws))
+  cut-from b k (inside zero offset true head) [] = judged-cut b k offset head [] (start-none b k [] (stopWith b finished) (refl, tt))
+  cut-from b k (inside zero offset true head) (h ∷ ws) = judged-cut b k offset head (h ∷ ws) (start-cut b k h ws (cut-from b (k + 1) (groupOf k h) ws))
+
+pub standing-before : (bounds : Bounds) (bank : Bank) (words memory : List ℕ) (tasks : ℕ) (fault : Fault) (offset : ℕ) → verdictOf (decodeBatch bounds bank words) ≡ Faulty tasks fault offset
+    → Standing bounds bank words memory tasks offset
+standing-before bounds bank words memory tasks fault offset v =
+    let c = cut-from bounds bank 0 start words in
+    let r = decodeBatch bounds bank words in
+    let stopped = faulty-stopped tasks fault offset r v in
+    let low : Above (0 + c .count) (faulty fault offset) = rw (stopped .0) at (c .low) in
+    record {
+      before = c .count;
+      within = omega (arith, low);
+      faultless = ap verdictOf (c .reads) ∙ rw (stopped .1);
+      same =
+          batch-tasks bounds bank words memory
+          ∙ ap (λ (d : DecodedBatch). drawTasks (d .tasks) memory) (sym (c .reads))
+          ∙ sym (batch-tasks bounds bank (take (c .count) words) memory);
+    }

@@ -1,0 +1,2 @@
+-- How much the bits of a setting come to.
+pub mod Bits

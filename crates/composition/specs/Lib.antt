@@ -1,0 +1,2 @@
+-- Two drawings as one.
+pub mod Twice

@@ -1,0 +1,12 @@
+use borrow.Author.Needs.{needs}
+use Rattle.encoder.proofs.fields.Fields.reset.Statement.{statement}
+use Rattle.encoder.proofs.fields.Fields.reset.Tie as tie
+
+reset-requires : tie.Need-reset-requires
+reset-requires c κs = search needs
+
+returns : tie.Need-returns
+returns c = simp (c .reset .ensures)
+
+pub reset-spec : {M : Type 1} → statement M
+reset-spec = tie.close (tie.spec reset-requires returns)

@@ -1,0 +1,2 @@
+-- Laws of the reset rule.
+pub mod Numbers

@@ -1,0 +1,2 @@
+-- The reset rule.
+pub mod Reset

@@ -1,0 +1,2 @@
+-- Laws of rows moved as they are.
+pub mod Bytes

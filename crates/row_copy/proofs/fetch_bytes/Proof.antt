@@ -1,0 +1,42 @@
+use mathlib.Core.Path.{sym, ap, _∙_}
+use native.Mathlib.Nat.{not-suc-le-zero}
+use lib.ListN.{length}
+use denote.Ref.{now}
+use Rattle.surface.specs.Drawn.{loadPixel}
+use Rattle.rows.specs.Row.{colourAt}
+use Rattle.rows.proofs.Straight.{side-by-side, side-by-side-in}
+use Rattle.row_copy.proofs.Bytes.{narrower}
+use borrow.Author.Needs.{needs}
+use Rattle.row_copy.proofs.fetch_bytes.Statement.{statement}
+use Rattle.row_copy.proofs.fetch_bytes.Tie as tie
+
+returns : tie.Need-returns
+returns c = λ x z. absurd (not-suc-le-zero (rw (c .if1 .taken) at z))
+
+origin-requires : tie.Need-origin-requires
+origin-requires c κs = search needs
+
+load-row-requires : tie.Need-load-row-requires
+load-row-requires c κs =
+    let s = c .before .before .before .before .before in
+    let a = s .args in
+    let p = s .pre .0 in (
+      rw (c .origin .ensures) (side-by-side-in (a .s) (a .transform) (s .pre .1) (s .pre .2) (a .y) (a .width) _ (rw (s .pre .1) at (p .down)) (rw (s .pre .1) at (p .across)) (p .inside)),
+      narrower (a .s .format) (a .width) (length (now (a .buffer))) (p .room),
+    )
+
+same-length : tie.Need-same-length
+same-length c = search needs
+
+returns-2 : tie.Need-returns-2
+unfolding colourAt
+returns-2 c =
+    let o = c .before .before .before in
+    let s = o .before .before .before .before .before in
+    let a = s .args in
+    λ x z.
+    c .before .before .load-row .ensures x z
+    ∙ ap (loadPixel (a .s .format) (now (a .memory))) (rw (o .origin .ensures) (sym (side-by-side (a .s) (a .transform) (s .pre .1) (s .pre .2) x (a .y))))
+
+pub fetch-bytes-spec : {M : Type 1} → statement M
+fetch-bytes-spec = tie.close (tie.spec returns origin-requires load-row-requires same-length returns-2)

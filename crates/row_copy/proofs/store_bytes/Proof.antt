@@ -1,0 +1,24 @@
+use native.Mathlib.Omega.{arith}
+use denote.Ref.{now}
+use Rattle.row_copy.proofs.Bytes.{row-copied}
+use borrow.Author.Needs.{needs}
+use Rattle.row_copy.proofs.store_bytes.Statement.{statement}
+use Rattle.row_copy.proofs.store_bytes.Tie as tie
+
+copy-requires : tie.Need-copy-requires
+copy-requires c κs = search needs
+
+same-length : tie.Need-same-length
+same-length c = search needs
+
+returns : tie.Need-returns
+returns c =
+    let e = c .before .before .before in
+    let s = e .before .before .before in
+    let a = s .args in
+    let f = c .before .before .copy in
+    row-copied (a .format) (now (a .source)) (now (a .row)) (f .last .0) (a .width) (λ j. omega (arith, e .before .shared-slice-known .given j))
+    (s .pre .1) (s .pre .0) (f .kept .0) (f .ensures)
+
+pub store-bytes-spec : {M : Type 1} → statement M
+store-bytes-spec = tie.close (tie.spec copy-requires same-length returns)

@@ -1,0 +1,2 @@
+-- Rows of pixels in a format's own bytes.
+pub mod Held
