@@ -27,7 +27,7 @@ use crate::trials::{Agreed, Trials};
 /// A subject's name, and what tries its cases.
 type Subject = (&'static str, fn(&mut Trials) -> Agreed);
 
-const SUBJECTS: [Subject; 16] = [
+const SUBJECTS: [Subject; 17] = [
     ("examples of the scope paper", examples::compare),
     ("registers", registers::compare),
     ("headers and groups", headers::compare),
