@@ -212,6 +212,7 @@ impl BlendingFields {
         source: 1,
         destination: 3,
         on: 1,
+        premultiplied: 0,
     };
 
     fn reset(rule: ResetRule) -> BlendingFields
