@@ -375,9 +375,9 @@ impl Task {
     /// This task, with a source whose colours were multiplied by their alphas. It counts where the task is blended.
     ///
     /// ```
-    /// use wenditsal::{Engine, Refusal, Rule, Setup, Surface, Task};
+    /// use wenditsal::{Engine, Refusal, ResetRule, Rule, Setup, Surface, Task};
     ///
-    /// let mut engine = Engine::new(Setup { ring: 128, memory: 64, common: 0 })?;
+    /// let mut engine = Engine::new(Setup { ring: 128, memory: 64, common: 0, reset: ResetRule::SrcOver })?;
     /// let client = engine.open(0, 64)?;
     ///
     /// let page = Surface { width: 1, height: 1, stride: 8, ..Surface::default() };
