@@ -13,6 +13,7 @@ pub struct Fields {
     pub source_factor: u32,
     pub destination_factor: u32,
     pub blend: u32,
+    pub premultiplied: u32,
 }
 
 #[repr(C)]

@@ -245,6 +245,8 @@ pub struct Blending {
     pub destination: Factor,
     /// Off, the source's pixels are stored as they are.
     pub on: bool,
+    /// The source's colours were multiplied by their alphas, and are divided by them before they are blended.
+    pub premultiplied: bool,
 }
 
 impl Default for Blending {
@@ -259,7 +261,7 @@ impl From<ResetRule> for Blending {
     fn from(rule: ResetRule) -> Self {
         let (source, destination) = Rule::None.factors();
         match rule {
-            ResetRule::Unblended => Blending { source, destination, on: false },
+            ResetRule::Unblended => Blending { source, destination, on: false, premultiplied: false },
             ResetRule::SrcOver => Rule::SrcOver.into(),
         }
     }
@@ -268,7 +270,7 @@ impl From<ResetRule> for Blending {
 impl From<Rule> for Blending {
     fn from(rule: Rule) -> Self {
         let (source, destination) = rule.factors();
-        Blending { source, destination, on: true }
+        Blending { source, destination, on: true, premultiplied: false }
     }
 }
 
@@ -370,6 +372,25 @@ impl Task {
         self
     }
 
+    /// This task, with a source whose colours were multiplied by their alphas. It counts where the task is blended.
+    ///
+    /// ```
+    /// use wenditsal::{Engine, Refusal, ResetRule, Rule, Setup, Surface, Task};
+    ///
+    /// let mut engine = Engine::new(Setup { ring: 128, memory: 64, common: 0, reset: ResetRule::SrcOver })?;
+    /// let client = engine.open(0, 64)?;
+    ///
+    /// let page = Surface { width: 1, height: 1, stride: 8, ..Surface::default() };
+    /// engine.submit(client, &Task::fill(0x8040_4040, page).blended(Rule::Src).premultiplied().encode()?)?;
+    /// assert_eq!(engine.run()?.fault, None);
+    /// assert_eq!(engine.memory()[..4], [128, 128, 128, 128]);
+    /// # Ok::<(), Refusal>(())
+    /// ```
+    pub fn premultiplied(mut self) -> Task {
+        self.blending.premultiplied = true;
+        self
+    }
+
     /// The 80 bytes of the batch of this one task. Such batches put one after the other are a batch of several tasks.
     ///
     /// ```
@@ -411,6 +432,7 @@ impl Task {
             source_factor: blending.source as u32,
             destination_factor: blending.destination as u32,
             blend: blending.on.into(),
+            premultiplied: blending.premultiplied.into(),
         }
     }
 }

@@ -1,5 +1,6 @@
 -- The colours of a buffer by its bytes: a pass over the bytes is a pass over the colours.
 use mathlib.Core.Path.{_≡_, refl, sym, ap, _∙_, subst}
+use mathlib.Core.Bool.{Bool, true, false, cond}
 use mathlib.Core.List.{List}
 use Prim.Native.Nat.{ℕ, _+_, _-_, _*_, _/_, _%_, _^_, _≤_, _<_}
 use native.Mathlib.Omega.{arith}
@@ -29,6 +30,9 @@ use Rattle.lanes.proofs.Passes.{to-end}
 use Rattle.alpha_modes.specs.Mode.{modeAt}
 use Rattle.alpha_modes.proofs.Alphas.{at-alpha, at-other}
 use Rattle.combine.specs.Blend.{alphaAt, blendAt}
+use Rattle.unpremultiply.specs.Unpremultiply.{unpremultiplied}
+use Rattle.unpremultiply.specs.Prepared.{dividedAt, preparedAt}
+use Rattle.unpremultiply.proofs.Pixels.{at-alpha as alpha-kept, at-colour}
 
 -- a row of bytes
 abbrev pub Row : List ℕ → Type 0
@@ -90,6 +94,29 @@ module _ (d e : List ℕ) (width : ℕ) (in-d : Row d) (in-e : Row e) (long-d : 
       colour-is e (x * 4) in-e (omega arith)
       ∙ ((rw (a, r, h, b)) ∙ ap (withAlpha mode g) (sym (colour-is d (x * 4) in-d (omega arith))))
 
+  divided-colour : Done (dividedAt d) d e 0 (width * 4) → (x : ℕ) → x < width → colourIn e x ≡ unpremultiplied (colourIn d x)
+  divided-colour did x l =
+      let a = did .done (x * 4 + 3) (omega arith) (omega arith) ∙ alpha-kept d (x * 4 + 3) (omega arith) in
+      let r = did .done (x * 4 + 2) (omega arith) (omega arith) ∙ at-colour d (x * 4 + 2) (x * 4 + 3) (omega arith) (omega arith) in
+      let h = did .done (x * 4 + 1) (omega arith) (omega arith) ∙ at-colour d (x * 4 + 1) (x * 4 + 3) (omega arith) (omega arith) in
+      let b = did .done (x * 4) (omega arith) (omega arith) ∙ at-colour d (x * 4) (x * 4 + 3) (omega arith) (omega arith) in
+      colour-is e (x * 4) in-e (omega arith)
+      ∙ ((rw (a, r, h, b)) ∙ ap unpremultiplied (sym (colour-is d (x * 4) in-d (omega arith))))
+
+  kept-colour : Done (λ j. getD d j 0) d e 0 (width * 4) → (x : ℕ) → x < width → colourIn e x ≡ colourIn d x
+  kept-colour did x l =
+      let a = did .done (x * 4 + 3) (omega arith) (omega arith) in
+      let r = did .done (x * 4 + 2) (omega arith) (omega arith) in
+      let h = did .done (x * 4 + 1) (omega arith) (omega arith) in
+      let b = did .done (x * 4) (omega arith) (omega arith) in
+      colour-is e (x * 4) in-e (omega arith)
+      ∙ ((rw (a, r, h, b)) ∙ sym (colour-is d (x * 4) in-d (omega arith)))
+
+  pub prepared-colour : (b : Bool) → Done (preparedAt b d) d e 0 (width * 4) → (x : ℕ) → x < width → colourIn e x ≡ cond b (unpremultiplied (colourIn d x)) (colourIn d x)
+  unfolding preparedAt
+  prepared-colour true = divided-colour
+  prepared-colour false = kept-colour
+
   pub blend-colour : (rule : Rule) (s : List ℕ) → Row s → width * 4 ≤ length s → Done (blendAt rule s d) d e 0 (width * 4) → (x : ℕ) → x < width →
       colourIn e x ≡ blended rule (colourIn s x) (colourIn d x)
   unfolding blended blendAt
@@ -119,16 +146,17 @@ module _ (d e : List ℕ) (width : ℕ) (in-d : Row d) (in-e : Row e) (long-d : 
       (four-bytes c (all-bytes e (j / 4 * 4) in-e) e (j / 4 * 4) refl refl refl refl (j % 4) (omega arith)
       ∙ ap (λ (k : Colour). byteOf (packed (layoutOf Argb8888) k) (j % 4)) q))
 
--- the passes of a row: alpha modes on both rows, then the rule
-pub mix-is : (blending : Blending) (source destination : Alpha) (rule : Rule) (s s′ d d′ e : List ℕ) (width : ℕ) → Row s → Row s′ → Row d → Row d′ → Row e →
-    width * 4 ≤ length s → length s′ ≡ length s → length d ≡ width * 4 → length d′ ≡ length d → length e ≡ length d → rule ≡ blending .rule →
-    Done (modeAt (source .mode) (source .global) s) s s′ 0 (width * 4) → Done (modeAt (destination .mode) (destination .global) d) d d′ 0 (width * 4) →
+-- the passes of a row: a premultiplied source divided, alpha modes on both rows, then the rule
+pub mix-is : (blending : Blending) (source destination : Alpha) (rule : Rule) (s t s′ d d′ e : List ℕ) (width : ℕ) → Row s → Row t → Row s′ → Row d → Row d′ → Row e →
+    Done (preparedAt (blending .premultiplied) s) s t 0 (width * 4) →
+    width * 4 ≤ length s → length t ≡ length s → length s′ ≡ length t → length d ≡ width * 4 → length d′ ≡ length d → length e ≡ length d → rule ≡ blending .rule →
+    Done (modeAt (source .mode) (source .global) t) t s′ 0 (width * 4) → Done (modeAt (destination .mode) (destination .global) d) d d′ 0 (width * 4) →
     Done (blendAt rule s′ d′) d′ e 0 (length d′) →
     e ≡ rowStored Argb8888 (λ x. composite blending source destination (colourIn s x) (colourIn d x)) d
 unfolding composite
-mix-is blending source destination rule s s′ d d′ e width in-s in-s′ in-d in-d′ in-e ls ls′ ld ld′ le is-rule on-s on-d did =
+mix-is blending source destination rule s t s′ d d′ e width in-s in-t in-s′ in-d in-d′ in-e on-t ls lt ls′ ld ld′ le is-rule on-s on-d did =
     row-is d e width in-d in-e (omega arith) (omega arith) _ le ld
     (λ x l.
     blend-colour d′ e width in-d′ in-e (omega arith) (omega arith) rule s′ in-s′ (omega arith)
     (to-end (blendAt rule s′ d′) d′ e 0 (length d′) (width * 4) (omega arith) did) x l
-    ∙ rw (is-rule, mode-colour s s′ width in-s in-s′ (omega arith) (omega arith) (source .mode) (source .global) on-s x l, mode-colour d d′ width in-d in-d′ (omega arith) (omega arith) (destination .mode) (destination .global) on-d x l))
+    ∙ rw (is-rule, mode-colour t s′ width in-t in-s′ (omega arith) (omega arith) (source .mode) (source .global) on-s x l, prepared-colour s t width in-s in-t (omega arith) (omega arith) (blending .premultiplied) on-t x l, mode-colour d d′ width in-d in-d′ (omega arith) (omega arith) (destination .mode) (destination .global) on-d x l))

@@ -1,4 +1,4 @@
-// A row of colours blended with a row of colours, in place: alpha modes, then the rule.
+// A row of colours blended with a row of colours, in place: a premultiplied source divided, alpha modes, then the rule.
 ghost use mathlib.Core.Path.{_≡_};
 ghost use Rattle.pixel.specs.declared.format.Format.the-variants.{Argb8888};
 ghost use Rattle.rows.specs.Row.{colourIn, rowStored};
@@ -9,6 +9,7 @@ use combine::Plan;
 use combine::blend_row;
 use register::Alpha;
 use register::Blending;
+use unpremultiply::prepare_row;
 
 pub fn mix_row(
     d: &mut [u8],
@@ -24,6 +25,7 @@ pub fn mix_row(
 {
     let sm = source.mode;
     let dm = destination.mode;
+    prepare_row(s, width, blending.premultiplied);
     alpha_row(s, width, sm, source.global);
     alpha_row(d, width, dm, destination.global);
     blend_row(d, s, p);

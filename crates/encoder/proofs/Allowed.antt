@@ -52,6 +52,7 @@ pub record BlendingFits (b : BlendingFields) : Type 0 where
   pub source : b .source ≤ 5
   pub destination : b .destination ≤ 5
   pub on : b .on < 2
+  pub premultiplied : b .premultiplied < 2
 
 -- the parts of `allowed`
 pub record Parts (f : Fields) : Type 0 where
@@ -176,12 +177,15 @@ unfolding blendingAllowed
 blending-fits b ok =
     let source : Bool = isFactor (b .source) in
     let destination : Bool = isFactor (b .destination) in
-    let two = and-true (source && destination) (fitsIn 1 (b .on)) ok in
+    let on : Bool = fitsIn 1 (b .on) in
+    let three = and-true (source && destination && on) (fitsIn 1 (b .premultiplied)) ok in
+    let two = and-true (source && destination) on (three .0) in
     let one = and-true source destination (two .0) in
     record {
       source = leb-true (b .source) 5 (one .0);
       destination = leb-true (b .destination) 5 (one .1);
       on = ltb-true (b .on) 2 (two .1);
+      premultiplied = ltb-true (b .premultiplied) 2 (three .1);
     }
 
 pub parts : (f : Fields) → allowed f ≡ true → Parts f

@@ -109,9 +109,17 @@ module _ (s : SurfaceFields) (h : SurfaceFits s) where
 
 -- of the blending word
 module _ (b : BlendingFields) (h : BlendingFits b) where
-  pub blending-unused : field 31 14 (blendingWord b) ≡ 0
+  pub blending-unused : field 31 18 (blendingWord b) ≡ 0
   unfolding blendingWord
   blending-unused = omega arith
+
+  pub blending-premultiplied : field 17 17 (blendingWord b) ≡ b .premultiplied
+  unfolding blendingWord
+  blending-premultiplied = omega arith
+
+  pub blending-unused-mid : field 16 14 (blendingWord b) ≡ 0
+  unfolding blendingWord
+  blending-unused-mid = omega arith
 
   pub blending-source : field 13 11 (blendingWord b) ≡ b .source
   unfolding blendingWord

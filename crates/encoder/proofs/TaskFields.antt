@@ -47,7 +47,7 @@ blending-taken : (b : BlendingFields) → BlendingFits b → blendingAccepts (bl
 blending-taken b h =
     let source = le-leb (b .source) 5 (h .source) in
     let destination = le-leb (b .destination) 5 (h .destination) in
-    rw (bits.blending-unused b h, bits.blending-source b h, bits.blending-destination b h, bits.blending-unused-low b h, source, destination)
+    rw (bits.blending-unused b h, bits.blending-unused-mid b h, bits.blending-source b h, bits.blending-destination b h, bits.blending-unused-low b h, source, destination)
 
 pub all-taken : (f : Fields) → allowed f ≡ true → AllTaken (bankOf f)
 unfolding bankOf surfaceRegisters
@@ -103,7 +103,7 @@ destination-back f h =
 
 blending-back : (f : Fields) → BlendingFits (f .blending) → blendingOf (bankOf f) ≡ blendingWith (f .blending)
 unfolding blendingOf bankOf blendingWith
-blending-back f h = simp (bits.blending-source (f .blending) h, bits.blending-destination (f .blending) h, bits.blending-on (f .blending) h)
+blending-back f h = simp (bits.blending-source (f .blending) h, bits.blending-destination (f .blending) h, bits.blending-on (f .blending) h, bits.blending-premultiplied (f .blending) h)
 
 output-back : (f : Fields) → SurfaceFits (f .output) → surfaceOf (bankOf f .output) ≡ surfaceWith (f .output)
 unfolding bankOf

@@ -44,9 +44,9 @@ sourceAllowed s =
 unfoldable pub destinationAllowed : DestinationFields → Bool
 destinationAllowed d = surfaceAllowed (d .surface) && alphaAllowed (d .alpha) && fitsIn 1 (d .enable)
 
--- 13:11 source factor, 10:8 destination factor, 0 blend on
+-- 13:11 source factor, 10:8 destination factor, 0 blend on, 17 premultiplied (02, request 12)
 unfoldable pub blendingAllowed : BlendingFields → Bool
-blendingAllowed b = isFactor (b .source) && isFactor (b .destination) && fitsIn 1 (b .on)
+blendingAllowed b = isFactor (b .source) && isFactor (b .destination) && fitsIn 1 (b .on) && fitsIn 1 (b .premultiplied)
 
 -- all of a task's fields; a colour has all bits
 unfoldable pub allowed : Fields → Bool

@@ -35,9 +35,9 @@ sourceControl s = alphaBits (s .alpha) + s .surface .format * 0x100 + transformB
 unfoldable pub destinationControl : DestinationFields → ℕ
 destinationControl d = alphaBits (d .alpha) + d .surface .format * 0x100 + d .enable
 
--- 13:11 source factor, 10:8 destination factor, 0 blend on
+-- 17 premultiplied, 13:11 source factor, 10:8 destination factor, 0 blend on
 unfoldable pub blendingWord : BlendingFields → ℕ
-blendingWord b = b .source * 0x800 + b .destination * 0x100 + b .on
+blendingWord b = b .premultiplied * 0x20000 + b .source * 0x800 + b .destination * 0x100 + b .on
 
 -- the bank with exactly these fields; of the output control, 14:8 format
 unfoldable pub bankOf : Fields → Bank

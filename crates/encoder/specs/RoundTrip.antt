@@ -71,6 +71,7 @@ unfoldable pub blendingWith : BlendingFields → Blending
 blendingWith b = record {
   on = eqb (b .on) 1;
   rule = record { source = factorOf (b .source); destination = factorOf (b .destination) };
+  premultiplied = eqb (b .premultiplied) 1;
 }
 
 unfoldable pub taskWith : Fields → Task

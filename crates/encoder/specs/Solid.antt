@@ -30,8 +30,8 @@ resetDestination = record { surface = resetSurface; alpha = resetAlpha; enable =
 
 -- by the reset rule (02, request 2: "the writer's 'rest at reset' takes the choice too"): NONE and off, or SRC_OVER and on
 abbrev pub resetBlending : ResetRule → BlendingFields
-resetBlending Unblended = record { source = 2; destination = 3; on = 0 }
-resetBlending SrcOver = record { source = 1; destination = 3; on = 1 }
+resetBlending Unblended = record { source = 2; destination = 3; on = 0; premultiplied = 0 }
+resetBlending SrcOver = record { source = 1; destination = 3; on = 1; premultiplied = 0 }
 
 abbrev pub resetFields : ResetRule → Fields
 resetFields rule = record { source = resetSource; destination = resetDestination; output = resetSurface; colour = 0; blending = resetBlending rule }

@@ -57,6 +57,8 @@ pub struct BlendingFields {
     pub source: u32,
     pub destination: u32,
     pub on: u32,
+    // 1 where the source's colours were multiplied by their alphas
+    pub premultiplied: u32,
 }
 
 #[repr(C)]
@@ -203,12 +205,14 @@ impl BlendingFields {
         source: 2,
         destination: 3,
         on: 0,
+        premultiplied: 0,
     };
 
     pub const SRC_OVER: BlendingFields = BlendingFields {
         source: 1,
         destination: 3,
         on: 1,
+        premultiplied: 0,
     };
 
     fn reset(rule: ResetRule) -> BlendingFields
@@ -223,14 +227,17 @@ impl BlendingFields {
     fn is_allowed(self) -> bool
         ensures { λ r. ⌜ r ≡ blendingAllowed self ⌝ }
     {
-        Factor::is_code(self.source) & Factor::is_code(self.destination) & (self.on < 2)
+        Factor::is_code(self.source)
+            & Factor::is_code(self.destination)
+            & (self.on < 2)
+            & (self.premultiplied < 2)
     }
 
     fn word(self) -> u32
         requires { ⌜ blendingAllowed self ≡ true ⌝ }
         ensures { λ r. ⌜ r ≡ blendingWord self ⌝ }
     {
-        self.source * 0x800 + self.destination * 0x100 + self.on
+        self.premultiplied * 0x20000 + self.source * 0x800 + self.destination * 0x100 + self.on
     }
 }
 

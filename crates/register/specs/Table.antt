@@ -62,10 +62,11 @@ sizeAccepts word = eqb (field 31 29 word) 0 && eqb (field 15 13 word) 0
 abbrev pub strideAccepts : ℕ → Bool
 strideAccepts word = eqb (field 31 16 word) 0
 
--- 13:11 source factor, 10:8 destination factor, 0 blend on
+-- 17 premultiplied (02, request 12), 13:11 source factor, 10:8 destination factor, 0 blend on
 abbrev pub blendingAccepts : ℕ → Bool
 blendingAccepts word =
-    eqb (field 31 14 word) 0
+    eqb (field 31 18 word) 0
+    && eqb (field 16 14 word) 0
     && isFactor (field 13 11 word)
     && isFactor (field 10 8 word)
     && eqb (field 7 1 word) 0

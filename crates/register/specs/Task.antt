@@ -78,11 +78,12 @@ destinationOf bank = record {
   enabled = isEnabled (bank .destination .control);
 }
 
--- 13:11 source factor, 10:8 destination factor, 0 blend on
+-- 17 premultiplied (02, request 12), 13:11 source factor, 10:8 destination factor, 0 blend on
 unfoldable pub blendingOf : Bank → Blending
 blendingOf bank = record {
   on = eqb (field 0 0 (bank .blending)) 1;
   rule = record { source = factorOf (field 13 11 (bank .blending)); destination = factorOf (field 10 8 (bank .blending)) };
+  premultiplied = eqb (field 17 17 (bank .blending)) 1;
 }
 
 unfoldable pub taskOf : Bank → Task

@@ -58,7 +58,8 @@ fn stride_takes(word: u32) -> bool
 fn blending_takes(word: u32) -> bool
     ensures { λ r. ⌜ r ≡ blendingAccepts word ⌝ }
 {
-    (bits(word, 31, 14) == 0)
+    (bits(word, 31, 18) == 0)
+        & (bits(word, 16, 14) == 0)
         & Factor::is_code(bits(word, 13, 11))
         & Factor::is_code(bits(word, 10, 8))
         & (bits(word, 7, 1) == 0)

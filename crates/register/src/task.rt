@@ -44,6 +44,8 @@ pub struct Destination {
 pub struct Blending {
     pub on: bool,
     pub rule: Rule,
+    // whether the source's colours were multiplied by their alphas
+    pub premultiplied: bool,
 }
 
 pub struct Task {
@@ -162,6 +164,7 @@ impl Bank {
                 source: Factor::from_code(bits(self.blending, 13, 11)),
                 destination: Factor::from_code(bits(self.blending, 10, 8)),
             },
+            premultiplied: bits(self.blending, 17, 17) == 1,
         }
     }
 

@@ -1,14 +1,16 @@
 -- A source colour blended with a destination colour (01, "Pixels").
+use mathlib.Core.Bool.{cond}
 use Rattle.pixel.specs.Alpha.{withAlpha}
 use Rattle.pixel.specs.Blending.{blended}
 use Rattle.pixel.specs.declared.colour.Colour.{Colour}
+use Rattle.unpremultiply.specs.Unpremultiply.{unpremultiplied}
 use Rattle.register.specs.declared.task.Alpha.{Alpha}
 use Rattle.register.specs.declared.task.Blending.{Blending}
 
--- the colour with which a source pixel goes into blending, before its alpha mode. Hook for 02's request 12, premultiplied scans; today the
--- identity
+-- the colour with which a source pixel goes into blending, before its alpha mode: divided by its own alpha where it is premultiplied
+-- (02, request 12)
 abbrev pub sourceForBlending : Blending → Colour → Colour
-sourceForBlending blending c = c
+sourceForBlending blending c = cond (blending .premultiplied) (unpremultiplied c) c
 
 -- a colour with its alpha by a surface's alpha mode
 abbrev pub withSurfaceAlpha : Alpha → Colour → Colour

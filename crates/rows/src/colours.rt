@@ -4,12 +4,17 @@ ghost use Rattle.rows.specs.Mixed.{sourceForBlending, withSurfaceAlpha, 
 use pixel::Colour;
 use register::Alpha;
 use register::Blending;
+use unpremultiply::unpremultiply;
 
-// The colour with which a source pixel goes into blending.
+// The colour with which a source pixel goes into blending: divided by its alpha where it is premultiplied.
 fn prepare(blending: Blending, c: Colour) -> Colour
     ensures { λ r. ⌜ r ≡ sourceForBlending blending c ⌝ }
 {
-    c
+    if blending.premultiplied {
+        unpremultiply(c)
+    } else {
+        c
+    }
 }
 
 // A colour with its alpha by a surface's alpha mode.

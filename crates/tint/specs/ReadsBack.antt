@@ -49,7 +49,7 @@ tintTask tint coverage output = record {
   source = tintSource tint coverage output;
   destination = record { surface = surfaceWith output; alpha = ownAlpha; enabled = true };
   output = surfaceWith output;
-  blending = record { on = true; rule = blendModeFactors SrcOver };
+  blending = record { on = true; rule = blendModeFactors SrcOver; premultiplied = false };
 }
 
 -- colours are bytes and an address is a 32-bit number, as those that the call is handed are

@@ -33,7 +33,7 @@ tintFields tint coverage output = record {
   destination = record { surface = output; alpha = resetAlpha; enable = 1 };
   output = output;
   colour = packed (layoutOf Argb8888) (tintColour tint coverage);
-  blending = record { source = 1; destination = 3; on = 1 };
+  blending = record { source = 1; destination = 3; on = 1; premultiplied = 0 };
 }
 
 abbrev pub fieldsOf : Float → Tint → SurfaceFields → Fields

@@ -90,6 +90,7 @@ fn fields_of(tint: Tint, coverage: u8, output: SurfaceFields) -> Fields
             source: 1,
             destination: 3,
             on: 1,
+            premultiplied: 0,
         },
     }
 }

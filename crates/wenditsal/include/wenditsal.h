@@ -92,11 +92,12 @@ extern "C" {
  *   0x018, 0x058, 0x108 stride   15:0, in bytes
  *   0x020, 0x060, 0x110 address  all bits, in bytes from memory's start
  *   0x01C colour                 all bits: A, R, G, B from bit 31 down
- *   0x090 blending               13:11 source factor, 10:8 destination factor, 0 blend on
+ *   0x090 blending               17 premultiplied, 13:11 source factor, 10:8 destination factor, 0 blend on
  * Formats: 0x00 ARGB8888 (bytes B, G, R, A), 0x08 RGB888 (B, G, R), 0x0E RGB565 (low byte first). Alpha reads as 255 where a format has none.
  * Factors: 0 is 0, 1 is 255, 2 sa, 3 255 - sa, 4 da, 5 255 - da, with sa and da the alphas after the alpha modes.
  * Blending on, each of A, R, G, B becomes the lesser of 255 and (s x fs + d x fd + 127) / 255; off, it is the source's, and alpha modes are
- * not used.
+ * not used. Premultiplied and blending on, before the alpha modes each of the source's R, G, B, c, becomes the lesser of 255 and
+ * (c x T + 32,768) / 65,536, with T = 16,711,680 / a for the pixel's alpha a, and 0 where a is 0; a stays.
  *
  * ---- Faults
  *
@@ -265,6 +266,8 @@ struct wenditsal_fields {
     uint32_t source_factor;
     uint32_t destination_factor;
     uint32_t blend;
+    /* 1: the source's colours were multiplied by their alphas */
+    uint32_t premultiplied;
 };
 
 /*

@@ -7,7 +7,7 @@ use independent::made_tasks::Fields;
 use independent::play::{List, Played};
 use independent::writer::field;
 
-/// A task's fields in the order of the header's struct, which is 29 words.
+/// A task's fields in the order of the header's struct, which is 30 words.
 #[repr(C)]
 struct HeaderFields {
     /// width, height, stride, address, format; alpha mode, global alpha; flips, quarter turns; mode, enable
@@ -17,8 +17,8 @@ struct HeaderFields {
     /// width, height, stride, address, format
     output: [u32; 5],
     colour: u32,
-    /// source factor, destination factor, blend
-    blending: [u32; 3],
+    /// source factor, destination factor, blend, premultiplied
+    blending: [u32; 4],
 }
 
 impl HeaderFields {

@@ -25,6 +25,7 @@ fn colour(task: &Task, memory: &[u8], at: Point) -> Colour {
     if !task.blend {
         return source;
     }
+    let source = if task.premultiplied { pixel::unpremultiplied(source) } else { source };
     let alpha = |(mode, global): (u32, u8), c| pixel::with_alpha(mode, global, c).expect("an alpha mode");
     let destination = alpha(task.destination_alpha, loaded(&task.destination, memory, at));
     pixel::blend(task.factors.0, task.factors.1, alpha(task.source_alpha, source), destination).expect("two factors")

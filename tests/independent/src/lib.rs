@@ -26,6 +26,7 @@ pub mod ring;
 pub mod sample_columns;
 pub mod sample_files;
 pub mod sample_page;
+pub mod sample_scan;
 pub mod sample_scores;
 pub mod sample_tasks;
 pub mod samples;

@@ -5,12 +5,12 @@ use crate::pixel::{format, FORMATS, RULES};
 use crate::random::Random;
 use crate::surface::Run;
 use crate::writer::field::{
-    ADDRESS, BLEND, DESTINATION_ENABLE, FORMAT, HEIGHT, SOURCE_ENABLE, SOURCE_MODE, STRIDE, TURNS, WIDTH,
+    ADDRESS, BLEND, DESTINATION_ENABLE, FORMAT, HEIGHT, PREMULTIPLIED, SOURCE_ENABLE, SOURCE_MODE, STRIDE, TURNS, WIDTH,
 };
 pub use crate::writer::field::{DESTINATION, OUTPUT, SOURCE};
 use crate::writer::{registers, reset_with};
 
-pub type Fields = [u32; 29];
+pub type Fields = [u32; 30];
 
 /// Width and height.
 type Sides = (u32, u32);
@@ -116,7 +116,7 @@ fn placed_readable(random: &mut Random, bounds: &Bounds, sides: Sides) -> [u32; 
     placed(random, &run, sides)
 }
 
-/// Alpha modes, global alphas and factors, by a rule's name or any two.
+/// Alpha modes, global alphas and factors, by a rule's name or any two; a source that is premultiplied or not.
 fn blending(random: &mut Random, fields: &mut Fields) {
     for mode in [5, 18] {
         fields[mode] = random.below(3);
@@ -125,6 +125,7 @@ fn blending(random: &mut Random, fields: &mut Fields) {
     let (_, source, destination) = random.pick(&RULES);
     (fields[26], fields[27]) =
         if random.one_in(2) { (source.into(), destination.into()) } else { (random.below(6), random.below(6)) };
+    fields[PREMULTIPLIED] = random.one_in(3).into();
 }
 
 /// Whether a task of these fields passes 24 to 28.

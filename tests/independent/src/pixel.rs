@@ -58,6 +58,13 @@ pub fn near(n: u32) -> u32 {
     n / 255 + u32::from(n % 255 > 127)
 }
 
+/// A colour that was delivered multiplied by its alpha, divided by it (02, request 12). Nothing is left without alpha.
+pub fn unpremultiplied(colour: Colour) -> Colour {
+    let reciprocal = 16_711_680u64.checked_div(colour[0].into()).unwrap_or(0);
+    let divided = |c: u8| u8::try_from((u64::from(c) * reciprocal + 32_768) >> 16).unwrap_or(255);
+    [colour[0], divided(colour[1]), divided(colour[2]), divided(colour[3])]
+}
+
 /// A colour with its alpha under an alpha mode: 0 its own, 1 the global one, 2 the product.
 pub fn with_alpha(mode: u32, global: u8, colour: Colour) -> Option<Colour> {
     let alpha = match mode {
@@ -133,6 +140,19 @@ mod tests {
     fn mixed() {
         assert_eq!(with_alpha(2, 64, [128, 1, 2, 3]), Some([32, 1, 2, 3]));
         assert_eq!(with_alpha(3, 64, [128, 1, 2, 3]), None);
+    }
+
+    /// 02, request 12: its example, and how near a colour that an alpha was multiplied into comes.
+    #[test]
+    fn divided() {
+        assert_eq!(unpremultiplied([128, 64, 0, 128]), [128, 128, 0, 255]);
+        assert_eq!(unpremultiplied([0, 64, 0, 255]), [0; 4]);
+        assert_eq!(unpremultiplied([1, 2, 1, 0]), [1, 255, 255, 0]);
+        assert!((0..=255).all(|c| unpremultiplied([255, c, c, c]) == [255, c, c, c]));
+        for (a, c) in (1..=255u8).flat_map(|a| (0..=a).map(move |c| (a, c))) {
+            let [_, new, ..] = unpremultiplied([a, c, c, c]).map(i32::from);
+            assert!((new * i32::from(a) - 255 * i32::from(c)).abs() < i32::from(a));
+        }
     }
 
     /// P1 of 01, and that each 565 word survives being a colour.

@@ -27,7 +27,7 @@ const TABLE: [Row; 7] = [
     Row { offsets: &[0x014, 0x054, 0x104], bits: 0x1FFF_1FFF, codes: &[] },
     Row { offsets: &[0x018, 0x058, 0x108], bits: 0x0000_FFFF, codes: &[] },
     Row { offsets: &[0x01C, 0x020, 0x060, 0x110], bits: 0xFFFF_FFFF, codes: &[] },
-    Row { offsets: &[0x090], bits: 0x0000_3F01, codes: &[Code::SourceFactor, Code::DestinationFactor] },
+    Row { offsets: &[0x090], bits: 0x0002_3F01, codes: &[Code::SourceFactor, Code::DestinationFactor] },
     Row { offsets: &[0x100], bits: 0x0000_7F00, codes: &[Code::Format] },
 ];
 
@@ -120,6 +120,7 @@ impl Bank {
             output: self.surface(0x100),
             blend: blending & 1 == 1,
             factors: ((blending >> 11 & 7) as u8, (blending >> 8 & 7) as u8),
+            premultiplied: blending >> 17 & 1 == 1,
         }
     }
 }
@@ -145,6 +146,8 @@ pub struct Task {
     pub blend: bool,
     /// Codes of the source's factor and the destination's.
     pub factors: (u8, u8),
+    /// The source's colours were multiplied by their alphas.
+    pub premultiplied: bool,
 }
 
 pub fn size(surface: &Surface) -> Size {
@@ -162,10 +165,13 @@ mod tests {
         assert_eq!(bank.write(0x014, 0x2000), Err(Refusal::Word));
         assert_eq!(bank.write(0x100, 0x100), Err(Refusal::Word));
         assert_eq!(bank.write(0x090, 0x3000), Err(Refusal::Word));
+        assert_eq!(bank.write(0x090, 0x0001_0B01), Err(Refusal::Word));
         assert_eq!(bank, Bank::reset(UNBLENDED));
         assert_eq!(bank.write(0x090, 0x0B01), Ok(()));
-        assert!(bank.task().blend && bank.task().factors == (1, 3));
-        assert_eq!([bank.clone(), bank], [Bank::reset(SRC_OVER), Bank::reset(u32::MAX)]);
+        assert!(bank.task().blend && bank.task().factors == (1, 3) && !bank.task().premultiplied);
+        assert_eq!([bank.clone(), bank.clone()], [Bank::reset(SRC_OVER), Bank::reset(u32::MAX)]);
+        assert_eq!(bank.write(0x090, 0x0002_0B01), Ok(()));
+        assert!(bank.task().premultiplied && bank.task().factors == (1, 3));
     }
 
     #[test]

@@ -49,7 +49,7 @@ pub type Rectangle = [u32; 5];
 pub fn fields(score: u32, tint: Tint, output: Rectangle) -> Option<Fields> {
     let cover = cover(score)?;
     let [red, green, blue] = tint.map(|t| near(u32::from(t) * u32::from(cover)) as u8);
-    let mut fields = [0; 29];
+    let mut fields = [0; 30];
     fields[SOURCE..SOURCE + 2].copy_from_slice(&output[..2]);
     fields[DESTINATION..DESTINATION + 5].copy_from_slice(&output);
     fields[OUTPUT..OUTPUT + 5].copy_from_slice(&output);

@@ -2,7 +2,7 @@
 use crate::registers::{Bank, UNBLENDED};
 
 /// Each field's register, its lowest bit and its width, in the order in which fields are given.
-pub const FIELDS: [(u32, u32, u32); 29] = [
+pub const FIELDS: [(u32, u32, u32); 30] = [
     // source: width, height, stride, address, format
     (0x014, 0, 13),
     (0x014, 16, 13),
@@ -35,10 +35,11 @@ pub const FIELDS: [(u32, u32, u32); 29] = [
     (0x108, 0, 16),
     (0x110, 0, 32),
     (0x100, 8, 7),
-    // blending: source factor, destination factor, on
+    // blending: source factor, destination factor, on, premultiplied
     (0x090, 11, 3),
     (0x090, 8, 3),
     (0x090, 0, 1),
+    (0x090, 17, 1),
 ];
 
 /// Places in that order.
@@ -68,6 +69,7 @@ pub mod field {
     pub const SOURCE_FACTOR: usize = 26;
     pub const DESTINATION_FACTOR: usize = 27;
     pub const BLEND: usize = 28;
+    pub const PREMULTIPLIED: usize = 29;
 }
 
 /// The groups of a task: the first register's offset and how many follow. The last one ends the task.
@@ -80,7 +82,7 @@ pub const WORKED: [u32; 20] = [
 ];
 
 /// What a task's registers hold, if every field fits its bits and its register's rule.
-pub fn registers(fields: &[u32; 29]) -> Option<Bank> {
+pub fn registers(fields: &[u32; 30]) -> Option<Bank> {
     let mut bank = Bank::reset(UNBLENDED);
     for (offset, words) in gathered(fields)? {
         bank.write(offset, words).ok()?;
@@ -89,7 +91,7 @@ pub fn registers(fields: &[u32; 29]) -> Option<Bank> {
 }
 
 /// Each register's word put together of its fields.
-fn gathered(fields: &[u32; 29]) -> Option<Vec<(u32, u32)>> {
+fn gathered(fields: &[u32; 30]) -> Option<Vec<(u32, u32)>> {
     let mut words: Vec<(u32, u32)> = crate::registers::offsets().into_iter().map(|offset| (offset, 0)).collect();
     for ((offset, low, width), field) in FIELDS.iter().zip(fields) {
         if u64::from(*field) >= 1 << width {
@@ -102,7 +104,7 @@ fn gathered(fields: &[u32; 29]) -> Option<Vec<(u32, u32)>> {
 }
 
 /// The 80 bytes, or the refusal's number.
-pub fn written(fields: &[u32; 29], room: usize) -> Result<Vec<u8>, u32> {
+pub fn written(fields: &[u32; 30], room: usize) -> Result<Vec<u8>, u32> {
     let bank = registers(fields).ok_or(24u32)?;
     if room < 80 {
         return Err(12);
@@ -117,8 +119,8 @@ pub fn written(fields: &[u32; 29], room: usize) -> Result<Vec<u8>, u32> {
 }
 
 /// The fields of a task with everything but the given ones as at reset by the old rule.
-pub fn reset_with(changes: &[(usize, u32)]) -> [u32; 29] {
-    let mut fields = [0; 29];
+pub fn reset_with(changes: &[(usize, u32)]) -> [u32; 30] {
+    let mut fields = [0; 30];
     fields[26] = 2;
     fields[27] = 3;
     for (at, value) in changes {

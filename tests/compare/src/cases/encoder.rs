@@ -69,7 +69,7 @@ pub fn any_fields(random: &mut Random) -> Fields {
         fields[at] = random.below(codes);
     }
     if random.one_in(3) {
-        fields[random.below(29) as usize] = random.word();
+        fields[random.below(30) as usize] = random.word();
     }
     fields
 }

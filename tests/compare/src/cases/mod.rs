@@ -7,6 +7,7 @@ mod examples;
 mod faults;
 mod headers;
 mod pixels;
+mod premultiplied;
 mod queue;
 mod records;
 mod registers;
@@ -26,7 +27,7 @@ use crate::trials::{Agreed, Trials};
 /// A subject's name, and what tries its cases.
 type Subject = (&'static str, fn(&mut Trials) -> Agreed);
 
-const SUBJECTS: [Subject; 16] = [
+const SUBJECTS: [Subject; 17] = [
     ("examples of the scope paper", examples::compare),
     ("registers", registers::compare),
     ("headers and groups", headers::compare),
@@ -37,6 +38,7 @@ const SUBJECTS: [Subject; 16] = [
     ("pixels", pixels::compare),
     ("alphas", alphas::compare),
     ("blends", blends::compare),
+    ("premultiplied sources", premultiplied::compare),
     ("transforms", transforms::compare),
     ("batches of several tasks", batches::compare),
     ("queue", queue::compare),

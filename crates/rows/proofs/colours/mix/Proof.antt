@@ -17,7 +17,7 @@ blend-requires c κs = search needs
 
 returns : tie.Need-returns
 unfolding composite
-returns c = cc
+returns c = simp (c .blend .ensures, c .before .with-alpha2 .ensures, c .before .before .with-alpha .ensures, c .before .before .before .prepare .ensures)
 
 pub mix-spec : {M : Type 1} → statement M
 mix-spec =

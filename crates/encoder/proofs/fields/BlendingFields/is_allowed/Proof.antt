@@ -11,7 +11,7 @@ is-code-requires-2 c κs = search needs
 
 returns : tie.Need-returns
 unfolding blendingAllowed
-returns c = simp (c .before .is-code2 .ensures, c .before .before .is-code .ensures)
+returns c = simp (c .before .before .is-code2 .ensures, c .before .before .before .is-code .ensures)
 
 pub is-allowed-spec : {M : Type 1} → statement M
 is-allowed-spec = tie.close (tie.spec is-code-requires is-code-requires-2 returns)

@@ -18,9 +18,12 @@ bits-requires-3 c κs = search needs
 from-code-requires-2 : tie.Need-from-code-requires-2
 from-code-requires-2 c κs = search needs
 
+bits-requires-4 : tie.Need-bits-requires-4
+bits-requires-4 c κs = search needs
+
 returns : tie.Need-returns
 unfolding blendingOf
-returns c = simp (c .from-code2 .ensures, c .before .bits3 .ensures, c .before .before .from-code .ensures, c .before .before .before .bits2 .ensures, c .before .before .before .before .bits .ensures)
+returns c = simp (c .bits4 .ensures, c .before .from-code2 .ensures, c .before .before .bits3 .ensures, c .before .before .before .from-code .ensures, c .before .before .before .before .bits2 .ensures, c .before .before .before .before .before .bits .ensures)
 
 pub blending-spec : {M : Type 1} → statement M
 blending-spec =
@@ -31,4 +34,5 @@ blending-spec =
     from-code-requires
     bits-requires-3
     from-code-requires-2
+    bits-requires-4
     returns)

@@ -1,0 +1,64 @@
+use Rattle.lanes.specs.Lanes.{Done}
+use Rattle.lanes.proofs.Passes.{none-done, to-end}
+use Rattle.unpremultiply.specs.Prepared.{dividedAt}
+use Rattle.unpremultiply.proofs.Pixels.{divided-more}
+use Prim.Native.Nat.{_*_, _-_, _≤_}
+use mathlib.Core.Path.{_≡_}
+use native.Mathlib.Omega.{arith}
+use borrow.Author.Needs.{needs}
+use lib.ListN.{length}
+use Rattle.unpremultiply.proofs.divide_row.Statement.{statement}
+use Rattle.unpremultiply.proofs.divide_row.Tie as tie
+
+abbrev Inv-loop : tie.InvT-loop
+Inv-loop row₀ width table x₀ row x = ((x ≤ width) × (length row ≡ length row₀)) × Done (dividedAt row₀) row₀ row 0 (x * 4)
+
+abbrev μ-loop : tie.MeasureT-loop
+μ-loop row₀ width table x₀ row x = width - x
+
+all-requires : tie.Need-all-requires Inv-loop μ-loop
+all-requires c κs = search needs
+
+loop-holds : tie.Need-loop-holds Inv-loop μ-loop
+loop-holds c = (search needs, none-done _ _ _)
+
+mul-divide-pixel : tie.Need-mul-divide-pixel Inv-loop μ-loop
+mul-divide-pixel c = search needs
+
+slice-aggregate-divide-pixel : tie.Need-slice-aggregate-divide-pixel Inv-loop μ-loop
+slice-aggregate-divide-pixel c = search needs
+
+divide-pixel-requires : tie.Need-divide-pixel-requires Inv-loop μ-loop
+divide-pixel-requires c κs = search needs
+
+add-x : tie.Need-add-x Inv-loop μ-loop
+add-x c = search needs
+
+loop-less : tie.Need-loop-less Inv-loop μ-loop
+loop-less c = search needs
+
+loop-again : tie.Need-loop-again Inv-loop μ-loop
+loop-again c = (search needs, divided-more _ _ _ (c .before .before .before .before .before .before .loop .x) (c .before .before .before .before .before .before .loop .inv .1) (c .before .before .divide-pixel .ensures))
+
+same-length : tie.Need-same-length Inv-loop μ-loop
+same-length c = search needs
+
+returns : tie.Need-returns Inv-loop μ-loop
+returns c = to-end _ _ _ _ (c .before .loop .x * 4) _ (omega arith) (c .before .loop .inv .1)
+
+pub divide-row-spec : {M : Type 1} → statement M
+divide-row-spec =
+    tie.close
+    (tie.spec
+    Inv-loop
+    μ-loop
+    all-requires
+    loop-holds
+    mul-divide-pixel
+    slice-aggregate-divide-pixel
+    divide-pixel-requires
+    add-x
+    loop-less
+    loop-again
+    same-length
+    returns)

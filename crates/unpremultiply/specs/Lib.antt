@@ -1,0 +1,4 @@
+-- Premultiplied colours divided by their alpha.
+pub mod Unpremultiply
+pub mod Close
+pub mod Prepared
