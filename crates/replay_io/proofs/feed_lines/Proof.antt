@@ -88,7 +88,7 @@ loop-again c =
     let d = c .before .before .before .before .before .before .before .before .before .before .before in
     let l = d .before .before .before .before .before .before .before .loop in
     let k = bounds d in (
-      going-more _ _ _ _ _ (l .used) (l .written) (l .now) _ _ _ (l .out) (l .inv .0) _ _ (d .feed .result) _ _ _ _ refl (omega (arith, room (d .before .before .before .before .before .before), length-mid (l .written) (length (l .out) - l .written) (l .out) (omega arith))) (omega arith) (omega (arith, prints-within _ _ _ _ (d .feed .ensures .prints) (d .feed .kept .1 .1 .1 .1 .1 .0), d .feed .kept .1 .1 .1 .1 .1 .0)) (d .feed .ensures),
+      going-more _ _ _ _ _ (l .used) (l .written) (l .now) _ _ _ (l .out) (l .inv .0) _ (length (l .out) - l .written) (d .feed .result) _ _ _ _ refl (omega (arith, room (d .before .before .before .before .before .before), length-mid (l .written) (length (l .out) - l .written) (l .out) (omega arith))) (omega arith) (omega (arith, prints-within _ _ _ _ (d .feed .ensures .prints) (d .feed .kept .1 .1 .1 .1 .1 .0), d .feed .kept .1 .1 .1 .1 .1 .0)) (d .feed .ensures),
       k .0,
       k .1,
       search needs,
@@ -131,7 +131,7 @@ returns-2 c =
     let d = c .before .before .before .before .before .before .before .before .before .before .before in
     let l = d .before .before .before .before .before .before .before .loop in
     let k = bounds d in
-    record { within = k .0; room = k .1; onward = going-more _ _ _ _ _ (l .used) (l .written) (l .now) _ _ _ (l .out) (l .inv .0) _ _ (d .feed .result) _ _ _ _ refl (omega (arith, room (d .before .before .before .before .before .before), length-mid (l .written) (length (l .out) - l .written) (l .out) (omega arith))) (omega arith) (omega (arith, prints-within _ _ _ _ (d .feed .ensures .prints) (d .feed .kept .1 .1 .1 .1 .1 .0), d .feed .kept .1 .1 .1 .1 .1 .0)) (d .feed .ensures) }
+    record { within = k .0; room = k .1; onward = going-more _ _ _ _ _ (l .used) (l .written) (l .now) _ _ _ (l .out) (l .inv .0) _ (length (l .out) - l .written) (d .feed .result) _ _ _ _ refl (omega (arith, room (d .before .before .before .before .before .before), length-mid (l .written) (length (l .out) - l .written) (l .out) (omega arith))) (omega arith) (omega (arith, prints-within _ _ _ _ (d .feed .ensures .prints) (d .feed .kept .1 .1 .1 .1 .1 .0), d .feed .kept .1 .1 .1 .1 .1 .0)) (d .feed .ensures) }
 
 pub feed-lines-spec : {M : Type 1} → statement M
 feed-lines-spec =
