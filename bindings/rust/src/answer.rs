@@ -28,7 +28,7 @@ pub enum Refusal {
     OtherLength,
     /// 11, by [`Engine::from_parts`](crate::Engine::from_parts): the bytes are no engine record, or one that breaks a rule.
     BadEngine,
-    /// 12, by the library's encoder: a buffer under 80 bytes. [`Task::encode`](crate::Task::encode) never lends one.
+    /// 12, by the library's encoder: a buffer under 80 bytes, or 100 with steps. [`Task::encode`](crate::Task::encode) never lends one.
     ShortBuffer,
     /// 15, by [`encode_tint`](crate::encode_tint): the score is NaN or outside 0 to 1.
     BadScore,
@@ -91,7 +91,7 @@ impl Refusal {
             Refusal::NothingReady => "no batch is ready",
             Refusal::OtherLength => "ring or memory is not of the length that was set up",
             Refusal::BadEngine => "no engine record, or one that breaks a rule",
-            Refusal::ShortBuffer => "a buffer under 80 bytes",
+            Refusal::ShortBuffer => "a buffer under 80 bytes, or 100 with steps",
             Refusal::BadScore => "the score is NaN or outside 0 to 1",
             Refusal::ForbiddenField => "a field that its register's rule forbids",
             Refusal::Other(_) => "a reason without a name here",

@@ -48,6 +48,6 @@ mod task;
 pub use answer::{Completion, Fault, Refusal};
 pub use engine::{Engine, ResetRule, Setup, ENGINE_SIZE};
 pub use task::{
-    encode_tint, Alpha, AlphaMode, Blending, Destination, Factor, Format, Rule, Source, SourceMode, Surface, Task,
-    Transform, Turn, TASK_SIZE,
+    encode_tint, Alpha, AlphaMode, Blending, Destination, Factor, Format, Rule, Source, SourceMode, Steps, Surface, Task,
+    Transform, Turn, SHADED_TASK_SIZE, TASK_SIZE,
 };

@@ -83,6 +83,15 @@ extern "C" {
     ) -> u32;
     fn wenditsal_pending(engine: *const u8, engine_size: usize, client: u32, count: *mut u32) -> u32;
     fn wenditsal_encode(fields: Fields, buffer: *mut u8, buffer_size: usize) -> u32;
+    fn wenditsal_encode_shaded(
+        fields: Fields,
+        alpha: u32,
+        red: u32,
+        green: u32,
+        blue: u32,
+        buffer: *mut u8,
+        buffer_size: usize,
+    ) -> u32;
     fn wenditsal_encode_tint(
         score: f32,
         red: u8,
@@ -142,6 +151,10 @@ pub fn pending(engine: &[u8], client: u32, count: &mut u32) -> u32 {
 
 pub fn encode(fields: Fields, buffer: &mut [u8]) -> u32 {
     unsafe { wenditsal_encode(fields, buffer.as_mut_ptr(), buffer.len()) }
+}
+
+pub fn encode_shaded(fields: Fields, [alpha, red, green, blue]: [u32; 4], buffer: &mut [u8]) -> u32 {
+    unsafe { wenditsal_encode_shaded(fields, alpha, red, green, blue, buffer.as_mut_ptr(), buffer.len()) }
 }
 
 pub fn encode_tint(score: f32, [red, green, blue]: [u8; 3], output: SurfaceFields, buffer: &mut [u8]) -> u32 {

@@ -6,6 +6,9 @@ use crate::library::{self, DestinationFields, Fields, SourceFields, SurfaceField
 /// How many bytes the batch of one task has.
 pub const TASK_SIZE: usize = 80;
 
+/// And in the second form, with steps, so many.
+pub const SHADED_TASK_SIZE: usize = 100;
+
 /// How a pixel is stored.
 #[derive(Clone, Copy, Debug, Default, PartialEq, Eq, Hash)]
 pub enum Format {
@@ -143,18 +146,51 @@ pub enum SourceMode {
     Buffer,
     /// The task's one colour.
     Colour,
+    /// The task's colour, changing along x by [`Steps`].
+    GradientX,
+    /// The same along y.
+    GradientY,
+}
+
+/// What each channel changes by from one place to the next, as register words: 25 bits in two's complement, in parts of 65,536.
+///
+/// ```
+/// use wenditsal::Steps;
+/// assert_eq!(Steps::step(-1, 65536), 0x01FF_FFFF);
+/// assert_eq!(Steps::step(255, 4), 0x003F_C000);
+/// ```
+#[derive(Clone, Copy, Debug, Default, PartialEq, Eq, Hash)]
+pub struct Steps {
+    /// Of A.
+    pub alpha: u32,
+    /// Of R.
+    pub red: u32,
+    /// Of G.
+    pub green: u32,
+    /// Of B.
+    pub blue: u32,
+}
+
+impl Steps {
+    /// The step that takes a channel by `levels` in so many places, rounded towards zero to parts of 65,536.
+    ///
+    /// # Panics
+    /// If `places` is 0.
+    pub const fn step(levels: i32, places: u32) -> u32 {
+        (levels as i64 * 65536 / places as i64) as u32 & 0x01FF_FFFF
+    }
 }
 
 /// What is drawn.
 #[derive(Clone, Copy, Debug, Default, PartialEq, Eq, Hash)]
 pub struct Source {
-    /// Its pixels; in colour mode only its sides count.
+    /// Its pixels; but in buffer mode only its sides count.
     pub surface: Surface,
     /// Used while blending.
     pub alpha: Alpha,
     /// Flips and turn.
     pub transform: Transform,
-    /// Pixels or one colour.
+    /// Pixels, one colour, or one that changes.
     pub mode: SourceMode,
     /// A task whose source is disabled is faulty.
     pub enable: bool,
@@ -306,6 +342,33 @@ impl Task {
         Task { source, output, colour, ..Task::default() }
     }
 
+    /// A rectangle of a colour that changes along x, from its left side on. [`Task::encode_shaded`] takes the steps.
+    ///
+    /// ```
+    /// use wenditsal::{Engine, Refusal, ResetRule, Setup, Steps, Surface, Task};
+    ///
+    /// let mut engine = Engine::new(Setup { ring: 128, memory: 64, common: 0, reset: ResetRule::SrcOver })?;
+    /// let client = engine.open(0, 64)?;
+    /// let margin = Surface { width: 3, height: 1, stride: 16, ..Surface::default() };
+    /// let steps = Steps { blue: Steps::step(-1, 65536), ..Steps::default() };
+    /// engine.submit(client, &Task::shaded_along_x(0xFF00_000A, margin).encode_shaded(steps)?)?;
+    /// assert_eq!(engine.run()?.fault, None);
+    /// assert_eq!(engine.memory()[..12], [10, 0, 0, 255, 9, 0, 0, 255, 9, 0, 0, 255]);
+    /// # Ok::<(), Refusal>(())
+    /// ```
+    pub fn shaded_along_x(colour: u32, output: Surface) -> Task {
+        let mut task = Task::fill(colour, output);
+        task.source.mode = SourceMode::GradientX;
+        task
+    }
+
+    /// The same along y, from its first row on.
+    pub fn shaded_along_y(colour: u32, output: Surface) -> Task {
+        let mut task = Task::fill(colour, output);
+        task.source.mode = SourceMode::GradientY;
+        task
+    }
+
     /// A surface copied to another, which may be of another format.
     ///
     /// ```
@@ -405,6 +468,18 @@ impl Task {
     pub fn encode(&self) -> Result<[u8; TASK_SIZE], Refusal> {
         let mut bytes = [0; TASK_SIZE];
         Refusal::check(library::encode(self.fields(), &mut bytes))?;
+        Ok(bytes)
+    }
+
+    /// The 100 bytes of the batch of this one task in the second form, with steps. [`Task::encode`] writes none: the task then has those of
+    /// the task before it in its batch, and as the first of its batch 0.
+    ///
+    /// # Errors
+    /// [`Refusal::ForbiddenField`]: as by [`Task::encode`], or a step of more than 25 bits.
+    pub fn encode_shaded(&self, steps: Steps) -> Result<[u8; SHADED_TASK_SIZE], Refusal> {
+        let mut bytes = [0; SHADED_TASK_SIZE];
+        let Steps { alpha, red, green, blue } = steps;
+        Refusal::check(library::encode_shaded(self.fields(), [alpha, red, green, blue], &mut bytes))?;
         Ok(bytes)
     }
 

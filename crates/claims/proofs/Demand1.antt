@@ -15,8 +15,7 @@ use Rattle.raster.specs.Task.{drawTasks}
 use Rattle.raster.proofs.Fold.{batch-tasks}
 use Rattle.encoder.specs.declared.Answer.{Answer}
 use Rattle.encoder.specs.declared.Answer.the-variants.{Written, Forbidden, ShortBuffer}
-use Rattle.encoder.specs.declared.fields.Fields.{Fields}
-use Rattle.encoder.specs.Fields.{allowed}
+use Rattle.encoder.specs.Forms.{Form, formAllowed, formSize}
 use Rattle.encoder.specs.Encoder.{answerOf, bufferOnAnswer, bufferAfter, taskBytes, encodeRefusalOf as encoderNumber}
 use Rattle.queue.specs.Refusals.{firstRefusal}
 use Rattle.queue.proofs.Stays.{set-up-number}
@@ -62,21 +61,21 @@ module _ (s : State) where
 
 -- ---- the encoder
 
-module _ (fields : Fields) (buffer : List ℕ) where
-  encoder-listed : encoderNumber (answerOf fields (length buffer)) ≡ firstRefusal (encoderTable fields (length buffer))
+module _ (form : Form) (buffer : List ℕ) where
+  encoder-listed : encoderNumber (answerOf form (length buffer)) ≡ firstRefusal (encoderTable form (length buffer))
   unfolding answerOf firstRefusal
-  encoder-listed = by (allowed fields) (ltb (length buffer) 80)
+  encoder-listed = by (formAllowed form) (ltb (length buffer) (formSize form))
     where
       by : (a short : Bool) → encoderNumber (cond a (cond short ShortBuffer Written) Forbidden) ≡ cond (not a) 24 (cond short 12 0)
       by true true = refl
       by true false = refl
       by false short = refl
 
-  encoder-harmless : ¬ (encoderNumber (answerOf fields (length buffer)) ≡ 0) → bufferAfter fields buffer ≡ buffer
+  encoder-harmless : ¬ (encoderNumber (answerOf form (length buffer)) ≡ 0) → bufferAfter form buffer ≡ buffer
   unfolding bufferAfter
-  encoder-harmless = by (answerOf fields (length buffer))
+  encoder-harmless = by (answerOf form (length buffer))
     where
-      by : (a : Answer) → ¬ (encoderNumber a ≡ 0) → bufferOnAnswer a (taskBytes fields) buffer ≡ buffer
+      by : (a : Answer) → ¬ (encoderNumber a ≡ 0) → bufferOnAnswer a (taskBytes form) buffer ≡ buffer
       by Written some = absurd (some refl)
       by Forbidden some = refl
       by ShortBuffer some = refl
@@ -85,5 +84,5 @@ pub demand1 : Demand1
 demand1 = record {
   set-up = set-up-number;
   calls = of-calls;
-  encoder = λ fields buffer. record { listed = encoder-listed fields buffer; harmless = encoder-harmless fields buffer };
+  encoder = λ form buffer. record { listed = encoder-listed form buffer; harmless = encoder-harmless form buffer };
 }

@@ -49,6 +49,6 @@ demand2 = record {
   batch = of-batch;
   confined = confined;
   runs = λ s. record { executes = executes s; place = place s };
-  filled = λ fields buffer. record { size = length-after fields buffer; front = front fields buffer; others = others fields buffer };
+  filled = λ form buffer. record { size = length-after form buffer; front = front form buffer; others = others form buffer };
   reads-back = reads-back;
 }

@@ -13,8 +13,7 @@ use Rattle.register.specs.declared.task.Task.{Task}
 use Rattle.batch.specs.declared.verdict.Verdict.the-variants.{Faulty}
 use Rattle.batch.specs.Batch.{decodeBatch, tasksDrawn}
 use Rattle.raster.specs.Task.{drawTasks}
-use Rattle.encoder.specs.declared.fields.Fields.{Fields}
-use Rattle.encoder.specs.Fields.{allowed}
+use Rattle.encoder.specs.Forms.{Form, formAllowed, formSize}
 use Rattle.encoder.specs.Encoder.{answerOf, bufferAfter, encodeRefusalOf as encoderNumber}
 use Rattle.queue.specs.Answers.{refusalNumberOf}
 use Rattle.queue.specs.Refusals.{RefusalRow, _when_, firstRefusal, setUpTable, openTable, submitTable, pendingTable}
@@ -30,11 +29,11 @@ refusalTableOf (submit client bytes) s = submitTable (s .engine) (length (s .rin
 refusalTableOf run s = runTable (s .engine) (length (s .ring)) (length (s .memory))
 refusalTableOf (pending client) s = pendingTable (s .engine) client
 
--- and the encoder; size: the length of the buffer that is lent
-abbrev pub encoderTable : Fields → (size : ℕ) → List RefusalRow
-encoderTable fields size =
-    24 when not (allowed fields)
-    ∷ 12 when ltb size 80
+-- and the encoder, in either form (02, request 3: "12 under 100 bytes for the second form"); size: the length of the buffer that is lent
+abbrev pub encoderTable : Form → (size : ℕ) → List RefusalRow
+encoderTable form size =
+    24 when not (formAllowed form)
+    ∷ 12 when ltb size (formSize form)
     ∷ []
 
 -- the tasks of the oldest batch that are drawn: of a faulty one those before its fault
@@ -63,12 +62,12 @@ pub record OfCalls (s : State) : Type 0 where
       }) × (length (standing s) ≡ tasks)
 
 -- the encoder; "and changes nothing" is said of the buffer that is lent
-pub record OfEncoder (fields : Fields) (buffer : List ℕ) : Type 0 where
-  pub listed : encoderNumber (answerOf fields (length buffer)) ≡ firstRefusal (encoderTable fields (length buffer))
-  pub harmless : ¬ (encoderNumber (answerOf fields (length buffer)) ≡ 0) → bufferAfter fields buffer ≡ buffer
+pub record OfEncoder (form : Form) (buffer : List ℕ) : Type 0 where
+  pub listed : encoderNumber (answerOf form (length buffer)) ≡ firstRefusal (encoderTable form (length buffer))
+  pub harmless : ¬ (encoderNumber (answerOf form (length buffer)) ≡ 0) → bufferAfter form buffer ≡ buffer
 
 pub record Demand1 : Type 0 where
   -- set up's refusal, 0 for none, is by its table; it is lent nothing
   pub set-up : (setup : Setup) → refusalNumberOf (setUpResult (setup .ring) (setup .memory) (setup .common) (setup .reset) .answer) ≡ firstRefusal (setUpTable setup)
   pub calls : (s : State) → OfCalls s
-  pub encoder : (fields : Fields) (buffer : List ℕ) → OfEncoder fields buffer
+  pub encoder : (form : Form) (buffer : List ℕ) → OfEncoder form buffer

@@ -12,7 +12,7 @@ use Rattle.batch.specs.declared.verdict.Verdict.the-variants.{Faultless, Faulty
 use Rattle.batch.specs.Batch.{decodeBatch, verdictOf, tasksDrawn}
 use Rattle.batch.specs.Marks.{taskEndCount}
 use Rattle.encoder.specs.declared.Answer.the-variants.{Written}
-use Rattle.encoder.specs.declared.fields.Fields.{Fields}
+use Rattle.encoder.specs.Forms.{Form, formSize}
 use Rattle.encoder.specs.Encoder.{answerOf, taskBytes, bufferAfter}
 use Rattle.encoder.specs.ReadsBack.{EncodeDecodeRoundTrip}
 use Rattle.raster.specs.Task.{drawTasks}
@@ -64,17 +64,17 @@ pub record OfRun (s : State) : Type 0 where
   -- a fault's place lies in the batch as it was submitted
   pub place : (tasks : ℕ) (fault : Fault) (offset : ℕ) → oldestVerdict (s .engine) (s .ring) ≡ Faulty tasks fault offset → offset < oldest (s .engine) .length
 
--- "fills the first 80 bytes, no others"; of a refusal Demand1 says that it changes none
-pub record Filled (fields : Fields) (buffer : List ℕ) : Type 0 where
-  pub size : length (bufferAfter fields buffer) ≡ length buffer
-  pub front : answerOf fields (length buffer) ≡ Written → take 80 (bufferAfter fields buffer) ≡ taskBytes fields
-  pub others : answerOf fields (length buffer) ≡ Written → drop 80 (bufferAfter fields buffer) ≡ drop 80 buffer
+-- "fills the first 80 bytes, no others", in the second form 100 (02, request 3); of a refusal Demand1 says that it changes none
+pub record Filled (form : Form) (buffer : List ℕ) : Type 0 where
+  pub size : length (bufferAfter form buffer) ≡ length buffer
+  pub front : answerOf form (length buffer) ≡ Written → take (formSize form) (bufferAfter form buffer) ≡ taskBytes form
+  pub others : answerOf form (length buffer) ≡ Written → drop (formSize form) (bufferAfter form buffer) ≡ drop (formSize form) buffer
 
 pub record Demand2 : Type 0 where
   pub batch : (bounds : Bounds) (bank : Bank) (words memory : List ℕ) → OfBatch bounds bank words memory
   -- a batch is drawn out of its client's window and common alone, and changes the window alone
   pub confined : (bank : Bank) → Confined (semanticsFrom bank)
   pub runs : (s : State) → OfRun s
-  pub filled : (fields : Fields) (buffer : List ℕ) → Filled fields buffer
+  pub filled : (form : Form) (buffer : List ℕ) → Filled form buffer
   -- "what the task writer writes reads back as the same task"
   pub reads-back : (bounds : Bounds) (bank : Bank) → EncodeDecodeRoundTrip bounds bank

@@ -25,7 +25,7 @@ use Rattle.surface.proofs.Outside.{byte-in-span, length-drawnOn, outside-rows, 
 use Rattle.surface.proofs.Loaded.{loaded-again, loaded-drawn}
 use Rattle.register.specs.declared.task.Source.{Source}
 use Rattle.register.specs.declared.task.SourceMode.{SourceMode}
-use Rattle.register.specs.declared.task.SourceMode.the-variants.{Buffer, Colour}
+use Rattle.register.specs.declared.task.SourceMode.the-variants.{Buffer, Colour, GradientX, GradientY}
 use Rattle.register.specs.Task.{isBuffer}
 use Rattle.register.specs.Size.{sizeOf}
 use Rattle.rows.specs.Row.{colourAt, sourcePixelOf}
@@ -39,6 +39,8 @@ use Rattle.raster.proofs.Pixel.{pixel-plain}
 colourBy-buffer : (m : SourceMode) (s : Source) (memory : List ℕ) (p : Point) → isBuffer m ≡ true → sourceModeColour m s memory p ≡ colourAt (s .surface) memory p
 colourBy-buffer Buffer s memory p e = refl
 colourBy-buffer Colour s memory p e = let z : false ≡ true = e in cc
+colourBy-buffer GradientX s memory p e = let z : false ≡ true = e in cc
+colourBy-buffer GradientY s memory p e = let z : false ≡ true = e in cc
 
 pub tasks : Tasks
 unfolding drawTask turned sourceColour

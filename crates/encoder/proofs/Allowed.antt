@@ -10,7 +10,7 @@ use Rattle.word.proofs.Tests.{and-true}
 use Rattle.pixel.specs.Formats.{isFormat}
 use Rattle.pixel.specs.Alpha.{isAlphaMode}
 use Rattle.pixel.specs.Blending.{isFactor}
-use Rattle.register.specs.Table.{isSourceMode}
+use Rattle.gradient.specs.declared.Steps.{Steps}
 use Rattle.encoder.specs.declared.fields.SurfaceFields.{SurfaceFields}
 use Rattle.encoder.specs.declared.fields.AlphaFields.{AlphaFields}
 use Rattle.encoder.specs.declared.fields.TransformFields.{TransformFields}
@@ -18,7 +18,7 @@ use Rattle.encoder.specs.declared.fields.SourceFields.{SourceFields}
 use Rattle.encoder.specs.declared.fields.DestinationFields.{DestinationFields}
 use Rattle.encoder.specs.declared.fields.BlendingFields.{BlendingFields}
 use Rattle.encoder.specs.declared.fields.Fields.{Fields}
-use Rattle.encoder.specs.Fields.{fitsIn, surfaceAllowed, alphaAllowed, transformAllowed, sourceAllowed, destinationAllowed, blendingAllowed, allowed}
+use Rattle.encoder.specs.Fields.{fitsIn, surfaceAllowed, alphaAllowed, transformAllowed, sourceAllowed, destinationAllowed, blendingAllowed, stepsAllowed, allowed}
 
 pub record SurfaceFits (s : SurfaceFields) : Type 0 where
   pub width : s .width < 2 ^ 13
@@ -40,7 +40,7 @@ pub record SourceFits (s : SourceFields) : Type 0 where
   pub surface : SurfaceFits (s .surface)
   pub alpha : AlphaFits (s .alpha)
   pub transform : TransformFits (s .transform)
-  pub mode : s .mode ≤ 1
+  pub mode : s .mode < 4
   pub enable : s .enable < 2
 
 pub record DestinationFits (d : DestinationFields) : Type 0 where
@@ -53,6 +53,12 @@ pub record BlendingFits (b : BlendingFields) : Type 0 where
   pub destination : b .destination ≤ 5
   pub on : b .on < 2
   pub premultiplied : b .premultiplied < 2
+
+pub record StepsFits (s : Steps) : Type 0 where
+  pub alpha : s .alpha < 2 ^ 25
+  pub red : s .red < 2 ^ 25
+  pub green : s .green < 2 ^ 25
+  pub blue : s .blue < 2 ^ 25
 
 -- the parts of `allowed`
 pub record Parts (f : Fields) : Type 0 where
@@ -115,7 +121,7 @@ pub record SourceParts (s : SourceFields) : Type 0 where
   pub surface : surfaceAllowed (s .surface) ≡ true
   pub alpha : alphaAllowed (s .alpha) ≡ true
   pub transform : transformAllowed (s .transform) ≡ true
-  pub mode : s .mode ≤ 1
+  pub mode : s .mode < 4
   pub enable : s .enable < 2
 
 pub source-parts : (s : SourceFields) → sourceAllowed s ≡ true → SourceParts s
@@ -124,7 +130,7 @@ source-parts s ok =
     let surface : Bool = surfaceAllowed (s .surface) in
     let alpha : Bool = alphaAllowed (s .alpha) in
     let transform : Bool = transformAllowed (s .transform) in
-    let mode : Bool = isSourceMode (s .mode) in
+    let mode : Bool = fitsIn 2 (s .mode) in
     let four = and-true (surface && alpha && transform && mode) (fitsIn 1 (s .enable)) ok in
     let three = and-true (surface && alpha && transform) mode (four .0) in
     let two = and-true (surface && alpha) transform (three .0) in
@@ -133,7 +139,7 @@ source-parts s ok =
       surface = one .0;
       alpha = one .1;
       transform = two .1;
-      mode = leb-true (s .mode) 1 (three .1);
+      mode = ltb-true (s .mode) 4 (three .1);
       enable = ltb-true (s .enable) 2 (four .1);
     }
 
@@ -186,6 +192,22 @@ blending-fits b ok =
       destination = leb-true (b .destination) 5 (one .1);
       on = ltb-true (b .on) 2 (two .1);
       premultiplied = ltb-true (b .premultiplied) 2 (three .1);
+    }
+
+pub steps-fit : (s : Steps) → stepsAllowed s ≡ true → StepsFits s
+unfolding stepsAllowed
+steps-fit s ok =
+    let alpha : Bool = fitsIn 25 (s .alpha) in
+    let red : Bool = fitsIn 25 (s .red) in
+    let green : Bool = fitsIn 25 (s .green) in
+    let three = and-true (alpha && red && green) (fitsIn 25 (s .blue)) ok in
+    let two = and-true (alpha && red) green (three .0) in
+    let one = and-true alpha red (two .0) in
+    record {
+      alpha = ltb-true (s .alpha) (2 ^ 25) (one .0);
+      red = ltb-true (s .red) (2 ^ 25) (one .1);
+      green = ltb-true (s .green) (2 ^ 25) (two .1);
+      blue = ltb-true (s .blue) (2 ^ 25) (three .1);
     }
 
 pub parts : (f : Fields) → allowed f ≡ true → Parts f

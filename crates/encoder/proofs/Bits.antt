@@ -1,6 +1,6 @@
 -- Each field of a register's word is the field that was put there.
 use mathlib.Core.Path.{_≡_}
-use Prim.Native.Nat.{_+_, _*_}
+use Prim.Native.Nat.{ℕ, _+_, _*_, _^_, _<_}
 use native.Mathlib.Omega.{arith}
 use Rattle.word.specs.Field.{field}
 use Rattle.encoder.specs.declared.fields.SurfaceFields.{SurfaceFields}
@@ -106,6 +106,10 @@ module _ (s : SurfaceFields) (h : SurfaceFits s) where
 
   pub stride-stride : field 15 0 (s .stride) ≡ s .stride
   stride-stride = omega arith
+
+-- of a step
+pub step-unused : (word : ℕ) → word < 2 ^ 25 → field 31 25 word ≡ 0
+step-unused word h = omega arith
 
 -- of the blending word
 module _ (b : BlendingFields) (h : BlendingFits b) where

@@ -1,5 +1,5 @@
--- The reading of a group whose words are all taken, and of the six groups that write every register of a bank.
-use mathlib.Core.Path.{_≡_, refl, _∙_}
+-- The reading of a group whose words are all taken, and of the groups that write the registers of a bank, with the steps and without.
+use mathlib.Core.Path.{_≡_, refl, sym, ap, _∙_}
 use mathlib.Core.Bool.{Bool, true, false}
 use mathlib.Core.List.{List, [], _∷_, _++_}
 use Prim.Native.Nat.{ℕ, zero, suc, _+_, _*_, _<_}
@@ -8,15 +8,16 @@ use lib.Dec.{eqb}
 use lib.ListN.{length, length-append}
 use borrow.Author.Tests.{ne-eqb, le-ltb}
 use Rattle.word.specs.Field.{field}
-use Rattle.register.specs.Table.{registerKindOf, isWritable, acceptsWord, sourceControlAccepts, destinationControlAccepts, outputControlAccepts, sizeAccepts, strideAccepts, blendingAccepts}
-use Rattle.register.specs.Bank.{surfaceAfterWrite, bankAfterWrite, writeRegister}
+use Rattle.register.specs.Table.{registerKindOf, isWritable, acceptsWord, sourceControlAccepts, destinationControlAccepts, outputControlAccepts, sizeAccepts, strideAccepts, stepAccepts, blendingAccepts}
+use Rattle.gradient.specs.declared.Steps.{Steps}
+use Rattle.register.specs.Bank.{surfaceAfterWrite, stepsAfterWrite, bankAfterWrite, writeRegister}
 use Rattle.register.specs.Task.{taskOf}
 use Rattle.register.specs.declared.bank.Bank.{Bank}
 use Rattle.register.specs.declared.bank.Write.the-variants.{Bank as Taken}
 use Rattle.rules.specs.declared.task.Bounds.{Bounds}
 use Rattle.rules.specs.Rules.{checkTask}
 use Rattle.batch.specs.Batch.{start, inside, reservedBits, badGroupLength, afterTaskCheck, decodeFrom}
-use Rattle.encoder.specs.Words.{taskWords}
+use Rattle.encoder.specs.Words.{taskWords, shadedWords}
 
 -- the register at an offset takes a word
 abbrev TakenAt : ℕ → ℕ → Type 0
@@ -91,7 +92,7 @@ group-last bounds b k next h vs ws e l s n m t after is =
     ended [] = refl
     ended (w ∷ rest) = refl
 
--- each register of a bank holds a word that it takes
+-- each register of a bank but the steps holds a word that it takes
 pub record AllTaken (b : Bank) : Type 0 where
   pub source : sourceControlAccepts (b .source .control) ≡ true
   pub source-size : sizeAccepts (b .source .size) ≡ true
@@ -104,6 +105,13 @@ pub record AllTaken (b : Bank) : Type 0 where
   pub output-stride : strideAccepts (b .output .stride) ≡ true
   pub blending : blendingAccepts (b .blending) ≡ true
 
+-- so do the steps
+pub record StepsTaken (s : Steps) : Type 0 where
+  pub alpha : stepAccepts (s .alpha) ≡ true
+  pub red : stepAccepts (s .red) ≡ true
+  pub green : stepAccepts (s .green) ≡ true
+  pub blue : stepAccepts (s .blue) ≡ true
+
 -- the words of the groups that have more than one
 abbrev words1 : Bank → List ℕ
 words1 b = b .source .control ∷ b .source .size ∷ b .source .stride ∷ b .colour ∷ b .source .address ∷ []
@@ -113,6 +121,22 @@ words2 b = b .destination .control ∷ b .destination .size ∷ b .destination .
 
 abbrev words5 : Bank → List ℕ
 words5 b = b .output .control ∷ b .output .size ∷ b .output .stride ∷ []
+
+abbrev stepWords : Steps → List ℕ
+stepWords s = s .alpha ∷ s .red ∷ s .green ∷ s .blue ∷ []
+
+steps-taken : (s : Steps) → StepsTaken s → TakenFrom 0x030 (stepWords s)
+unfolding registerKindOf
+steps-taken s t = (
+  taken-at 0x030 (s .alpha) refl (t .alpha),
+  (
+    taken-at 0x034 (s .red) refl (t .red),
+    (
+      taken-at 0x038 (s .green) refl (t .green),
+      (taken-at 0x03C (s .blue) refl (t .blue), tt),
+    ),
+  ),
+)
 
 module _ (b : Bank) (t : AllTaken b) where
   -- the words of each group are taken
@@ -164,40 +188,73 @@ module _ (b : Bank) (t : AllTaken b) where
   unfolding registerKindOf
   sixth = (taken-at 0x110 (b .output .address) refl refl, tt)
 
--- the bank after each of the first five groups
+-- the bank after the first group, and after each of the others but the last
 abbrev after1 : Bank → Bank → Bank
 after1 old b = storedFrom old 0x010 (words1 b)
 
 abbrev after2 : Bank → Bank → Bank
-after2 old b = storedFrom (after1 old b) 0x050 (words2 b)
+after2 c b = storedFrom c 0x050 (words2 b)
 
 abbrev after3 : Bank → Bank → Bank
-after3 old b = storedFrom (after2 old b) 0x060 (b .destination .address ∷ [])
+after3 c b = storedFrom (after2 c b) 0x060 (b .destination .address ∷ [])
 
 abbrev after4 : Bank → Bank → Bank
-after4 old b = storedFrom (after3 old b) 0x090 (b .blending ∷ [])
+after4 c b = storedFrom (after3 c b) 0x090 (b .blending ∷ [])
 
 abbrev after5 : Bank → Bank → Bank
-after5 old b = storedFrom (after4 old b) 0x100 (words5 b)
+after5 c b = storedFrom (after4 c b) 0x100 (words5 b)
 
--- every register is written
-all-stored : (old b : Bank) → storedFrom (after5 old b) 0x110 (b .output .address ∷ []) ≡ b
-unfolding bankAfterWrite surfaceAfterWrite
-all-stored old b = refl
+abbrev after6 : Bank → Bank → Bank
+after6 c b = storedFrom (after5 c b) 0x110 (b .output .address ∷ [])
 
--- from any bank and any word on: one task, of which this bank is the registers, and then the rest
-pub task-read : (bounds : Bounds) (old b : Bank) (k : ℕ) (rest : List ℕ) → AllTaken b
-    → decodeFrom bounds old k start (taskWords b ++ rest) ≡ afterTaskCheck (checkTask bounds (taskOf b)) b (k + 18) (decodeFrom bounds b (k + 20) start rest)
-unfolding taskWords
-task-read bounds old b k rest t =
+-- what follows the header of the second group
+abbrev from2 : Bank → List ℕ → List ℕ
+from2 b rest =
+    words2 b ++ (0x00600004 ∷ b .destination .address ∷ 0x00900004 ∷ b .blending ∷ 0x0100000C ∷ words5 b ++ (0x01100005 ∷ b .output .address ∷ rest))
+
+-- the groups from the second on, read from a bank in which the others are written
+rest-read : (bounds : Bounds) (c b : Bank) (k end next : ℕ) (rest : List ℕ) → AllTaken b → after6 c b ≡ b → end ≡ k + 12 → next ≡ k + 14
+    → decodeFrom bounds c k start (0x0050000C ∷ from2 b rest) ≡ afterTaskCheck (checkTask bounds (taskOf b)) b end (decodeFrom bounds b next start rest)
+rest-read bounds c b k end next rest t is e n =
     let from6 : List ℕ = b .output .address ∷ rest in
     let from5 : List ℕ = words5 b ++ (0x01100005 ∷ from6) in
     let from4 : List ℕ = b .blending ∷ 0x0100000C ∷ from5 in
     let from3 : List ℕ = b .destination .address ∷ 0x00900004 ∷ from4 in
-    let from2 : List ℕ = words2 b ++ (0x00600004 ∷ from3) in
-    group-on bounds old k (k + 6) 0x00100014 (words1 b) 0x0050000C from2 refl refl (omega arith) (omega arith) refl (first b t)
-    ∙ group-on bounds (after1 old b) (k + 6) (k + 10) 0x0050000C (words2 b) 0x00600004 from3 refl refl (omega arith) (omega arith) refl (second b t)
-    ∙ group-on bounds (after2 old b) (k + 10) (k + 12) 0x00600004 (b .destination .address ∷ []) 0x00900004 from4 refl refl (omega arith) (omega arith) refl (third b t)
-    ∙ group-on bounds (after3 old b) (k + 12) (k + 14) 0x00900004 (b .blending ∷ []) 0x0100000C from5 refl refl (omega arith) (omega arith) refl (fourth b t)
-    ∙ group-on bounds (after4 old b) (k + 14) (k + 18) 0x0100000C (words5 b) 0x01100005 from6 refl refl (omega arith) (omega arith) refl (fifth b t)
-    ∙ group-last bounds (after5 old b) (k + 18) (k + 20) 0x01100005 (b .output .address ∷ []) rest refl refl (omega arith) (omega arith) refl (sixth b t) b (all-stored old b)
+    group-on bounds c k (k + 4) 0x0050000C (words2 b) 0x00600004 from3 refl refl (omega arith) (omega arith) refl (second b t)
+    ∙ group-on bounds (after2 c b) (k + 4) (k + 6) 0x00600004 (b .destination .address ∷ []) 0x00900004 from4 refl refl (omega arith) (omega arith) refl (third b t)
+    ∙ group-on bounds (after3 c b) (k + 6) (k + 8) 0x00900004 (b .blending ∷ []) 0x0100000C from5 refl refl (omega arith) (omega arith) refl (fourth b t)
+    ∙ group-on bounds (after4 c b) (k + 8) end 0x0100000C (words5 b) 0x01100005 from6 refl refl (omega arith) (omega arith) refl (fifth b t)
+    ∙ group-last bounds (after5 c b) end next 0x01100005 (b .output .address ∷ []) rest refl refl (omega arith) (omega arith) refl (sixth b t) b is
+
+-- the first form writes every register but the steps
+abbrev keeping : Steps → Bank → Bank
+keeping s b = record { source = b .source; destination = b .destination; output = b .output; colour = b .colour; steps = s; blending = b .blending }
+
+first-stored : (old b : Bank) → after6 (after1 old b) b ≡ keeping (old .steps) b
+unfolding bankAfterWrite surfaceAfterWrite stepsAfterWrite
+first-stored old b = refl
+
+-- from any bank and any word on: one task, of which this bank is the registers, and then the rest
+pub task-read : (bounds : Bounds) (old b : Bank) (k : ℕ) (rest : List ℕ) → AllTaken b → b .steps ≡ old .steps
+    → decodeFrom bounds old k start (taskWords b ++ rest) ≡ afterTaskCheck (checkTask bounds (taskOf b)) b (k + 18) (decodeFrom bounds b (k + 20) start rest)
+unfolding taskWords
+task-read bounds old b k rest t e =
+    group-on bounds old k (k + 6) 0x00100014 (words1 b) 0x0050000C (from2 b rest) refl refl (omega arith) (omega arith) refl (first b t)
+    ∙ rest-read bounds (after1 old b) b (k + 6) (k + 18) (k + 20) rest t
+    (first-stored old b ∙ ap (λ (s : Steps). keeping s b) (sym e)) (omega arith) (omega arith)
+
+-- the second form writes every register
+abbrev after-steps : Bank → Bank → Bank
+after-steps old b = storedFrom (after1 old b) 0x030 (stepWords (b .steps))
+
+all-stored : (old b : Bank) → after6 (after-steps old b) b ≡ b
+unfolding bankAfterWrite surfaceAfterWrite stepsAfterWrite
+all-stored old b = refl
+
+pub shaded-read : (bounds : Bounds) (old b : Bank) (k : ℕ) (rest : List ℕ) → AllTaken b → StepsTaken (b .steps)
+    → decodeFrom bounds old k start (shadedWords b ++ rest) ≡ afterTaskCheck (checkTask bounds (taskOf b)) b (k + 23) (decodeFrom bounds b (k + 25) start rest)
+unfolding shadedWords
+shaded-read bounds old b k rest t s =
+    group-on bounds old k (k + 6) 0x00100014 (words1 b) 0x00300010 (stepWords (b .steps) ++ (0x0050000C ∷ from2 b rest)) refl refl (omega arith) (omega arith) refl (first b t)
+    ∙ group-on bounds (after1 old b) (k + 6) (k + 11) 0x00300010 (stepWords (b .steps)) 0x0050000C (from2 b rest) refl refl (omega arith) (omega arith) refl (steps-taken (b .steps) s)
+    ∙ rest-read bounds (after-steps old b) b (k + 11) (k + 23) (k + 25) rest t (all-stored old b) (omega arith) (omega arith)

@@ -1,149 +1,141 @@
 -- The round trip (demand 2: what the encoder writes reads back as the same task), over the definition of the batch reader: from any
--- bank, within any bounds, for all fields that the encoder takes.
+-- bank, within any bounds, for all fields that the encoder takes, in either form.
 use mathlib.Core.Path.{_≡_, refl, sym, ap, _∙_}
 use mathlib.Core.Bool.{true}
-use mathlib.Core.List.{List, [], _∷_, _++_, map, append-nil}
+use mathlib.Core.List.{List, [], _∷_, _++_, append-nil}
 use Prim.Native.Nat.{ℕ, _+_}
 use native.Mathlib.Omega.{arith}
 use lib.ListN.{length}
 use Rattle.word.specs.Word.{words}
+use Rattle.word.proofs.Tests.{and-true}
+use Rattle.gradient.specs.declared.Steps.{Steps}
+use Rattle.register.specs.Bank.{resetSteps}
 use Rattle.register.specs.declared.bank.Bank.{Bank}
 use Rattle.rules.specs.declared.task.Bounds.{Bounds}
 use Rattle.rules.specs.Rules.{checkTask}
-use Rattle.batch.specs.Batch.{DecodedBatch, finished, stopWith, start, afterTaskCheck, decodeFrom, decodeBatch}
+use Rattle.batch.specs.Batch.{DecodedBatch, finished, start, afterTaskCheck, decodeFrom, decodeBatch}
 use Rattle.batch.specs.Marks.{taskEndCountFrom, taskEndCount}
 use Rattle.encoder.specs.declared.fields.Fields.{Fields}
-use Rattle.encoder.specs.Fields.{allowed}
+use Rattle.encoder.specs.Fields.{allowed, stepsAllowed}
 use Rattle.encoder.specs.Registers.{surfaceRegisters, sourceControl, destinationControl, blendingWord, bankOf}
-use Rattle.encoder.specs.Words.{taskWords}
+use Rattle.encoder.specs.Words.{taskWords, shadedWords}
+use Rattle.encoder.specs.Forms.{Form, firstForm, secondForm, fieldsIn, formAllowed, formWords}
 use Rattle.encoder.specs.Encoder.{taskBytes}
-use Rattle.encoder.specs.RoundTrip.{taskWith, allWords, allBytes, AllAllowed, Fits32Bits, AllFit32Bits, AllPassTaskCheck, expectedDecoding, bankAfter}
-use Rattle.encoder.proofs.Allowed.{parts, surface-fits, source-fits, destination-fits, blending-fits}
+use Rattle.encoder.specs.RoundTrip.{taskWith, stepsAfter, allTasks, allWords, allBytes, AllAllowed, Fits32Bits, AllFit32Bits, AllPassTaskCheck, endHeader, bankWith, expectedDecoding, bankAfter}
+use Rattle.encoder.proofs.Allowed.{parts, surface-fits, source-fits, destination-fits, blending-fits, steps-fit}
 use Rattle.encoder.proofs.Written.{Below, words-back}
-use Rattle.encoder.proofs.Groups.{task-read}
-use Rattle.encoder.proofs.TaskFields.{all-taken, task-back}
+use Rattle.encoder.proofs.Groups.{StepsTaken, task-read, shaded-read}
+use Rattle.encoder.proofs.TaskFields.{all-taken, steps-taken, task-back}
 
 -- ---- words
 
+-- the fields of either form are allowed
+pub fields-allowed : (w : Form) → formAllowed w ≡ true → allowed (fieldsIn w) ≡ true
+fields-allowed (firstForm f) ok = ok
+fields-allowed (secondForm f steps) ok = and-true (allowed f) (stepsAllowed steps) ok .0
+
+-- the steps of a bank are in no word of the first form
+any-steps : (steps : Steps) (f : Fields) → taskWords (bankOf resetSteps f) ≡ taskWords (bankOf steps f)
+unfolding taskWords bankOf
+any-steps steps f = refl
+
+kept-steps : (steps : Steps) (f : Fields) → bankOf steps f .steps ≡ steps
+unfolding bankOf
+kept-steps steps f = refl
+
 -- one task, and then the reading goes on with the rest of the words
-pub goes-on : (bounds : Bounds) (bank : Bank) (k : ℕ) (f : Fields) (rest : List ℕ) → allowed f ≡ true
-    → decodeFrom bounds bank k start (taskWords (bankOf f) ++ rest)
-    ≡ afterTaskCheck (checkTask bounds (taskWith f)) (bankOf f) (k + 18) (decodeFrom bounds (bankOf f) (k + 20) start rest)
-goes-on bounds bank k f rest ok = rw (task-back f ok) at (task-read bounds bank (bankOf f) k rest (all-taken f ok))
+pub goes-on : (bounds : Bounds) (bank : Bank) (k : ℕ) (w : Form) (rest : List ℕ) → formAllowed w ≡ true
+    → decodeFrom bounds bank k start (formWords w ++ rest)
+    ≡ afterTaskCheck (checkTask bounds (taskWith (stepsAfter (bank .steps) w) (fieldsIn w))) (bankWith bank w) (k + endHeader w) (decodeFrom bounds (bankWith bank w) (k + (endHeader w + 2)) start rest)
+goes-on bounds bank k (firstForm f) rest ok =
+    let steps : Steps = bank .steps in
+    ap (λ (l : List ℕ). decodeFrom bounds bank k start (l ++ rest)) (any-steps steps f)
+    ∙ (rw (task-back steps f ok) at (task-read bounds bank (bankOf steps f) k rest (all-taken steps f ok) (kept-steps steps f)))
+goes-on bounds bank k (secondForm f steps) rest ok =
+    let both = and-true (allowed f) (stepsAllowed steps) ok in
+    let taken : StepsTaken (bankOf steps f .steps) = rw (kept-steps steps f) (steps-taken steps (both .1)) in
+    rw (task-back steps f (both .0)) at (shaded-read bounds bank (bankOf steps f) k rest (all-taken steps f (both .0)) taken)
 
 -- any tasks, one after the other
-tasks-from : (bounds : Bounds) (bank : Bank) (k : ℕ) (fs : List Fields) → AllAllowed fs → decodeFrom bounds bank k start (allWords fs) ≡ expectedDecoding bounds bank k fs
+tasks-from : (bounds : Bounds) (bank : Bank) (k : ℕ) (ws : List Form) → AllAllowed ws → decodeFrom bounds bank k start (allWords ws) ≡ expectedDecoding bounds bank k ws
 unfolding allWords expectedDecoding decodeFrom
 tasks-from bounds bank k [] ok = refl
-tasks-from bounds bank k (f ∷ fs) ok =
-    goes-on bounds bank k f (allWords fs) (ok .0)
-    ∙ ap (λ (r : DecodedBatch). afterTaskCheck (checkTask bounds (taskWith f)) (bankOf f) (k + 18) r) (tasks-from bounds (bankOf f) (k + 20) fs (ok .1))
+tasks-from bounds bank k (w ∷ ws) ok =
+    goes-on bounds bank k w (allWords ws) (ok .0)
+    ∙ ap (λ (r : DecodedBatch). afterTaskCheck (checkTask bounds (taskWith (stepsAfter (bank .steps) w) (fieldsIn w))) (bankWith bank w) (k + endHeader w) r)
+    (tasks-from bounds (bankWith bank w) (k + (endHeader w + 2)) ws (ok .1))
 
-words-read-back : (bounds : Bounds) (bank : Bank) (fs : List Fields) → AllAllowed fs → decodeBatch bounds bank (allWords fs) ≡ expectedDecoding bounds bank 0 fs
-words-read-back bounds bank fs ok = tasks-from bounds bank 0 fs ok
+words-read-back : (bounds : Bounds) (bank : Bank) (ws : List Form) → AllAllowed ws → decodeBatch bounds bank (allWords ws) ≡ expectedDecoding bounds bank 0 ws
+words-read-back bounds bank ws ok = tasks-from bounds bank 0 ws ok
 
 -- a task alone
-pub reads-back-one : (bounds : Bounds) (bank : Bank) (f : Fields) → allowed f ≡ true
-    → decodeBatch bounds bank (taskWords (bankOf f)) ≡ afterTaskCheck (checkTask bounds (taskWith f)) (bankOf f) 18 (stopWith (bankOf f) finished)
-unfolding decodeFrom
-reads-back-one bounds bank f ok = ap (λ (l : List ℕ). decodeBatch bounds bank l) (sym (append-nil (taskWords (bankOf f)))) ∙ goes-on bounds bank 0 f [] ok
+pub reads-back-one : (bounds : Bounds) (bank : Bank) (w : Form) → formAllowed w ≡ true → decodeBatch bounds bank (formWords w) ≡ expectedDecoding bounds bank 0 (w ∷ [])
+unfolding allWords
+reads-back-one bounds bank w ok = ap (λ (l : List ℕ). decodeBatch bounds bank l) (sym (append-nil (formWords w))) ∙ words-read-back bounds bank (w ∷ []) (ok, tt)
 
 -- where 25 to 28 do not come: those tasks, in order, and the batch is finished
-pub fine-from : (bounds : Bounds) (bank : Bank) (k : ℕ) (fs : List Fields) → AllAllowed fs → AllPassTaskCheck bounds fs
-    → expectedDecoding bounds bank k fs ≡ record { tasks = map taskWith fs; ending = finished; bank = bankAfter bank fs }
-unfolding expectedDecoding bankAfter
+pub fine-from : (bounds : Bounds) (bank : Bank) (k : ℕ) (ws : List Form) → AllAllowed ws → AllPassTaskCheck bounds (bank .steps) ws
+    → expectedDecoding bounds bank k ws ≡ record { tasks = allTasks (bank .steps) ws; ending = finished; bank = bankAfter bank ws }
+unfolding expectedDecoding allTasks bankAfter bankOf
 fine-from bounds bank k [] ok fine = refl
-fine-from bounds bank k (f ∷ fs) ok fine = rw (fine .0, task-back f (ok .0), fine-from bounds (bankOf f) (k + 20) fs (ok .1) (fine .1))
+fine-from bounds bank k (w ∷ ws) ok fine =
+    rw (fine .0, task-back (stepsAfter (bank .steps) w) (fieldsIn w) (fields-allowed w (ok .0)), fine-from bounds (bankWith bank w) (k + (endHeader w + 2)) ws (ok .1) (fine .1))
 
 -- ---- exactly one task-end mark each
 
 last-of-six : (n : ℕ) → 0 + (0 + (0 + (0 + (0 + (1 + n))))) ≡ 1 + n
 last-of-six n = omega arith
 
-mark-each : (b : Bank) (rest : List ℕ) → taskEndCount (taskWords b ++ rest) ≡ 1 + taskEndCount rest
-unfolding taskEndCountFrom taskWords
-mark-each b rest = last-of-six (taskEndCount rest)
+last-of-seven : (n : ℕ) → 0 + (0 + (0 + (0 + (0 + (0 + (1 + n)))))) ≡ 1 + n
+last-of-seven n = omega arith
 
-pub one-mark-each : (fs : List Fields) → taskEndCount (allWords fs) ≡ length fs
+mark-each : (w : Form) (rest : List ℕ) → taskEndCount (formWords w ++ rest) ≡ 1 + taskEndCount rest
+unfolding taskEndCountFrom taskWords shadedWords
+mark-each (firstForm f) rest = last-of-six (taskEndCount rest)
+mark-each (secondForm f steps) rest = last-of-seven (taskEndCount rest)
+
+pub one-mark-each : (ws : List Form) → taskEndCount (allWords ws) ≡ length ws
 unfolding allWords taskEndCountFrom
 one-mark-each [] = refl
-one-mark-each (f ∷ fs) = omega (arith, mark-each (bankOf f) (allWords fs), one-mark-each fs)
+one-mark-each (w ∷ ws) = omega (arith, mark-each w (allWords ws), one-mark-each ws)
 
 -- ---- bytes
 
-below : (f : Fields) → allowed f ≡ true → Fits32Bits f → Below (taskWords (bankOf f))
+first-below : (f : Fields) → allowed f ≡ true → Fits32Bits f → Below (taskWords (bankOf resetSteps f))
 unfolding taskWords bankOf surfaceRegisters sourceControl destinationControl blendingWord
-below f ok plain =
+first-below f ok plain =
     let p = parts f ok in
     let s = source-fits (f .source) (p .source) in
     let d = destination-fits (f .destination) (p .destination) in
     let o = surface-fits (f .output) (p .output) in
-    let b = blending-fits (f .blending) (p .blending) in (
-      omega arith,
-      (
-        omega arith,
-        (
-          omega arith,
-          (
-            omega arith,
-            (
-              plain .colour,
-              (
-                plain .source,
-                (
-                  omega arith,
-                  (
-                    omega arith,
-                    (
-                      omega arith,
-                      (
-                        omega arith,
-                        (
-                          omega arith,
-                          (
-                            plain .destination,
-                            (
-                              omega arith,
-                              (
-                                omega arith,
-                                (
-                                  omega arith,
-                                  (
-                                    omega arith,
-                                    (
-                                      omega arith,
-                                      (
-                                        omega arith,
-                                        (omega arith, (plain .output, tt)),
-                                      ),
-                                    ),
-                                  ),
-                                ),
-                              ),
-                            ),
-                          ),
-                        ),
-                      ),
-                    ),
-                  ),
-                ),
-              ),
-            ),
-          ),
-        ),
-      ),
-    )
+    let b = blending-fits (f .blending) (p .blending) in
+    (omega arith, (omega arith, (omega arith, (omega arith, (plain .colour, (plain .source, (omega arith, (omega arith, (omega arith, (omega arith, (omega arith, (plain .destination, (omega arith, (omega arith, (omega arith, (omega arith, (omega arith, (omega arith, (omega arith, (plain .output, tt))))))))))))))))))))
 
--- the 80 bytes are the twenty words, and so on for any tasks
-pub bytes-back : (f : Fields) (rest : List ℕ) → allowed f ≡ true → Fits32Bits f → words (taskBytes f ++ rest) ≡ taskWords (bankOf f) ++ words rest
+second-below : (f : Fields) (steps : Steps) → allowed f ≡ true → stepsAllowed steps ≡ true → Fits32Bits f → Below (shadedWords (bankOf steps f))
+unfolding shadedWords bankOf surfaceRegisters sourceControl destinationControl blendingWord
+second-below f steps ok fit plain =
+    let p = parts f ok in
+    let s = source-fits (f .source) (p .source) in
+    let d = destination-fits (f .destination) (p .destination) in
+    let o = surface-fits (f .output) (p .output) in
+    let b = blending-fits (f .blending) (p .blending) in
+    let g = steps-fit steps fit in
+    (omega arith, (omega arith, (omega arith, (omega arith, (plain .colour, (plain .source, (omega arith, (omega arith, (omega arith, (omega arith, (omega arith, (omega arith, (omega arith, (omega arith, (omega arith, (omega arith, (plain .destination, (omega arith, (omega arith, (omega arith, (omega arith, (omega arith, (omega arith, (omega arith, (plain .output, tt)))))))))))))))))))))))))
+
+below : (w : Form) → formAllowed w ≡ true → Fits32Bits (fieldsIn w) → Below (formWords w)
+below (firstForm f) ok plain = first-below f ok plain
+below (secondForm f steps) ok plain = let both = and-true (allowed f) (stepsAllowed steps) ok in second-below f steps (both .0) (both .1) plain
+
+-- the bytes are the words, and so on for any tasks
+pub bytes-back : (w : Form) (rest : List ℕ) → formAllowed w ≡ true → Fits32Bits (fieldsIn w) → words (taskBytes w ++ rest) ≡ formWords w ++ words rest
 unfolding taskBytes
-bytes-back f rest ok plain = words-back (taskWords (bankOf f)) rest (below f ok plain)
+bytes-back w rest ok plain = words-back (formWords w) rest (below w ok plain)
 
-pub all-bytes-back : (fs : List Fields) → AllAllowed fs → AllFit32Bits fs → words (allBytes fs) ≡ allWords fs
+pub all-bytes-back : (ws : List Form) → AllAllowed ws → AllFit32Bits ws → words (allBytes ws) ≡ allWords ws
 unfolding allBytes allWords words
 all-bytes-back [] ok plain = refl
-all-bytes-back (f ∷ fs) ok plain =
-    bytes-back f (allBytes fs) (ok .0) (plain .0) ∙ ap (λ (l : List ℕ). taskWords (bankOf f) ++ l) (all-bytes-back fs (ok .1) (plain .1))
+all-bytes-back (w ∷ ws) ok plain =
+    bytes-back w (allBytes ws) (ok .0) (plain .0) ∙ ap (λ (l : List ℕ). formWords w ++ l) (all-bytes-back ws (ok .1) (plain .1))
 
-pub bytes-read-back : (bounds : Bounds) (bank : Bank) (fs : List Fields) → AllAllowed fs → AllFit32Bits fs → decodeBatch bounds bank (words (allBytes fs)) ≡ expectedDecoding bounds bank 0 fs
-bytes-read-back bounds bank fs ok plain = ap (decodeBatch bounds bank) (all-bytes-back fs ok plain) ∙ words-read-back bounds bank fs ok
+pub bytes-read-back : (bounds : Bounds) (bank : Bank) (ws : List Form) → AllAllowed ws → AllFit32Bits ws → decodeBatch bounds bank (words (allBytes ws)) ≡ expectedDecoding bounds bank 0 ws
+bytes-read-back bounds bank ws ok plain = ap (decodeBatch bounds bank) (all-bytes-back ws ok plain) ∙ words-read-back bounds bank ws ok

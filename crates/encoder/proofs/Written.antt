@@ -9,10 +9,7 @@ use Rattle.word.specs.Word.{leBytes, wordsBytes, words}
 use Rattle.word.specs.Splice.{spliced}
 use Rattle.word.proofs.Words.{words-leBytes}
 use Rattle.encoder.specs.declared.Answer.the-variants.{Written, Forbidden, ShortBuffer}
-use Rattle.encoder.specs.declared.fields.Fields.{Fields}
-use Rattle.encoder.specs.Fields.{allowed}
-use Rattle.encoder.specs.Registers.{bankOf}
-use Rattle.encoder.specs.Words.{taskWords}
+use Rattle.encoder.specs.Forms.{Form, formAllowed, formSize, formWords}
 use Rattle.encoder.specs.Encoder.{answerOf, taskBytes, bufferAfter}
 
 -- ---- words in bytes
@@ -29,15 +26,15 @@ words-back (w ∷ ws) rest h = words-leBytes w (wordsBytes ws ++ rest) (h .0) �
 
 -- ---- the three cases
 
-module _ (f : Fields) (xs : List ℕ) where
-  pub forbidden : allowed f ≡ false → (Forbidden ≡ answerOf f (length xs)) × (xs ≡ bufferAfter f xs)
+module _ (w : Form) (xs : List ℕ) where
+  pub forbidden : formAllowed w ≡ false → (Forbidden ≡ answerOf w (length xs)) × (xs ≡ bufferAfter w xs)
   unfolding answerOf bufferAfter
   forbidden e = (simp e, simp e)
 
-  pub short : allowed f ≡ true → length xs < 80 → (ShortBuffer ≡ answerOf f (length xs)) × (xs ≡ bufferAfter f xs)
+  pub short : formAllowed w ≡ true → length xs < formSize w → (ShortBuffer ≡ answerOf w (length xs)) × (xs ≡ bufferAfter w xs)
   unfolding answerOf bufferAfter
-  short e h = let test = lt-ltb (length xs) 80 h in (simp (e, test), simp (e, test))
+  short e h = let test = lt-ltb (length xs) (formSize w) h in (simp (e, test), simp (e, test))
 
-  pub fitting : allowed f ≡ true → 80 ≤ length xs → (Written ≡ answerOf f (length xs)) × (spliced 0 (wordsBytes (taskWords (bankOf f))) xs ≡ bufferAfter f xs)
+  pub fitting : formAllowed w ≡ true → formSize w ≤ length xs → (Written ≡ answerOf w (length xs)) × (spliced 0 (wordsBytes (formWords w)) xs ≡ bufferAfter w xs)
   unfolding answerOf bufferAfter taskBytes
-  fitting e h = let test = le-ltb (length xs) 80 h in (simp (e, test), simp (e, test))
+  fitting e h = let test = le-ltb (length xs) (formSize w) h in (simp (e, test), simp (e, test))

@@ -6,7 +6,7 @@ use lib.Dec.{ltb}
 use Rattle.pixel.specs.Formats.{isFormat}
 use Rattle.pixel.specs.Alpha.{isAlphaMode}
 use Rattle.pixel.specs.Blending.{isFactor}
-use Rattle.register.specs.Table.{isSourceMode}
+use Rattle.gradient.specs.declared.Steps.{Steps}
 use Rattle.encoder.specs.declared.fields.SurfaceFields.{SurfaceFields}
 use Rattle.encoder.specs.declared.fields.AlphaFields.{AlphaFields}
 use Rattle.encoder.specs.declared.fields.TransformFields.{TransformFields}
@@ -37,7 +37,7 @@ sourceAllowed s =
     surfaceAllowed (s .surface)
     && alphaAllowed (s .alpha)
     && transformAllowed (s .transform)
-    && isSourceMode (s .mode)
+    && fitsIn 2 (s .mode)
     && fitsIn 1 (s .enable)
 
 -- 0 enable
@@ -47,6 +47,10 @@ destinationAllowed d = surfaceAllowed (d .surface) && alphaAllowed (d .alpha) &&
 -- 13:11 source factor, 10:8 destination factor, 0 blend on, 17 premultiplied (02, request 12)
 unfoldable pub blendingAllowed : BlendingFields → Bool
 blendingAllowed b = isFactor (b .source) && isFactor (b .destination) && fitsIn 1 (b .on) && fitsIn 1 (b .premultiplied)
+
+-- 24:0 of each step, as raw words (02, request 3)
+unfoldable pub stepsAllowed : Steps → Bool
+stepsAllowed s = fitsIn 25 (s .alpha) && fitsIn 25 (s .red) && fitsIn 25 (s .green) && fitsIn 25 (s .blue)
 
 -- all of a task's fields; a colour has all bits
 unfoldable pub allowed : Fields → Bool

@@ -2,6 +2,7 @@
 pub mod Fields
 pub mod Registers
 pub mod Words
+pub mod Forms
 pub mod Encoder
 pub mod Solid
 pub mod RoundTrip

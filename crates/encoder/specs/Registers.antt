@@ -1,5 +1,6 @@
 -- The registers that fields give (01, "Groups and registers"): each field at its lowest bit.
 use Prim.Native.Nat.{ℕ, _+_, _*_}
+use Rattle.gradient.specs.declared.Steps.{Steps}
 use Rattle.register.specs.declared.bank.SurfaceRegisters.{SurfaceRegisters}
 use Rattle.register.specs.declared.bank.Bank.{Bank}
 use Rattle.encoder.specs.declared.fields.SurfaceFields.{SurfaceFields}
@@ -39,12 +40,13 @@ destinationControl d = alphaBits (d .alpha) + d .surface .format * 0x100 + d .en
 unfoldable pub blendingWord : BlendingFields → ℕ
 blendingWord b = b .premultiplied * 0x20000 + b .source * 0x800 + b .destination * 0x100 + b .on
 
--- the bank with exactly these fields; of the output control, 14:8 format
-unfoldable pub bankOf : Fields → Bank
-bankOf f = record {
+-- the bank with exactly these steps and fields; of the output control, 14:8 format
+unfoldable pub bankOf : Steps → Fields → Bank
+bankOf steps f = record {
   source = surfaceRegisters (sourceControl (f .source)) (f .source .surface);
   destination = surfaceRegisters (destinationControl (f .destination)) (f .destination .surface);
   output = surfaceRegisters (f .output .format * 0x100) (f .output);
   colour = f .colour;
+  steps = steps;
   blending = blendingWord (f .blending);
 }

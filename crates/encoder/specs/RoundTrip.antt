@@ -9,6 +9,7 @@ use Rattle.pixel.specs.Colours.{unpacked}
 use Rattle.pixel.specs.Alpha.{alphaModeOf}
 use Rattle.pixel.specs.Blending.{factorOf}
 use Rattle.pixel.specs.declared.format.Format.the-variants.{Argb8888}
+use Rattle.gradient.specs.declared.Steps.{Steps}
 use Rattle.surface.specs.declared.Surface.{Surface}
 use Rattle.transform.specs.declared.Transform.{Transform}
 use Rattle.register.specs.Task.{rotationOf, sourceModeOf}
@@ -29,12 +30,11 @@ use Rattle.encoder.specs.declared.fields.SourceFields.{SourceFields}
 use Rattle.encoder.specs.declared.fields.DestinationFields.{DestinationFields}
 use Rattle.encoder.specs.declared.fields.BlendingFields.{BlendingFields}
 use Rattle.encoder.specs.declared.fields.Fields.{Fields}
-use Rattle.encoder.specs.Fields.{allowed}
 use Rattle.encoder.specs.Registers.{bankOf}
-use Rattle.encoder.specs.Words.{taskWords}
+use Rattle.encoder.specs.Forms.{Form, firstForm, secondForm, fieldsIn, formAllowed, formWords}
 use Rattle.encoder.specs.Encoder.{taskBytes}
 
--- ---- the task with exactly these fields
+-- ---- the task with exactly these steps and fields
 
 unfoldable pub surfaceWith : SurfaceFields → Surface
 surfaceWith s = record {
@@ -54,11 +54,12 @@ transformWith t = record {
   rotation = rotationOf (t .rotation);
 }
 
-unfoldable pub sourceWith : SourceFields → ℕ → Source
-sourceWith s colour = record {
+unfoldable pub sourceWith : SourceFields → ℕ → Steps → Source
+sourceWith s colour steps = record {
   surface = surfaceWith (s .surface);
   mode = sourceModeOf (s .mode);
   colour = unpacked (layoutOf Argb8888) colour;
+  steps = steps;
   transform = transformWith (s .transform);
   alpha = alphaWith (s .alpha);
   enabled = eqb (s .enable) 1;
@@ -74,29 +75,39 @@ blendingWith b = record {
   premultiplied = eqb (b .premultiplied) 1;
 }
 
-unfoldable pub taskWith : Fields → Task
-taskWith f = record {
-  source = sourceWith (f .source) (f .colour);
+unfoldable pub taskWith : Steps → Fields → Task
+taskWith steps f = record {
+  source = sourceWith (f .source) (f .colour) steps;
   destination = destinationWith (f .destination);
   output = surfaceWith (f .output);
   blending = blendingWith (f .blending);
 }
 
--- ---- encoded tasks one after the other
+-- ---- encoded tasks one after the other, in either form
+
+-- the steps after a task: the second form writes them, the first leaves those that were
+abbrev pub stepsAfter : Steps → Form → Steps
+stepsAfter old (firstForm f) = old
+stepsAfter old (secondForm f steps) = steps
+
+-- the tasks with these fields, from these steps on
+unfoldable pub allTasks : Steps → List Form → List Task
+allTasks old [] = []
+allTasks old (w ∷ ws) = taskWith (stepsAfter old w) (fieldsIn w) ∷ allTasks (stepsAfter old w) ws
 
 -- Internal: as words
-unfoldable pub allWords : List Fields → List ℕ
+unfoldable pub allWords : List Form → List ℕ
 allWords [] = []
-allWords (f ∷ fs) = taskWords (bankOf f) ++ allWords fs
+allWords (w ∷ ws) = formWords w ++ allWords ws
 
-unfoldable pub allBytes : List Fields → List ℕ
+unfoldable pub allBytes : List Form → List ℕ
 allBytes [] = []
-allBytes (f ∷ fs) = taskBytes f ++ allBytes fs
+allBytes (w ∷ ws) = taskBytes w ++ allBytes ws
 
 -- the encoder takes the fields of each of them
-abbrev pub AllAllowed : List Fields → Type 0
+abbrev pub AllAllowed : List Form → Type 0
 AllAllowed [] = Unit
-AllAllowed (f ∷ fs) = (allowed f ≡ true) × AllAllowed fs
+AllAllowed (w ∷ ws) = (formAllowed w ≡ true) × AllAllowed ws
 
 -- addresses and a colour are 32-bit numbers, as those that the encoder is handed are
 pub record Fits32Bits (f : Fields) : Type 0 where
@@ -105,22 +116,33 @@ pub record Fits32Bits (f : Fields) : Type 0 where
   pub output : f .output .address < 2 ^ 32
   pub colour : f .colour < 2 ^ 32
 
-abbrev pub AllFit32Bits : List Fields → Type 0
+abbrev pub AllFit32Bits : List Form → Type 0
 AllFit32Bits [] = Unit
-AllFit32Bits (f ∷ fs) = Fits32Bits f × AllFit32Bits fs
+AllFit32Bits (w ∷ ws) = Fits32Bits (fieldsIn w) × AllFit32Bits ws
 
 -- 25 to 28 do not come of any of them
-abbrev pub AllPassTaskCheck : Bounds → List Fields → Type 0
-AllPassTaskCheck bounds [] = Unit
-AllPassTaskCheck bounds (f ∷ fs) = (checkTask bounds (taskWith f) ≡ Valid) × AllPassTaskCheck bounds fs
+abbrev pub AllPassTaskCheck : Bounds → Steps → List Form → Type 0
+AllPassTaskCheck bounds old [] = Unit
+AllPassTaskCheck bounds old (w ∷ ws) = (checkTask bounds (taskWith (stepsAfter old w) (fieldsIn w)) ≡ Valid) × AllPassTaskCheck bounds (stepsAfter old w) ws
+
+-- the task-end header, in words from the task's first; one more word follows it
+abbrev pub endHeader : Form → ℕ
+endHeader (firstForm f) = 18
+endHeader (secondForm f steps) = 23
+
+-- the bank after a task: its own registers, and the steps
+abbrev pub bankWith : Bank → Form → Bank
+bankWith bank w = bankOf (stepsAfter (bank .steps) w) (fieldsIn w)
 
 -- what the tasks of these fields are read as from a bank on, the first of them at word k: each in order, 25 to 28 judged of its
--- fields, a fault at the task-end header, which is 18 words after the task's first. Each leaves its own registers in the bank
-unfoldable pub expectedDecoding : Bounds → Bank → ℕ → List Fields → DecodedBatch
+-- fields and steps, a fault at the task-end header
+unfoldable pub expectedDecoding : Bounds → Bank → ℕ → List Form → DecodedBatch
 expectedDecoding bounds bank k [] = stopWith bank finished
-expectedDecoding bounds bank k (f ∷ fs) = afterTaskCheck (checkTask bounds (taskWith f)) (bankOf f) (k + 18) (expectedDecoding bounds (bankOf f) (k + 20) fs)
+expectedDecoding bounds bank k (w ∷ ws) =
+    afterTaskCheck (checkTask bounds (taskWith (stepsAfter (bank .steps) w) (fieldsIn w))) (bankWith bank w) (k + endHeader w)
+    (expectedDecoding bounds (bankWith bank w) (k + (endHeader w + 2)) ws)
 
--- the bank after tasks of these fields: that of the last of them
-unfoldable pub bankAfter : Bank → List Fields → Bank
+-- the bank after tasks of these fields
+unfoldable pub bankAfter : Bank → List Form → Bank
 bankAfter bank [] = bank
-bankAfter bank (f ∷ fs) = bankAfter (bankOf f) fs
+bankAfter bank (w ∷ ws) = bankAfter (bankWith bank w) ws

@@ -1,9 +1,10 @@
 // A task's fields, each a plain number of any value: which of them the registers' rules allow, and the registers that they give.
 ghost use mathlib.Core.Path.{_≡_};
 ghost use mathlib.Core.Bool.{true};
-ghost use Rattle.encoder.specs.Fields.{surfaceAllowed, alphaAllowed, transformAllowed, sourceAllowed, destinationAllowed, blendingAllowed, allowed};
+ghost use Rattle.encoder.specs.Fields.{surfaceAllowed, alphaAllowed, transformAllowed, sourceAllowed, destinationAllowed, blendingAllowed, stepsAllowed, allowed};
 ghost use Rattle.encoder.specs.Registers.{surfaceRegisters, alphaBits, transformBits, sourceControl, destinationControl, blendingWord, bankOf};
 ghost use Rattle.encoder.specs.Solid.{resetBlending, resetFields, solidFields};
+use gradient::Steps;
 use pixel::AlphaMode;
 use pixel::Factor;
 use pixel::Format;
@@ -159,7 +160,7 @@ impl SourceFields {
         surface.is_allowed()
             & alpha.is_allowed()
             & transform.is_allowed()
-            & (self.mode <= 1)
+            & (self.mode < 4)
             & (self.enable < 2)
     }
 
@@ -241,6 +242,16 @@ impl BlendingFields {
     }
 }
 
+// Whether each step fits its 25 bits.
+pub(crate) fn steps_allowed(steps: Steps) -> bool
+    ensures { λ r. ⌜ r ≡ stepsAllowed steps ⌝ }
+{
+    (steps.alpha < 0x2000000)
+        & (steps.red < 0x2000000)
+        & (steps.green < 0x2000000)
+        & (steps.blue < 0x2000000)
+}
+
 impl Fields {
     // The fields of a bank at reset.
     pub fn reset(rule: ResetRule) -> Fields
@@ -304,10 +315,10 @@ impl Fields {
         source.is_allowed() & destination.is_allowed() & output.is_allowed() & blending.is_allowed()
     }
 
-    // The registers with these fields.
-    pub(crate) fn registers(self) -> Bank
+    // The registers with these fields and steps.
+    pub(crate) fn registers(self, steps: Steps) -> Bank
         requires { ⌜ allowed self ≡ true ⌝ }
-        ensures { λ r. ⌜ r ≡ bankOf self ⌝ }
+        ensures { λ r. ⌜ r ≡ bankOf steps self ⌝ }
     {
         let source = self.source;
         let destination = self.destination;
@@ -320,6 +331,7 @@ impl Fields {
             destination: under.registers(destination.control()),
             output: output.registers(output.format * 0x100),
             colour: self.colour,
+            steps,
             blending: blending.word(),
         }
     }

@@ -1,10 +1,12 @@
-// The encoder (the papers' writer): a task's fields in, the 80 bytes of a batch of that one task out.
+// The encoder (the papers' writer): a task's fields in, the bytes of a batch of that one task out. The first form has 80 bytes and no steps, the second 100.
 ghost use mathlib.Core.Path.{_≡_};
 ghost use lib.ListN.{length};
 ghost use Rattle.encoder.specs.Words.{taskWords};
+ghost use Rattle.encoder.specs.Forms.{firstForm};
 ghost use Rattle.encoder.specs.Encoder.{encodeRefusalOf, answerOf, bufferAfter};
 
 pub mod fields;
+pub mod shaded;
 
 pub use fields::AlphaFields;
 pub use fields::BlendingFields;
@@ -13,14 +15,16 @@ pub use fields::Fields;
 pub use fields::SourceFields;
 pub use fields::SurfaceFields;
 pub use fields::TransformFields;
+use gradient::Steps;
 use register::Bank;
+pub use shaded::encode_shaded;
 
 // What is answered: the task is written, or why it is refused.
 pub enum Answer {
     Written,
     // a field that its register's rule forbids
     Forbidden,
-    // a buffer of under 80 bytes
+    // a buffer of under 80 bytes, or 100 for the second form
     ShortBuffer,
 }
 
@@ -37,7 +41,7 @@ impl Answer {
     }
 }
 
-// The words of a batch that writes every register of a bank: six groups, the last of which ends the task.
+// The words of a batch that writes every register of a bank but the steps: six groups, the last of which ends the task.
 fn words_of(bank: Bank) -> [u32; 20]
     ensures { λ r. ⌜ r ≡ taskWords bank ⌝ }
 {
@@ -71,8 +75,8 @@ fn words_of(bank: Bank) -> [u32; 20]
 // Writes the batch of the one task with these fields to the first 80 bytes of a buffer, or refuses and writes nothing.
 pub fn encode(fields: Fields, buffer: &mut [u8]) -> Answer
     ensures { λ r. ⌜
-        (r ≡ answerOf fields (length (now (buffer .entry))))
-        × (now (buffer .exit) ≡ bufferAfter fields (now (buffer .entry)))
+        (r ≡ answerOf (firstForm fields) (length (now (buffer .entry))))
+        × (now (buffer .exit) ≡ bufferAfter (firstForm fields) (now (buffer .entry)))
         ⌝ }
 {
     let size = buffer.len();
@@ -83,7 +87,7 @@ pub fn encode(fields: Fields, buffer: &mut [u8]) -> Answer
     if size < 80 {
         return Answer::ShortBuffer;
     }
-    let words = words_of(fields.registers());
+    let words = words_of(fields.registers(Steps::RESET));
     word::write_le_words(buffer, 0, &words);
     Answer::Written
 }

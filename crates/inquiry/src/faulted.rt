@@ -6,9 +6,10 @@ ghost use lib.ListN.{getD};
 ghost use Rattle.ring.specs.Segment.{batchWords};
 ghost use Rattle.replay.specs.Lines.{fileReset};
 ghost use Rattle.batch.specs.Batch.{decodeBatch};
-ghost use Rattle.provenance.specs.Faulted.{groupAfter, registerAt, heldSurface, heldIn, detailOf, explained};
+ghost use Rattle.provenance.specs.Faulted.{groupAfter, registerAt, heldSurface, heldSteps, heldIn, detailOf, explained};
 use batch::Verdict;
 use batch::judge;
+use gradient::Steps;
 use provenance::Detail;
 use provenance::Explanation;
 use provenance::Group;
@@ -86,6 +87,16 @@ fn held_surface(s: SurfaceRegisters, base: u32, offset: u32, otherwise: u32) -> 
     held_at(offset == base, s.control, size)
 }
 
+// What the register at an offset holds, if it is one of the steps.
+fn held_steps(s: Steps, offset: u32, otherwise: u32) -> u32
+    ensures { λ r. ⌜ r ≡ heldSteps s offset otherwise ⌝ }
+{
+    let blue = held_at(offset == 0x03C, s.blue, otherwise);
+    let green = held_at(offset == 0x038, s.green, blue);
+    let red = held_at(offset == 0x034, s.red, green);
+    held_at(offset == 0x030, s.alpha, red)
+}
+
 // What the register at an offset holds, 0 where none stands.
 fn held_in(bank: Bank, offset: u32) -> u32
     ensures { λ r. ⌜ r ≡ heldIn bank offset ⌝ }
@@ -94,7 +105,8 @@ fn held_in(bank: Bank, offset: u32) -> u32
     let destination = bank.destination;
     let output = bank.output;
     let blending = held_at(offset == 0x090, bank.blending, 0);
-    let colour = held_at(offset == 0x01C, bank.colour, blending);
+    let steps = held_steps(bank.steps, offset, blending);
+    let colour = held_at(offset == 0x01C, bank.colour, steps);
     let outputs = held_surface(output, 0x100, offset, colour);
     let destinations = held_surface(destination, 0x050, offset, outputs);
     held_surface(source, 0x010, offset, destinations)

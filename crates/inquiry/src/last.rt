@@ -37,6 +37,8 @@ fn mode_number(mode: SourceMode) -> u32
     match mode {
         SourceMode::Buffer => 0,
         SourceMode::Colour => 1,
+        SourceMode::GradientX => 2,
+        SourceMode::GradientY => 3,
     }
 }
 

@@ -44,6 +44,7 @@ in-all window n t d =
         begins = omega arith;
         ends = omega (arith, c .ends, d .room);
         size = c .size;
+        upright = c .upright;
         source = c .source;
         destination = c .destination;
       };

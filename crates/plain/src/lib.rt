@@ -2,11 +2,15 @@
 // is drawn of a task changes nothing that a later pixel of it reads, so that it may be drawn in place.
 ghost use mathlib.Core.Path.{_≡_};
 ghost use lib.ListN.{length};
+ghost use Rattle.transform.specs.Transform.{InPicture, rotatedSize};
 ghost use Rattle.surface.specs.Surface.{pixelStart};
 ghost use Rattle.surface.specs.Drawn.{storePixel};
+ghost use Rattle.register.specs.Size.{sizeOf};
+ghost use Rattle.rows.specs.Row.{sourcePixelOf};
 ghost use Rattle.raster.specs.Task.{sourceColour, destinationColour, pixelColour, drawTask};
 ghost use Rattle.raster.specs.Row.{drawRow};
 ghost use Rattle.plain.specs.Pixel.{SourcePixel, DestinationPixel, Pixel, Row, Whole};
+use gradient::colour_at;
 use pixel::Colour;
 use register::Destination;
 use register::Source;
@@ -14,8 +18,29 @@ use register::SourceMode;
 use register::Task;
 use rows::mix;
 use rows::origin;
+use rows::source_point;
+use surface::Surface;
 use surface::load;
 use surface::store;
+use transform::Transform;
+
+// The column of the source's own picture that output pixel (x, y) comes from.
+fn column_of(s: Surface, transform: Transform, x: usize, y: usize) -> u16
+    requires { ⌜ InPicture (rotatedSize (transform .rotation) (sizeOf s)) (record { x = x; y = y }) ⌝ }
+    ensures { λ r. ⌜ r ≡ sourcePixelOf s transform x y .x ⌝ }
+{
+    let p = source_point(s, transform, x, y);
+    p.x as u16
+}
+
+// And the row.
+fn row_of(s: Surface, transform: Transform, x: usize, y: usize) -> u16
+    requires { ⌜ InPicture (rotatedSize (transform .rotation) (sizeOf s)) (record { x = x; y = y }) ⌝ }
+    ensures { λ r. ⌜ r ≡ sourcePixelOf s transform x y .y ⌝ }
+{
+    let p = source_point(s, transform, x, y);
+    p.y as u16
+}
 
 // The source colour of output pixel (x, y), by source mode.
 fn source_colour(memory: &[u8], source: Source, x: usize, y: usize) -> Colour
@@ -30,6 +55,14 @@ fn source_colour(memory: &[u8], source: Source, x: usize, y: usize) -> Colour
             load(memory, origin(surface, source.transform, x, y), format)
         }
         SourceMode::Colour => source.colour,
+        SourceMode::GradientX => {
+            let i = column_of(source.surface, source.transform, x, y);
+            colour_at(source.colour, source.steps, i)
+        }
+        SourceMode::GradientY => {
+            let i = row_of(source.surface, source.transform, x, y);
+            colour_at(source.colour, source.steps, i)
+        }
     }
 }
 

@@ -7,6 +7,7 @@ use lib.ListN.{getD}
 use lib.Dec.{eqb}
 use Rattle.word.specs.Word.{words}
 use Rattle.word.specs.Field.{field}
+use Rattle.gradient.specs.declared.Steps.{Steps}
 use Rattle.register.specs.declared.bank.SurfaceRegisters.{SurfaceRegisters}
 use Rattle.register.specs.declared.bank.Bank.{Bank}
 use Rattle.rules.specs.declared.fault.Fault.{Fault}
@@ -48,6 +49,14 @@ heldSurface base s offset otherwise =
     (cond (eqb offset (base + 0x8)) (s .stride)
     (cond (eqb offset (base + 0x10)) (s .address) otherwise)))
 
+-- what the register at an offset holds, if it is one of the steps
+unfoldable pub heldSteps : Steps → (offset otherwise : ℕ) → ℕ
+heldSteps s offset otherwise =
+    cond (eqb offset 0x030) (s .alpha)
+    (cond (eqb offset 0x034) (s .red)
+    (cond (eqb offset 0x038) (s .green)
+    (cond (eqb offset 0x03C) (s .blue) otherwise)))
+
 -- what the register at an offset holds, 0 where none stands
 unfoldable pub heldIn : Bank → (offset : ℕ) → ℕ
 heldIn bank offset =
@@ -55,7 +64,8 @@ heldIn bank offset =
     (heldSurface 0x050 (bank .destination) offset
     (heldSurface 0x100 (bank .output) offset
     (cond (eqb offset 0x01C) (bank .colour)
-    (cond (eqb offset 0x090) (bank .blending) 0))))
+    (heldSteps (bank .steps) offset
+    (cond (eqb offset 0x090) (bank .blending) 0)))))
 
 -- for 24 alone; the bank is that of all words before this one, those of earlier tasks and of the same group included
 abbrev pub detailOf : Fault → (register : ℕ) → Bank → Detail

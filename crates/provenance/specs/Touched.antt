@@ -7,7 +7,7 @@ use lib.Dec.{leb, ltb}
 use Rattle.surface.specs.declared.Surface.{Surface}
 use Rattle.surface.specs.Surface.{rowLength}
 use Rattle.register.specs.declared.task.SourceMode.{SourceMode}
-use Rattle.register.specs.declared.task.SourceMode.the-variants.{Buffer, Colour}
+use Rattle.register.specs.declared.task.SourceMode.the-variants.{Buffer, Colour, GradientX, GradientY}
 use Rattle.records.specs.Records.{Entry}
 use Rattle.provenance.specs.declared.Touch.{Touch}
 use Rattle.provenance.specs.declared.Touched.{Touched}
@@ -22,10 +22,12 @@ holds s i =
     && ltb ((i - s .address) / s .stride) (s .height)
     && ltb ((i - s .address) % s .stride) (rowLength s)
 
--- 01, "Groups and registers": bits 3:2 of 0x010, 0 buffer, 1 colour
+-- 01, "Groups and registers": bits 3:2 of 0x010, 0 buffer, 1 colour; 02, request 3: 2 along x, 3 along y
 abbrev pub modeNumber : SourceMode → ℕ
 modeNumber Buffer = 0
 modeNumber Colour = 1
+modeNumber GradientX = 2
+modeNumber GradientY = 3
 
 -- what is answered of a task
 abbrev pub touchOf : Drawn → Touch

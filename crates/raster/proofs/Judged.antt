@@ -27,6 +27,7 @@ module _ (bounds : Bounds) (t : Task) (s : Sound bounds t) where
     begins = s .within .0;
     ends = s .within .1;
     size = sym (s .size);
+    upright = s .upright;
     source = λ reads. record { reach = on (t .source .surface) (s .source reads .reach); separate = s .source reads .separate };
     destination = λ blends. record {
       reach = on (t .destination .surface) (s .destination blends .reach);

@@ -9,7 +9,7 @@ use Rattle.transform.specs.declared.Rotation.the-variants.{Rotate0}
 use Rattle.register.specs.Task.{isBuffer}
 use Rattle.register.specs.declared.task.Source.{Source}
 use Rattle.register.specs.declared.task.SourceMode.{SourceMode}
-use Rattle.register.specs.declared.task.SourceMode.the-variants.{Buffer, Colour}
+use Rattle.register.specs.declared.task.SourceMode.the-variants.{Buffer, Colour, GradientX, GradientY}
 use Rattle.register.specs.declared.task.Task.{Task}
 use Rattle.rules.specs.Rules.{sameFormat}
 use Rattle.rules.proofs.Passes.{same-format}
@@ -40,6 +40,8 @@ moved-parts t e =
 colourBy-buffer : (m : SourceMode) (s : Source) (memory : List ℕ) (p : Point) → isBuffer m ≡ true → sourceModeColour m s memory p ≡ colourAt (s .surface) memory p
 colourBy-buffer Buffer s memory p e = refl
 colourBy-buffer Colour s memory p e = absurd (false≢true e)
+colourBy-buffer GradientX s memory p e = absurd (false≢true e)
+colourBy-buffer GradientY s memory p e = absurd (false≢true e)
 
 pub source-buffer : (s : Source) (memory : List ℕ) (x y : ℕ) → isBuffer (s .mode) ≡ true →
     sourceColour s memory x y ≡ colourAt (s .surface) memory (sourcePixelOf (s .surface) (s .transform) x y)

@@ -1,29 +1,35 @@
--- A pixel of a task goes by what it reads: in colour mode nothing of the source, without blending nothing of the destination.
-use mathlib.Core.Path.{_≡_, refl, ap₂}
+-- A pixel of a task goes by what it reads: but in buffer mode nothing of the source, without blending nothing of the destination.
+use mathlib.Core.Path.{_≡_, refl, sym, ap₂}
 use mathlib.Core.Bool.{Bool, true, false, cond}
 use mathlib.Core.List.{List}
-use Prim.Native.Nat.{ℕ, _<_}
+use Prim.Native.Nat.{ℕ, _≤_, _<_}
 use Rattle.range.specs.declared.Range.{Range}
 use Rattle.pixel.specs.declared.colour.Colour.{Colour as Channels}
-use Rattle.transform.specs.Transform.{InPicture, rotatedSize}
+use Rattle.gradient.specs.Gradient.{gradientColour}
+use Rattle.transform.specs.Transform.{InPicture, rotatedSize, mirrored}
+use Rattle.transform.specs.declared.Rotation.the-variants.{Rotate0}
 use Rattle.transform.specs.declared.Point.{Point}
 use Rattle.transform.proofs.Inside.{source-within}
 use Rattle.surface.specs.declared.Surface.{Surface}
 use Rattle.register.specs.Task.{isBuffer}
 use Rattle.register.specs.declared.task.Source.{Source}
 use Rattle.register.specs.declared.task.SourceMode.{SourceMode}
-use Rattle.register.specs.declared.task.SourceMode.the-variants.{Buffer, Colour}
+use Rattle.register.specs.declared.task.SourceMode.the-variants.{Buffer, Colour, GradientX, GradientY}
 use Rattle.register.specs.declared.task.Task.{Task}
 use Rattle.register.specs.Size.{sizeOf}
 use Rattle.rows.specs.Row.{colourAt, sourcePixelOf}
 use Rattle.rows.specs.Mixed.{composite}
+use Rattle.rows.proofs.Straight.{upright-x, upright-y}
 use Rattle.raster.specs.Task.{sourceModeColour, sourceColour, destinationColour, pixelColour}
 use Rattle.raster.specs.Preconditions.{TaskInBounds}
+use Rattle.raster.specs.Row.{isUniform, uniformColour}
 
 colourBy-same : (m : SourceMode) (s : Source) (memory memory′ : List ℕ) (p : Point) →
     (isBuffer m ≡ true → colourAt (s .surface) memory p ≡ colourAt (s .surface) memory′ p) → sourceModeColour m s memory p ≡ sourceModeColour m s memory′ p
 colourBy-same Buffer s memory memory′ p h = h refl
 colourBy-same Colour s memory memory′ p h = refl
+colourBy-same GradientX s memory memory′ p h = refl
+colourBy-same GradientY s memory memory′ p h = refl
 
 cond-same : (b : Bool) (c c′ d d′ : Channels) → (b ≡ true → c ≡ c′) → (b ≡ false → d ≡ d′) → cond b c d ≡ cond b c′ d′
 cond-same true c c′ d d′ h k = h refl
@@ -55,14 +61,40 @@ module _ (t : Task) (memory : List ℕ) (x y : ℕ) where
   unfolding pixelColour
   pixel-plain e = rw e
 
--- in colour mode there is one colour
-colourBy-solid : (m : SourceMode) (s : Source) (memory : List ℕ) (p : Point) → isBuffer m ≡ false → sourceModeColour m s memory p ≡ s .colour
-colourBy-solid Buffer s memory p e = let z : true ≡ false = e in cc
-colourBy-solid Colour s memory p e = refl
+-- ---- a source that is not turned
 
-pub source-solid : (s : Source) (memory : List ℕ) (x y : ℕ) → isBuffer (s .mode) ≡ false → sourceColour s memory x y ≡ s .colour
-unfolding sourceColour
-source-solid s memory x y e = colourBy-solid (s .mode) s memory _ e
+pub uniform-unread : (m : SourceMode) → isUniform m ≡ true → isBuffer m ≡ false
+uniform-unread Buffer e = sym e
+uniform-unread Colour e = refl
+uniform-unread GradientX e = refl
+uniform-unread GradientY e = refl
+
+module _ (s : Source) (upright : s .transform .rotation ≡ Rotate0) where
+  pub upright-across : (width : ℕ) → width ≤ rotatedSize (s .transform .rotation) (sizeOf (s .surface)) .width → width ≤ s .surface .width
+  upright-across width h = rw upright at h
+
+  pub upright-down : (y : ℕ) → y < rotatedSize (s .transform .rotation) (sizeOf (s .surface)) .height → y < s .surface .height
+  upright-down y h = rw upright at h
+
+module _ (s : Source) (memory : List ℕ) (x y : ℕ) where
+  -- shaded along x
+  pub source-across : s .mode ≡ GradientX → s .transform .rotation ≡ Rotate0 →
+      gradientColour (s .colour) (s .steps) (mirrored (s .transform .flip .horizontal) (s .surface .width) x) ≡ sourceColour s memory x y
+  unfolding sourceColour
+  source-across e upright = rw (e, upright-x (s .surface) (s .transform) upright x y)
+
+  -- or with one colour a row
+  pub source-uniform : isUniform (s .mode) ≡ true → (isBuffer (s .mode) ≡ false → s .transform .rotation ≡ Rotate0) →
+      uniformColour (s .mode) s y ≡ sourceColour s memory x y
+  unfolding sourceColour
+  source-uniform e upright = go (s .mode) e upright
+    where
+      go : (m : SourceMode) → isUniform m ≡ true → (isBuffer m ≡ false → s .transform .rotation ≡ Rotate0) →
+          uniformColour m s y ≡ sourceModeColour m s memory (sourcePixelOf (s .surface) (s .transform) x y)
+      go Buffer e u = let z : false ≡ true = e in cc
+      go Colour e u = refl
+      go GradientX e u = let z : false ≡ true = e in cc
+      go GradientY e u = rw (upright-y (s .surface) (s .transform) (u refl) x y)
 
 -- ---- which pixels are read
 

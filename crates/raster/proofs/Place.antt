@@ -15,7 +15,8 @@ use Rattle.surface.proofs.Parts.{length-mid}
 use Rattle.surface.proofs.Outside.{row-in-span}
 use Rattle.register.specs.declared.task.Task.{Task}
 use Rattle.raster.specs.Task.{pixelColour}
-use Rattle.raster.specs.Row.{RowDrawable, SourceRowInBounds, rowDrawn, drawRow}
+use Rattle.raster.specs.Row.{isUniform, RowDrawable, SourceRowInBounds, rowDrawn, drawRow}
+use Rattle.raster.proofs.Pixel.{uniform-unread, upright-down}
 use Rattle.raster.proofs.Lent.{window-lent, row-ext}
 
 module _ {window : Range} {memory : List ℕ} {t : Task} {y : ℕ} (r : RowDrawable window memory t y) where
@@ -41,8 +42,16 @@ module _ {window : Range} {memory : List ℕ} {t : Task} {y : ℕ} (r : RowDrawa
         room = omega (arith, s .output .narrow);
         across = omega (arith, w);
         down = omega (arith, h, r .row);
+        upright = s .upright;
         inside = λ reads. s .source reads .reach;
       }
+
+  -- the source's row, where the output's has one colour
+  pub uniform-down : isUniform (t .source .mode) ≡ true → y < t .source .surface .height
+  uniform-down u =
+      let s = r .drawable .clear in
+      let h = ap (λ (z : Size). z .height) (s .size) in
+      upright-down (t .source) (s .upright (uniform-unread (t .source .mode) u)) y (omega (arith, h, r .row))
 
   -- the destination's row
   pub destination-row : t .blending .on ≡ true →

@@ -1,11 +1,12 @@
 -- Precondition of drawing a task; established by checks 25 to 28 (01, "Faults of a taken batch"; 02, request 7).
 -- That no byte is written which is read elsewhere is stated of rows, not of spans.
 use mathlib.Core.Path.{_≡_}
-use mathlib.Core.Bool.{true}
+use mathlib.Core.Bool.{true, false}
 use mathlib.Core.Logic.{_⊎_}
 use Prim.Native.Nat.{ℕ, _≤_, _<_}
 use Rattle.range.specs.declared.Range.{Range}
 use Rattle.transform.specs.Transform.{rotatedSize}
+use Rattle.transform.specs.declared.Rotation.the-variants.{Rotate0}
 use Rattle.surface.specs.Surface.{rowLength, span, DisjointRows}
 use Rattle.surface.specs.declared.Surface.{Surface}
 use Rattle.register.specs.Task.{isBuffer}
@@ -38,6 +39,7 @@ pub record TaskInBounds (window : Range) (Reach : Surface → Type 0) (t : Task)
   pub begins : window .start ≤ t .output .address
   pub ends : span (t .output) .end ≤ window .end
   pub size : rotatedSize (t .source .transform .rotation) (sizeOf (t .source .surface)) ≡ sizeOf (t .output)
+  pub upright : isBuffer (t .source .mode) ≡ false → t .source .transform .rotation ≡ Rotate0
   pub source : isBuffer (t .source .mode) ≡ true → SourceInBounds Reach (t .source .surface) (t .output)
   pub destination : t .blending .on ≡ true → DestinationInBounds Reach (t .destination .surface) (t .output)
 

@@ -8,13 +8,17 @@ use Rattle.range.specs.declared.Range.{Range}
 use Rattle.pixel.specs.Formats.{bytesPerPixel, layoutOf}
 use Rattle.pixel.specs.Colours.{packed}
 use Rattle.pixel.specs.declared.colour.Colour.{Colour}
-use Rattle.transform.specs.Transform.{rotatedSize}
+use Rattle.gradient.specs.Gradient.{gradientColour}
+use Rattle.transform.specs.Transform.{rotatedSize, mirrored}
+use Rattle.transform.specs.declared.Rotation.the-variants.{Rotate0}
 use Rattle.surface.specs.Surface.{rowLength, rowStart, span}
 use Rattle.surface.specs.Memory.{mapi, overwriteRange}
 use Rattle.surface.specs.Rows.{rowByte}
 use Rattle.surface.specs.declared.Surface.{Surface}
 use Rattle.register.specs.Task.{isBuffer}
 use Rattle.register.specs.declared.task.Source.{Source}
+use Rattle.register.specs.declared.task.SourceMode.{SourceMode}
+use Rattle.register.specs.declared.task.SourceMode.the-variants.{Buffer, Colour as Solid, GradientX, GradientY}
 use Rattle.register.specs.declared.task.Task.{Task}
 use Rattle.register.specs.Size.{sizeOf}
 use Rattle.rules.specs.Rules.{sameFormat}
@@ -31,11 +35,26 @@ rowDrawn s at p bytes =
 unfoldable pub drawRow : Task → ℕ → List ℕ → List ℕ
 drawRow t y memory = rowDrawn (t .output) (rowStart (t .output) y) (λ (x : ℕ). pixelColour t memory x y) memory
 
+-- all pixels of an output row have one colour
+abbrev pub isUniform : SourceMode → Bool
+isUniform Buffer = false
+isUniform Solid = true
+isUniform GradientX = false
+isUniform GradientY = true
+
+-- that colour, where the source is not turned
+abbrev pub uniformColour : SourceMode → Source → ℕ → Colour
+uniformColour Buffer s y = s .colour
+uniformColour Solid s y = s .colour
+uniformColour GradientX s y = s .colour
+uniformColour GradientY s y = gradientColour (s .colour) (s .steps) (mirrored (s .transform .flip .vertical) (s .surface .height) y)
+
 -- what is asked where a row of the source is fetched
 pub record SourceRowInBounds (memory buffer : List ℕ) (s : Source) (y width : ℕ) : Type 0 where
   pub room : width * 4 ≤ length buffer
   pub across : width ≤ rotatedSize (s .transform .rotation) (sizeOf (s .surface)) .width
   pub down : y < rotatedSize (s .transform .rotation) (sizeOf (s .surface)) .height
+  pub upright : isBuffer (s .mode) ≡ false → s .transform .rotation ≡ Rotate0
   pub inside : isBuffer (s .mode) ≡ true → span (s .surface) .end ≤ length memory
 
 -- what is asked where a row is drawn in a window's bytes from `at` on: it lies there, and the buffer holds a row
@@ -62,7 +81,7 @@ pub record RowBuffered (window : Range) (memory s d : List ℕ) (t : Task) (y : 
 pub record RowFillable (window : Range) (memory : List ℕ) (t : Task) (y : ℕ) : Type 0 where
   pub ask : RowDrawable window memory t y
   pub plain : t .blending .on ≡ false
-  pub solid : isBuffer (t .source .mode) ≡ false
+  pub uniform : isUniform (t .source .mode) ≡ true
 
 -- the output rows of a task without blending are rows of its source, byte by byte: a buffer of the output's format, neither turned nor
 -- flipped from left to right (02, request 13)

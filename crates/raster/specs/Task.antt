@@ -1,22 +1,25 @@
--- Memory after a task, pixel by pixel (01, "Pixels"). Every colour is computed from the memory before the task.
+-- Memory after a task, pixel by pixel (01, "Pixels"; 02, request 3). Every colour is computed from the memory before the task.
 use mathlib.Core.Bool.{cond}
 use mathlib.Core.List.{List, [], _∷_}
 use Prim.Native.Nat.{ℕ}
 use Rattle.pixel.specs.declared.colour.Colour.{Colour as Channels}
+use Rattle.gradient.specs.Gradient.{gradientColour}
 use Rattle.transform.specs.declared.Point.{Point}
 use Rattle.surface.specs.Drawn.{drawSurface}
 use Rattle.register.specs.declared.task.Source.{Source}
 use Rattle.register.specs.declared.task.SourceMode.{SourceMode}
-use Rattle.register.specs.declared.task.SourceMode.the-variants.{Buffer, Colour}
+use Rattle.register.specs.declared.task.SourceMode.the-variants.{Buffer, Colour, GradientX, GradientY}
 use Rattle.register.specs.declared.task.Destination.{Destination}
 use Rattle.register.specs.declared.task.Task.{Task}
 use Rattle.rows.specs.Row.{colourAt, sourcePixelOf}
 use Rattle.rows.specs.Mixed.{composite}
 
--- the colour of the source's pixel p, by source mode
+-- the colour of the source's pixel p, by source mode. Shaded, its place is counted along x or along y in the source's own picture, so before flips
 abbrev pub sourceModeColour : SourceMode → Source → List ℕ → Point → Channels
 sourceModeColour Buffer s memory p = colourAt (s .surface) memory p
 sourceModeColour Colour s memory p = s .colour
+sourceModeColour GradientX s memory p = gradientColour (s .colour) (s .steps) (p .x)
+sourceModeColour GradientY s memory p = gradientColour (s .colour) (s .steps) (p .y)
 
 -- the source colour of output pixel (x, y): that of the source pixel which flips and turn bring there
 unfoldable pub sourceColour : Source → List ℕ → ℕ → ℕ → Channels

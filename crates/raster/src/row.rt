@@ -1,14 +1,15 @@
 // One row of a task.
 ghost use mathlib.Core.Path.{_≡_};
 ghost use mathlib.Core.Bool.{true, false};
-ghost use Prim.Native.Nat.{_+_, _*_, _≤_};
+ghost use Prim.Native.Nat.{_+_, _*_, _≤_, _<_};
 ghost use lib.ListN.{length};
 ghost use Rattle.pixel.specs.Formats.{bytesPerPixel};
 ghost use Rattle.surface.specs.Surface.{rowLength};
 ghost use Rattle.surface.specs.Drawn.{loadPixel};
 ghost use Rattle.rows.specs.Row.{colourIn, HoldsColours};
 ghost use Rattle.raster.specs.Task.{sourceColour};
-ghost use Rattle.raster.specs.Row.{rowDrawn, drawRow, SourceRowInBounds, RowFits, RowBuffered, RowFillable, isMoved, RowMovable};
+ghost use Rattle.raster.specs.Row.{rowDrawn, drawRow, isUniform, uniformColour, SourceRowInBounds, RowFits, RowBuffered, RowFillable, isMoved, RowMovable};
+use gradient::colour_at;
 use pixel::Colour;
 use range::Range;
 use register::Source;
@@ -21,10 +22,44 @@ use rules::same_format;
 use scanline::blend_row;
 use scanline::blit_row;
 use scanline::fetch_along;
+use scanline::fetch_gradient;
 use scanline::fetch_row;
 use scanline::fill_row;
 use scanline::spread;
 use surface::Surface;
+use transform::mirror;
+
+// Whether all pixels of an output row have one colour.
+fn is_uniform(mode: SourceMode) -> bool
+    ensures { λ r. ⌜ r ≡ isUniform mode ⌝ }
+{
+    match mode {
+        SourceMode::Buffer => false,
+        SourceMode::Colour => true,
+        SourceMode::GradientX => false,
+        SourceMode::GradientY => true,
+    }
+}
+
+// The colour of output row y, where it has one and the source is not turned.
+fn uniform_colour(source: Source, y: usize) -> Colour
+    requires { ⌜ y < source .surface .height ⌝ }
+    ensures { λ r. ⌜ r ≡ uniformColour (source .mode) source y ⌝ }
+{
+    let mode = source.mode;
+    let colour = source.colour;
+    match mode {
+        SourceMode::Buffer => colour,
+        SourceMode::Colour => colour,
+        SourceMode::GradientX => colour,
+        SourceMode::GradientY => {
+            let transform = source.transform;
+            let surface = source.surface;
+            let i = mirror(transform.flip.vertical, surface.height as usize, y);
+            colour_at(colour, source.steps, i as u16)
+        }
+    }
+}
 
 // Fetches the source colours of output row y, by source mode.
 fn fetch_source(buffer: &mut [u8], width: usize, memory: &[u8], source: Source, y: usize)
@@ -38,7 +73,17 @@ fn fetch_source(buffer: &mut [u8], width: usize, memory: &[u8], source: Source, 
             return;
         }
         SourceMode::Colour => {
-            spread(buffer, width, source.colour);
+            spread(buffer, width, uniform_colour(source, y));
+            return;
+        }
+        SourceMode::GradientX => {
+            let across = source.transform.flip.horizontal;
+            let n = source.surface.width;
+            fetch_gradient(buffer, width, source.colour, source.steps, across, n);
+            return;
+        }
+        SourceMode::GradientY => {
+            spread(buffer, width, uniform_colour(source, y));
             return;
         }
     }
@@ -144,7 +189,7 @@ fn moved_row(memory: &mut [u8], window: Range, task: Task, y: u16, source: &mut 
     store_at(&mut memory[start..end], at, output, source);
 }
 
-// Draws row y of a task that is all of one colour.
+// Draws row y of a task, where the row has one colour.
 fn filled_row(memory: &mut [u8], window: Range, task: Task, y: u16)
     requires { ⌜ RowFillable window (now memory) task y ⌝ }
     ensures { λ _. ⌜ now (memory .exit) ≡ drawRow task y (now (memory .entry)) ⌝ }
@@ -154,7 +199,8 @@ fn filled_row(memory: &mut [u8], window: Range, task: Task, y: u16)
     let output = task.output;
     let s = task.source;
     let at = output.row_start(y) - start;
-    fill_at(&mut memory[start..end], at, output, s.colour);
+    let c = uniform_colour(s, y as usize);
+    fill_at(&mut memory[start..end], at, output, c);
 }
 
 // Draws row y of a task.
@@ -179,9 +225,9 @@ pub fn draw_row(
     }
     let s = task.source;
     let mode = s.mode;
-    if mode.is_buffer() {
-        copied_row(memory, window, task, y, source);
+    if is_uniform(mode) {
+        filled_row(memory, window, task, y);
         return;
     }
-    filled_row(memory, window, task, y);
+    copied_row(memory, window, task, y, source);
 }

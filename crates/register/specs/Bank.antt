@@ -2,6 +2,7 @@
 use Prim.Native.Nat.{ℕ, _+_}
 use mathlib.Core.Bool.{cond}
 use lib.Dec.{eqb}
+use Rattle.gradient.specs.declared.Steps.{Steps}
 use Rattle.reset.specs.declared.ResetRule.{ResetRule}
 use Rattle.reset.specs.Reset.{blendingAtReset}
 use Rattle.register.specs.declared.bank.SurfaceRegisters.{SurfaceRegisters}
@@ -14,6 +15,9 @@ use Rattle.register.specs.Table.{registerKindOf, isWritable, acceptsWord
 abbrev pub resetSurface : SurfaceRegisters
 resetSurface = record { control = 0; size = 0; stride = 0; address = 0 }
 
+abbrev pub resetSteps : Steps
+resetSteps = record { alpha = 0; red = 0; green = 0; blue = 0 }
+
 -- reset is 0, but for 0x090, which the engine's reset rule decides (02, request 2)
 abbrev pub resetBank : ResetRule → Bank
 resetBank rule = record {
@@ -21,6 +25,7 @@ resetBank rule = record {
   destination = resetSurface;
   output = resetSurface;
   colour = 0;
+  steps = resetSteps;
   blending = blendingAtReset rule;
 }
 
@@ -37,6 +42,15 @@ surfaceAfterWrite base offset word s = record {
   address = registerAfterWrite (base + 0x10) offset word (s .address);
 }
 
+-- the steps of a gradient (02, request 3): A, R, G, B at 0x030, 0x034, 0x038 and 0x03C
+unfoldable pub stepsAfterWrite : ℕ → ℕ → Steps → Steps
+stepsAfterWrite offset word s = record {
+  alpha = registerAfterWrite 0x030 offset word (s .alpha);
+  red = registerAfterWrite 0x034 offset word (s .red);
+  green = registerAfterWrite 0x038 offset word (s .green);
+  blue = registerAfterWrite 0x03C offset word (s .blue);
+}
+
 -- the bank with a word in the register at an offset, all other registers as they were
 unfoldable pub bankAfterWrite : Bank → ℕ → ℕ → Bank
 bankAfterWrite bank offset word = record {
@@ -44,6 +58,7 @@ bankAfterWrite bank offset word = record {
   destination = surfaceAfterWrite 0x050 offset word (bank .destination);
   output = surfaceAfterWrite 0x100 offset word (bank .output);
   colour = registerAfterWrite 0x01C offset word (bank .colour);
+  steps = stepsAfterWrite offset word (bank .steps);
   blending = registerAfterWrite 0x090 offset word (bank .blending);
 }
 

@@ -1,14 +1,14 @@
--- The table of writable registers (01, "Groups and registers"), row by row: the offsets of a row, and the words that its
+-- The table of writable registers (01, "Groups and registers"; 02, request 3), row by row: the offsets of a row, and the words that its
 -- registers take. Names as in document 002.
 use Prim.Native.Nat.{ℕ}
 use mathlib.Core.Bool.{Bool, true, false, cond, _&&_, _||_}
-use lib.Dec.{eqb, leb}
+use lib.Dec.{eqb}
 use Rattle.word.specs.Field.{field}
 use Rattle.pixel.specs.Formats.{isFormat}
 use Rattle.pixel.specs.Alpha.{isAlphaMode}
 use Rattle.pixel.specs.Blending.{isFactor}
 use Rattle.register.specs.declared.table.Kind.{Kind}
-use Rattle.register.specs.declared.table.Kind.the-variants.{SourceControl, DestinationControl, OutputControl, Size, Stride, Blending, FullWord, NotWritable}
+use Rattle.register.specs.declared.table.Kind.the-variants.{SourceControl, DestinationControl, OutputControl, Size, Stride, Step, Blending, FullWord, NotWritable}
 
 -- the row of the register at an offset
 unfoldable pub registerKindOf : ℕ → Kind
@@ -23,15 +23,13 @@ registerKindOf offset =
     (cond (eqb offset 0x018 || eqb offset 0x058 || eqb offset 0x108) Stride
     -- SRC_SURFACE_FILL_COLOR; SRC_SURFACE_ADDR0, DST_SURFACE_ADDR0, OUTPUT_ADDR0
     (cond (eqb offset 0x01C || eqb offset 0x020 || eqb offset 0x060 || eqb offset 0x110) FullWord
+    -- the steps of A, R, G and B
+    (cond (eqb offset 0x030 || eqb offset 0x034 || eqb offset 0x038 || eqb offset 0x03C) Step
     -- BLENDING_CTRL
     (cond (eqb offset 0x090) Blending
     -- OUTPUT_CTRL
     (cond (eqb offset 0x100) OutputControl
-    NotWritable))))))
-
--- a number is the code of a source mode: 0 buffer, 1 colour
-abbrev pub isSourceMode : ℕ → Bool
-isSourceMode code = leb code 1
+    NotWritable)))))))
 
 -- 31:24 global alpha, 23:22 alpha mode, 14:8 format, 7 and 6 flips, 5:4 quarter turns, 3:2 source mode, 0 enable; the others zero
 abbrev pub sourceControlAccepts : ℕ → Bool
@@ -39,7 +37,6 @@ sourceControlAccepts word =
     isAlphaMode (field 23 22 word)
     && eqb (field 21 15 word) 0
     && isFormat (field 14 8 word)
-    && isSourceMode (field 3 2 word)
     && eqb (field 1 1 word) 0
 
 -- 31:24 global alpha, 23:22 alpha mode, 14:8 format, 0 enable
@@ -62,6 +59,10 @@ sizeAccepts word = eqb (field 31 29 word) 0 && eqb (field 15 13 word) 0
 abbrev pub strideAccepts : ℕ → Bool
 strideAccepts word = eqb (field 31 16 word) 0
 
+-- 24:0 a step; bits 31:25 zero also below zero
+abbrev pub stepAccepts : ℕ → Bool
+stepAccepts word = eqb (field 31 25 word) 0
+
 -- 17 premultiplied (02, request 12), 13:11 source factor, 10:8 destination factor, 0 blend on
 abbrev pub blendingAccepts : ℕ → Bool
 blendingAccepts word =
@@ -78,6 +79,7 @@ acceptsWord DestinationControl word = destinationControlAccepts word
 acceptsWord OutputControl word = outputControlAccepts word
 acceptsWord Size word = sizeAccepts word
 acceptsWord Stride word = strideAccepts word
+acceptsWord Step word = stepAccepts word
 acceptsWord Blending word = blendingAccepts word
 acceptsWord FullWord word = true
 acceptsWord NotWritable word = false
@@ -88,6 +90,7 @@ isWritable DestinationControl = true
 isWritable OutputControl = true
 isWritable Size = true
 isWritable Stride = true
+isWritable Step = true
 isWritable Blending = true
 isWritable FullWord = true
 isWritable NotWritable = false

@@ -1,5 +1,5 @@
--- The task that a bank describes, for any bank (01, "Groups and registers"). A code that fault 24 keeps out of every register
--- counts as the definitions of crate pixel say, and a source mode above 1 as colour.
+-- The task that a bank describes, for any bank (01, "Groups and registers"; 02, request 3). A code that fault 24 keeps out of every register
+-- counts as the definitions of crate pixel say.
 use Prim.Native.Nat.{ℕ}
 use mathlib.Core.Bool.{Bool, true, false, cond}
 use lib.Dec.{eqb}
@@ -18,7 +18,7 @@ use Rattle.register.specs.declared.bank.Bank.{Bank}
 use Rattle.register.specs.declared.task.Alpha.{Alpha}
 use Rattle.register.specs.declared.task.Source.{Source}
 use Rattle.register.specs.declared.task.SourceMode.{SourceMode}
-use Rattle.register.specs.declared.task.SourceMode.the-variants.{Buffer, Colour}
+use Rattle.register.specs.declared.task.SourceMode.the-variants.{Buffer, Colour, GradientX, GradientY}
 use Rattle.register.specs.declared.task.Destination.{Destination}
 use Rattle.register.specs.declared.task.Blending.{Blending}
 use Rattle.register.specs.declared.task.Task.{Task}
@@ -37,13 +37,16 @@ surfaceOf r = record {
 abbrev pub rotationOf : ℕ → Rotation
 rotationOf code = cond (eqb code 0) Rotate0 (cond (eqb code 1) Rotate90 (cond (eqb code 2) Rotate180 Rotate270))
 
+-- 0 buffer, 1 colour, 2 shaded along x, 3 shaded along y
 abbrev pub sourceModeOf : ℕ → SourceMode
-sourceModeOf code = cond (eqb code 0) Buffer Colour
+sourceModeOf code = cond (eqb code 0) Buffer (cond (eqb code 1) Colour (cond (eqb code 2) GradientX GradientY))
 
--- the source is read from memory: in colour mode it has no stride, format or span
+-- the source is read from memory: else, in colour mode and where it is shaded, it has no stride, format or span
 abbrev pub isBuffer : SourceMode → Bool
 isBuffer Buffer = true
 isBuffer Colour = false
+isBuffer GradientX = false
+isBuffer GradientY = false
 
 -- of a source control word: 7 V flip, 6 H flip, 5:4 quarter turns
 unfoldable pub transformOf : ℕ → Transform
@@ -66,6 +69,7 @@ sourceOfBank bank = record {
   surface = surfaceOf (bank .source);
   mode = sourceModeOf (field 3 2 (bank .source .control));
   colour = unpacked (layoutOf Argb8888) (bank .colour);
+  steps = bank .steps;
   transform = transformOf (bank .source .control);
   alpha = alphaOf (bank .source .control);
   enabled = isEnabled (bank .source .control);

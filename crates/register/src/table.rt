@@ -1,6 +1,6 @@
 // The table of writable registers: at which offsets they stand, and which words each of them takes.
 ghost use mathlib.Core.Path.{_≡_};
-ghost use Rattle.register.specs.Table.{registerKindOf, isWritable, sourceControlAccepts, destinationControlAccepts, outputControlAccepts, sizeAccepts, strideAccepts, blendingAccepts, acceptsWord as takesWord};
+ghost use Rattle.register.specs.Table.{registerKindOf, isWritable, sourceControlAccepts, destinationControlAccepts, outputControlAccepts, sizeAccepts, strideAccepts, stepAccepts, blendingAccepts, acceptsWord as takesWord};
 use pixel::AlphaMode;
 use pixel::Factor;
 use pixel::Format;
@@ -13,6 +13,7 @@ pub enum Kind {
     OutputControl,
     Size,
     Stride,
+    Step,
     Blending,
     FullWord,
     NotWritable,
@@ -24,7 +25,6 @@ fn source_control_accepts(word: u32) -> bool
     AlphaMode::is_code(bits(word, 23, 22))
         & (bits(word, 21, 15) == 0)
         & Format::is_code(bits(word, 14, 8))
-        & (bits(word, 3, 2) <= 1)
         & (bits(word, 1, 1) == 0)
 }
 
@@ -55,6 +55,12 @@ fn stride_takes(word: u32) -> bool
     bits(word, 31, 16) == 0
 }
 
+fn step_takes(word: u32) -> bool
+    ensures { λ r. ⌜ r ≡ stepAccepts word ⌝ }
+{
+    bits(word, 31, 25) == 0
+}
+
 fn blending_takes(word: u32) -> bool
     ensures { λ r. ⌜ r ≡ blendingAccepts word ⌝ }
 {
@@ -76,6 +82,10 @@ impl Kind {
             0x018 => Kind::Stride, // SRC_SURFACE_STRIDE
             0x01C => Kind::FullWord, // SRC_SURFACE_FILL_COLOR
             0x020 => Kind::FullWord, // SRC_SURFACE_ADDR0
+            0x030 => Kind::Step, // the step of A
+            0x034 => Kind::Step, // of R
+            0x038 => Kind::Step, // of G
+            0x03C => Kind::Step, // of B
             0x050 => Kind::DestinationControl, // DST_SURFACE_CTRL
             0x054 => Kind::Size, // DST_SURFACE_INPUT_SIZE
             0x058 => Kind::Stride, // DST_SURFACE_STRIDE
@@ -98,6 +108,7 @@ impl Kind {
             Kind::OutputControl => true,
             Kind::Size => true,
             Kind::Stride => true,
+            Kind::Step => true,
             Kind::Blending => true,
             Kind::FullWord => true,
             Kind::NotWritable => false,
@@ -114,6 +125,7 @@ impl Kind {
             Kind::OutputControl => output_takes(word),
             Kind::Size => size_takes(word),
             Kind::Stride => stride_takes(word),
+            Kind::Step => step_takes(word),
             Kind::Blending => blending_takes(word),
             Kind::FullWord => true,
             Kind::NotWritable => false,

@@ -3,6 +3,7 @@ ghost use mathlib.Core.Path.{_≡_};
 ghost use Rattle.register.specs.Task.{surfaceOf, rotationOf, sourceModeOf, isBuffer, transformOf, alphaOf, isEnabled, sourceOfBank, destinationOf, blendingOf, taskOf};
 use crate::bank::Bank;
 use crate::bank::SurfaceRegisters;
+use gradient::Steps;
 use pixel::AlphaMode;
 use pixel::Colour;
 use pixel::Factor;
@@ -14,10 +15,12 @@ use transform::Rotation;
 use transform::Transform;
 use word::bits;
 
-// Where the source's pixels come from: a rectangle in memory, or one colour.
+// Where the source's pixels come from: a rectangle in memory, one colour, or a colour that changes along x or along y.
 pub enum SourceMode {
     Buffer,
     Colour,
+    GradientX,
+    GradientY,
 }
 
 // An alpha mode, with the surface's global alpha.
@@ -30,6 +33,7 @@ pub struct Source {
     pub surface: Surface,
     pub mode: SourceMode,
     pub colour: Colour,
+    pub steps: Steps,
     pub transform: Transform,
     pub alpha: Alpha,
     pub enabled: bool,
@@ -73,7 +77,9 @@ impl SourceMode {
     {
         match code {
             0 => SourceMode::Buffer,
-            _ => SourceMode::Colour,
+            1 => SourceMode::Colour,
+            2 => SourceMode::GradientX,
+            _ => SourceMode::GradientY,
         }
     }
 
@@ -84,6 +90,8 @@ impl SourceMode {
         match self {
             SourceMode::Buffer => true,
             SourceMode::Colour => false,
+            SourceMode::GradientX => false,
+            SourceMode::GradientY => false,
         }
     }
 }
@@ -134,10 +142,12 @@ impl Bank {
         ensures { λ r. ⌜ r ≡ sourceOfBank self ⌝ }
     {
         let registers = self.source;
+        let steps = self.steps;
         Source {
             surface: registers.surface(),
             mode: SourceMode::from_code(bits(registers.control, 3, 2)),
             colour: Format::Argb8888.unpack(self.colour),
+            steps,
             transform: registers.transform(),
             alpha: registers.alpha(),
             enabled: registers.is_enabled(),

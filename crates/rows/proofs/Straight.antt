@@ -5,16 +5,32 @@ use Prim.Native.Nat.{ℕ, _+_, _*_, _≤_, _<_}
 use native.Mathlib.Nat.{mul-le-mul-right}
 use native.Mathlib.Omega.{arith}
 use Rattle.pixel.specs.Formats.{bytesPerPixel}
-use Rattle.transform.specs.Transform.{sourcePixel, mirrored}
+use Rattle.transform.specs.Transform.{InPicture, rotatedSize, sourcePixel, mirrored}
 use Rattle.transform.specs.declared.Rotation.{Rotation}
 use Rattle.transform.specs.declared.Rotation.the-variants.{Rotate0, Rotate90, Rotate180, Rotate270}
 use Rattle.transform.specs.declared.Transform.{Transform}
-use Rattle.transform.proofs.Inside.{mirrored-below}
+use Rattle.transform.proofs.Inside.{mirrored-below, source-within}
 use Rattle.surface.specs.Surface.{pixelStart, span}
 use Rattle.surface.specs.declared.Surface.{Surface}
 use Rattle.surface.proofs.Outside.{row-in-span}
+use Rattle.register.specs.Size.{sizeOf}
 use Rattle.rows.specs.Row.{sourcePixelOf}
 use Rattle.rows.specs.Step.{isStraight}
+
+-- the source pixel of an output pixel is one of the surface's
+pub point-within : (s : Surface) (t : Transform) (x y : ℕ) → InPicture (rotatedSize (t .rotation) (sizeOf s)) (record { x = x; y = y }) → InPicture (sizeOf s) (sourcePixelOf s t x y)
+unfolding sourcePixelOf
+point-within s t x y h = source-within t (sizeOf s) (record { x = x; y = y }) h
+
+-- not turned: flips alone place a pixel
+module _ (s : Surface) (t : Transform) (upright : t .rotation ≡ Rotate0) (x y : ℕ) where
+  pub upright-x : sourcePixelOf s t x y .x ≡ mirrored (t .flip .horizontal) (s .width) x
+  unfolding sourcePixelOf sourcePixel
+  upright-x = rw upright
+
+  pub upright-y : sourcePixelOf s t x y .y ≡ mirrored (t .flip .vertical) (s .height) y
+  unfolding sourcePixelOf sourcePixel
+  upright-y = rw upright
 
 -- not turned, and not flipped from left to right
 module _ (s : Surface) (t : Transform) (upright : t .rotation ≡ Rotate0) (kept : t .flip .horizontal ≡ false) where

@@ -7,4 +7,5 @@ pub use source::is_back;
 pub use source::is_straight;
 pub use source::origin;
 pub use source::place;
+pub use source::source_point;
 pub use source::step_of;

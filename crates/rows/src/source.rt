@@ -13,16 +13,24 @@ use transform::Rotation;
 use transform::Size;
 use transform::Transform;
 
-// Where the pixel of a surface lies that is output pixel (x, y).
-pub fn origin(s: Surface, transform: Transform, x: usize, y: usize) -> usize
+// The pixel of a surface that is output pixel (x, y).
+pub fn source_point(s: Surface, transform: Transform, x: usize, y: usize) -> Point
     requires { ⌜ InPicture (rotatedSize (transform .rotation) (sizeOf s)) (record { x = x; y = y }) ⌝ }
-    ensures { λ r. ⌜ r ≡ pixelStart s (sourcePixelOf s transform x y .x) (sourcePixelOf s transform x y .y) ⌝ }
+    ensures { λ r. ⌜ r ≡ sourcePixelOf s transform x y ⌝ }
 {
     let size = Size {
         width: s.width as usize,
         height: s.height as usize,
     };
-    let p = transform.source_of(size, Point { x, y });
+    transform.source_of(size, Point { x, y })
+}
+
+// Where the pixel of a surface lies that is output pixel (x, y).
+pub fn origin(s: Surface, transform: Transform, x: usize, y: usize) -> usize
+    requires { ⌜ InPicture (rotatedSize (transform .rotation) (sizeOf s)) (record { x = x; y = y }) ⌝ }
+    ensures { λ r. ⌜ r ≡ pixelStart s (sourcePixelOf s transform x y .x) (sourcePixelOf s transform x y .y) ⌝ }
+{
+    let p = source_point(s, transform, x, y);
     s.pixel_start(p.x as u16, p.y as u16)
 }
 

@@ -1,5 +1,5 @@
--- The rules of a task, faults 25 to 28 (01, "Faults of a taken batch"; 02, request 7). In colour mode the source has no stride, format or
--- span; without blending the destination is not judged. All sums are of numbers that do not wrap.
+-- The rules of a task, faults 25 to 28 (01, "Faults of a taken batch"; 02, requests 3 and 7). In colour mode, and where it is shaded, the source has
+-- no stride, format or span; without blending the destination is not judged. All sums are of numbers that do not wrap.
 use Prim.Native.Nat.{ℕ, _%_}
 use mathlib.Core.Bool.{Bool, true, false, cond, not, _&&_, _||_}
 use lib.Dec.{eqb, ltb}
@@ -64,7 +64,7 @@ isUnrotated Rotate90 = false
 isUnrotated Rotate180 = false
 isUnrotated Rotate270 = false
 
--- a turn in colour mode
+-- a turn in colour mode, or where the source is shaded
 abbrev pub rotatedFill : Source → Bool
 rotatedFill s = not (isBufferSource s) && not (isUnrotated (s .transform .rotation))
 

@@ -78,7 +78,7 @@ fn is_unrotated(rotation: Rotation) -> bool
     }
 }
 
-// A colour has no direction, so nothing can be turned.
+// Only a picture in memory is turned.
 fn rotated_fill(s: Source) -> bool
     ensures { λ r. ⌜ r ≡ rotatedFill s ⌝ }
 {

@@ -3,6 +3,7 @@
 mod argb;
 pub mod fetch;
 pub mod paint;
+mod shaded;
 mod steps;
 
 pub use fetch::fetch_along;
@@ -11,3 +12,4 @@ pub use fetch::spread;
 pub use paint::blend_row;
 pub use paint::blit_row;
 pub use paint::fill_row;
+pub use shaded::fetch_gradient;

@@ -7,6 +7,7 @@ use lib.ListN.{length}
 use lib.Ieee.{Float}
 use Rattle.score.specs.Coverage.{isScore}
 use Rattle.encoder.specs.declared.fields.SurfaceFields.{SurfaceFields}
+use Rattle.encoder.specs.Forms.{firstForm}
 use Rattle.encoder.specs.Encoder as encoder
 use Rattle.tint.specs.declared.Tint.{Tint}
 use Rattle.tint.specs.declared.Answer.the-variants.{BadScore, Encoded}
@@ -17,7 +18,7 @@ module _ (score : Float) (tint : Tint) (output : SurfaceFields) (buffer : List �
   unfolding answerOf bufferAfter
   bad-score e = (rw e refl, rw e refl)
 
-  pub scored : isScore score ≡ true → (Encoded (encoder.answerOf (fieldsOf score tint output) (length buffer)) ≡ answerOf score tint output (length buffer))
-      × (encoder.bufferAfter (fieldsOf score tint output) buffer ≡ bufferAfter score tint output buffer)
+  pub scored : isScore score ≡ true → (Encoded (encoder.answerOf (firstForm (fieldsOf score tint output)) (length buffer)) ≡ answerOf score tint output (length buffer))
+      × (encoder.bufferAfter (firstForm (fieldsOf score tint output)) buffer ≡ bufferAfter score tint output buffer)
   unfolding answerOf bufferAfter
   scored e = (rw e refl, rw e refl)

@@ -16,6 +16,7 @@ use Rattle.pixel.proofs.Stored.{Bytes}
 use Rattle.pixel.proofs.Channels.{narrowed-byte}
 use Rattle.pixel.proofs.Kept.{word-colour}
 use Rattle.pixel.proofs.Products.{scaled-byte}
+use Rattle.gradient.specs.declared.Steps.{Steps}
 use Rattle.register.specs.declared.bank.Bank.{Bank}
 use Rattle.rules.specs.declared.task.Bounds.{Bounds}
 use Rattle.batch.specs.Batch.{decodeBatch}
@@ -23,6 +24,7 @@ use Rattle.batch.specs.Marks.{taskEndCount}
 use Rattle.encoder.specs.declared.Answer.{Answer}
 use Rattle.encoder.specs.declared.Answer.the-variants.{Written, Forbidden, ShortBuffer}
 use Rattle.encoder.specs.declared.fields.SurfaceFields.{SurfaceFields}
+use Rattle.encoder.specs.Forms.{firstForm}
 use Rattle.encoder.specs.Encoder as encoder
 use Rattle.encoder.specs.RoundTrip.{surfaceWith, alphaWith, transformWith, sourceWith, destinationWith, blendingWith, taskWith, Fits32Bits, allBytes}
 use Rattle.encoder.proofs.ReadsBack.{reads-back}
@@ -62,23 +64,23 @@ module _ (score : Float) (tint : Tint) (output : SurfaceFields) (h : Handed tint
   unfolding tintFields
   plain = record { source = lit< tt; destination = h .address; output = h .address; colour = fits }
 
-  same : taskWith (fieldsOf score tint output) ≡ tintTask tint (coverageOf score) output
+  same : (steps : Steps) → taskWith steps (fieldsOf score tint output) ≡ tintTask steps tint (coverageOf score) output
   unfolding taskWith sourceWith destinationWith surfaceWith alphaWith transformWith blendingWith tintFields
-  same = rw (word-colour colour bytes) refl
+  same steps = rw (word-colour colour bytes) refl
 
   -- a tint that is written is the encoder's task, and is so in the buffer
-  written : (size : ℕ) → answerOf score tint output size ≡ Encoded Written → (isScore score ≡ true) × (encoder.answerOf (fieldsOf score tint output) size ≡ Written)
+  written : (size : ℕ) → answerOf score tint output size ≡ Encoded Written → (isScore score ≡ true) × (encoder.answerOf (firstForm (fieldsOf score tint output)) size ≡ Written)
   unfolding answerOf
-  written size e = go (isScore score) (encoder.answerOf (fieldsOf score tint output) size) refl refl e
+  written size e = go (isScore score) (encoder.answerOf (firstForm (fieldsOf score tint output)) size) refl refl e
     where
-      go : (b : Bool) (a : Answer) → isScore score ≡ b → encoder.answerOf (fieldsOf score tint output) size ≡ a → cond b (Encoded a) BadScore ≡ Encoded Written
-          → (isScore score ≡ true) × (encoder.answerOf (fieldsOf score tint output) size ≡ Written)
+      go : (b : Bool) (a : Answer) → isScore score ≡ b → encoder.answerOf (firstForm (fieldsOf score tint output)) size ≡ a → cond b (Encoded a) BadScore ≡ Encoded Written
+          → (isScore score ≡ true) × (encoder.answerOf (firstForm (fieldsOf score tint output)) size ≡ Written)
       go true Written p q r = (p, q)
       go true Forbidden p q r = absurd (let z : _≡_ {A = ℕ} 0 1 = cc in omega arith)
       go true ShortBuffer p q r = absurd (let z : _≡_ {A = ℕ} 0 1 = cc in omega arith)
       go false a p q r = absurd (let z : _≡_ {A = ℕ} 0 1 = cc in omega arith)
 
-  after : (buffer : List ℕ) → isScore score ≡ true → bufferAfter score tint output buffer ≡ encoder.bufferAfter (fieldsOf score tint output) buffer
+  after : (buffer : List ℕ) → isScore score ≡ true → bufferAfter score tint output buffer ≡ encoder.bufferAfter (firstForm (fieldsOf score tint output)) buffer
   after buffer e = sym (scored score tint output buffer e .1)
 
   pub tint-reads-back : (bounds : Bounds) (bank : Bank) → ReadsBack bounds bank score tint output
@@ -87,12 +89,12 @@ module _ (score : Float) (tint : Tint) (output : SurfaceFields) (h : Handed tint
     one = λ buffer e.
         let w = written (length buffer) e in
         ap (λ (b : List ℕ). decodeBatch bounds bank (words (take 80 b))) (after buffer (w .0))
-        ∙ reads-back bounds bank .one (fieldsOf score tint output) buffer plain (w .1);
+        ∙ reads-back bounds bank .one (firstForm (fieldsOf score tint output)) buffer plain (w .1);
     marked = λ buffer e.
         let w = written (length buffer) e in
-        let f = fieldsOf score tint output in
+        let f = firstForm (fieldsOf score tint output) in
         ap (λ (b : List ℕ). taskEndCount (words (take 80 b))) (after buffer (w .0))
         ∙ ap (λ (b : List ℕ). taskEndCount (words b)) (front f buffer (w .1) ∙ sym (append-nil (encoder.taskBytes f)))
         ∙ reads-back bounds bank .marked (f ∷ []) (accepted f (length buffer) (w .1) .0, tt) (plain, tt);
-    same = same;
+    same = same (bank .steps);
   }

@@ -10,6 +10,7 @@ use Rattle.encoder.specs.declared.fields.SurfaceFields.{SurfaceFields}
 use Rattle.encoder.specs.Fields.{surfaceAllowed, alphaAllowed, transformAllowed, sourceAllowed, destinationAllowed, blendingAllowed, allowed}
 use Rattle.encoder.specs.Registers.{surfaceRegisters, sourceControl, destinationControl, blendingWord, bankOf}
 use Rattle.encoder.specs.Words.{taskWords}
+use Rattle.encoder.specs.Forms.{firstForm, formWords}
 use Rattle.encoder.specs.Encoder as encoder
 use Rattle.tint.specs.declared.Tint.{Tint}
 use Rattle.tint.specs.Tint.{tintColour, tintFields, fieldsOf, numberOf, answerOf}
@@ -24,7 +25,7 @@ abbrev rectangle : ℕ → ℕ → SurfaceFields
 rectangle width format = record { width = width; height = 1; stride = 8; address = 16384; format = format }
 
 -- score 0.5, so coverage 128, over 2 by 1 pixels at 16384
-pub worked-words : taskWords (bankOf (fieldsOf half orange (rectangle 2 0)))
+pub worked-words : formWords (firstForm (fieldsOf half orange (rectangle 2 0)))
     ≡ 0x00100014 ∷ 0x00000005 ∷ 0x00010002 ∷ 0x00000000 ∷ 0x80804000 ∷ 0x00000000
     ∷ 0x0050000C ∷ 0x00000001 ∷ 0x00010002 ∷ 0x00000008
     ∷ 0x00600004 ∷ 0x00004000

@@ -1,4 +1,5 @@
--- "Reading it back gives exactly these fields" (02, request 1): from any bank on, so whatever 0x090 was reset to, and within any bounds.
+-- "Reading it back gives exactly these fields" (02, request 1): from any bank on, so whatever 0x090 was reset to, and within any bounds. It is of
+-- the first form: the steps (02, request 3) stay what they were, and colour mode has no use for them.
 -- proofs/ReadsBack.antt proves it out of the encoder's own round trip.
 use mathlib.Core.Path.{_≡_}
 use mathlib.Core.Bool.{true, false}
@@ -12,6 +13,7 @@ use Rattle.pixel.specs.declared.blend.AlphaMode.the-variants.{Pixel}
 use Rattle.pixel.specs.declared.blend.RuleName.the-variants.{SrcOver}
 use Rattle.pixel.specs.Rules.{blendModeFactors}
 use Rattle.transform.specs.declared.Rotation.the-variants.{Rotate0}
+use Rattle.gradient.specs.declared.Steps.{Steps}
 use Rattle.register.specs.declared.bank.Bank.{Bank}
 use Rattle.register.specs.declared.task.Alpha.{Alpha}
 use Rattle.register.specs.declared.task.Source.{Source}
@@ -22,6 +24,7 @@ use Rattle.batch.specs.Batch.{decodeBatch}
 use Rattle.batch.specs.Marks.{taskEndCount}
 use Rattle.encoder.specs.declared.Answer.the-variants.{Written}
 use Rattle.encoder.specs.declared.fields.SurfaceFields.{SurfaceFields}
+use Rattle.encoder.specs.Forms.{firstForm}
 use Rattle.encoder.specs.RoundTrip.{surfaceWith, taskWith, expectedDecoding}
 use Rattle.score.specs.Coverage.{coverageOf}
 use Rattle.tint.specs.declared.Tint.{Tint}
@@ -33,20 +36,21 @@ abbrev pub ownAlpha : Alpha
 ownAlpha = record { mode = Pixel; global = 0 }
 
 -- one colour, as large as the output
-abbrev pub tintSource : Tint → ℕ → SurfaceFields → Source
-tintSource tint coverage output = record {
+abbrev pub tintSource : Steps → Tint → ℕ → SurfaceFields → Source
+tintSource steps tint coverage output = record {
   surface = record { address = 0; stride = 0; width = output .width; height = output .height; format = Argb8888 };
   mode = Colour;
   colour = tintColour tint coverage;
+  steps = steps;
   transform = record { flip = record { horizontal = false; vertical = false }; rotation = Rotate0 };
   alpha = ownAlpha;
   enabled = true;
 }
 
 -- laid by SRC_OVER over what the output holds
-abbrev pub tintTask : Tint → ℕ → SurfaceFields → Task
-tintTask tint coverage output = record {
-  source = tintSource tint coverage output;
+abbrev pub tintTask : Steps → Tint → ℕ → SurfaceFields → Task
+tintTask steps tint coverage output = record {
+  source = tintSource steps tint coverage output;
   destination = record { surface = surfaceWith output; alpha = ownAlpha; enabled = true };
   output = surfaceWith output;
   blending = record { on = true; rule = blendModeFactors SrcOver; premultiplied = false };
@@ -62,9 +66,9 @@ pub record Handed (tint : Tint) (output : SurfaceFields) : Type 0 where
 pub record ReadsBack (bounds : Bounds) (bank : Bank) (score : Float) (tint : Tint) (output : SurfaceFields) : Type 0 where
   -- what is left in a buffer that was written is read as the one task with these fields, and 25 to 28 are judged of them
   pub one : (buffer : List ℕ) → answerOf score tint output (length buffer) ≡ Encoded Written →
-      decodeBatch bounds bank (words (take 80 (bufferAfter score tint output buffer))) ≡ expectedDecoding bounds bank 0 (fieldsOf score tint output ∷ [])
+      decodeBatch bounds bank (words (take 80 (bufferAfter score tint output buffer))) ≡ expectedDecoding bounds bank 0 (firstForm (fieldsOf score tint output) ∷ [])
   -- it has one task-end mark
   pub marked : (buffer : List ℕ) → answerOf score tint output (length buffer) ≡ Encoded Written →
       taskEndCount (words (take 80 (bufferAfter score tint output buffer))) ≡ 1
   -- and these fields are those of the tint, no other
-  pub same : taskWith (fieldsOf score tint output) ≡ tintTask tint (coverageOf score) output
+  pub same : taskWith (bank .steps) (fieldsOf score tint output) ≡ tintTask (bank .steps) tint (coverageOf score) output

@@ -12,6 +12,7 @@ use Rattle.pixel.specs.Alpha.{div255}
 use Rattle.encoder.specs.declared.fields.SurfaceFields.{SurfaceFields}
 use Rattle.encoder.specs.declared.fields.Fields.{Fields}
 use Rattle.encoder.specs.Solid.{resetAlpha, solidSource}
+use Rattle.encoder.specs.Forms.{firstForm}
 use Rattle.encoder.specs.Encoder as encoder
 use Rattle.tint.specs.declared.Tint.{Tint}
 use Rattle.tint.specs.declared.Answer.{Answer}
@@ -47,8 +48,8 @@ numberOf (Encoded answer) = encoder.encodeRefusalOf answer
 
 -- for a buffer of this length: 15, "before 24 and 12"
 unfoldable pub answerOf : Float → Tint → SurfaceFields → ℕ → Answer
-answerOf score tint output size = cond (isScore score) (Encoded (encoder.answerOf (fieldsOf score tint output) size)) BadScore
+answerOf score tint output size = cond (isScore score) (Encoded (encoder.answerOf (firstForm (fieldsOf score tint output)) size)) BadScore
 
 -- a refusal changes nothing; else the first 80 bytes, and no others, are written
 unfoldable pub bufferAfter : Float → Tint → SurfaceFields → List ℕ → List ℕ
-bufferAfter score tint output buffer = cond (isScore score) (encoder.bufferAfter (fieldsOf score tint output) buffer) buffer
+bufferAfter score tint output buffer = cond (isScore score) (encoder.bufferAfter (firstForm (fieldsOf score tint output)) buffer) buffer

@@ -53,7 +53,7 @@ impl Size {
 }
 
 // Place i of n, counted from the other end if flipped.
-fn mirror(on: bool, n: usize, i: usize) -> usize
+pub fn mirror(on: bool, n: usize, i: usize) -> usize
     requires { ⌜ i < n ⌝ }
     ensures { λ r. ⌜ r ≡ mirrored on n i ⌝ }
 {

@@ -57,10 +57,11 @@ extern "C" {
  *    8  submit           fewer free bytes in the ring than the batch has
  *    9  run              no batch is ready
  *   15  encode tint      score NaN or outside 0 to 1
- *   24  encode, encode tint
+ *   24  encode, encode shaded, encode tint
  *                        a field that its register's rule forbids
  *   12  encode, encode tint
  *                        buffer under WENDITSAL_TASK_SIZE bytes
+ *   12  encode shaded    buffer under WENDITSAL_SHADED_TASK_SIZE bytes
  */
 #define WENDITSAL_RING_LENGTH 1
 #define WENDITSAL_MEMORY_LENGTH 2
@@ -85,19 +86,25 @@ extern "C" {
  * batch, 0 but 0x090, which is 0x00000B01 or 0x00001300 by the engine's reset rule (below), and stay from task to task inside it. Registers and
  * their allowed bits, all others zero:
  *   0x010 source control         31:24 global alpha, 23:22 alpha mode (0 pixel's, 1 global, 2 (pixel's x global + 127) / 255), 14:8 format,
- *                                7 V flip, 6 H flip, 5:4 quarter turns clockwise, after the flips, 3:2 mode (0 buffer, 1 colour), 0 enable
+ *                                7 V flip, 6 H flip, 5:4 quarter turns clockwise, after the flips, 3:2 mode (0 buffer, 1 colour,
+ *                                2 shaded along x, 3 shaded along y), 0 enable
  *   0x050 destination control    31:24 global alpha, 23:22 alpha mode, 14:8 format, 0 enable
  *   0x100 output control         14:8 format
  *   0x014, 0x054, 0x104 size     28:16 height, 12:0 width, of source, destination, output
  *   0x018, 0x058, 0x108 stride   15:0, in bytes
  *   0x020, 0x060, 0x110 address  all bits, in bytes from memory's start
  *   0x01C colour                 all bits: A, R, G, B from bit 31 down
+ *   0x030, 0x034, 0x038, 0x03C steps of A, R, G, B
+ *                                24:0 signed, in two's complement, the low 16 a fraction
  *   0x090 blending               17 premultiplied, 13:11 source factor, 10:8 destination factor, 0 blend on
  * Formats: 0x00 ARGB8888 (bytes B, G, R, A), 0x08 RGB888 (B, G, R), 0x0E RGB565 (low byte first). Alpha reads as 255 where a format has none.
  * Factors: 0 is 0, 1 is 255, 2 sa, 3 255 - sa, 4 da, 5 255 - da, with sa and da the alphas after the alpha modes.
  * Blending on, each of A, R, G, B becomes the lesser of 255 and (s x fs + d x fd + 127) / 255; off, it is the source's, and alpha modes are
  * not used. Premultiplied and blending on, before the alpha modes each of the source's R, G, B, c, becomes the lesser of 255 and
  * (c x T + 32,768) / 65,536, with T = 16,711,680 / a for the pixel's alpha a, and 0 where a is 0; a stays.
+ *
+ * Shaded, a channel of the source pixel i places along x or along y is the colour's plus i steps, in an exact sum, rounded downward also below
+ * zero, then held to 0..255. Places count from 0 in the source's own picture, before flips. A step of minus 1/65,536 takes 10 to 9 at place 1.
  *
  * ---- Faults
  *
@@ -112,11 +119,11 @@ extern "C" {
  *   24  word       0x00000002  bit or code not allowed
  *   25  task end   0x00000002  source or output (and, blending, destination) has a side outside 1 to 4,096, a stride no multiple of 8 or
  *                              under width x bytes a pixel; source disabled; destination disabled while blending
- *   26  task end   0x00000002  turn in colour mode; output size not the turned source size; blending, destination size not output size
+ *   26  task end   0x00000002  turn where the source is no buffer; output size not the turned source size; blending, destination size not output size
  *   27  task end   0x00000002  span not wholly in the client's window, or, for what is read, wholly in common
  *   28  task end   0x00000002  source and output meet; blending, destination and output meet, unless address, stride and format are equal
  * "Task end" is the header of the group that ends the task. A span runs from the address over stride x (height - 1) + width x bytes a pixel.
- * Two surfaces meet if a byte lies in rows of both; where their strides differ, if their spans share one. In colour mode the source has no
+ * Two surfaces meet if a byte lies in rows of both; where their strides differ, if their spans share one. But in buffer mode the source has no
  * stride, format or span. A faultless batch has status tasks x 65,536 + 1, fault 0 and place 0.
  */
 #define WENDITSAL_ARGB8888 0x00
@@ -224,6 +231,9 @@ uint32_t wenditsal_pending(const uint8_t *engine, size_t engine_size, uint32_t c
 /* A batch of one task has so many bytes. */
 #define WENDITSAL_TASK_SIZE 80
 
+/* And in the second form, with steps, so many. */
+#define WENDITSAL_SHADED_TASK_SIZE 100
+
 /* A surface's fields of the registers (above): a rectangle of pixels in memory. */
 struct wenditsal_surface {
     uint32_t width;
@@ -242,7 +252,7 @@ struct wenditsal_source {
     uint32_t flip_v;
     /* 0 to 3, clockwise */
     uint32_t quarter_turns;
-    /* 0 buffer, 1 colour */
+    /* 0 buffer, 1 colour, 2 shaded along x, 3 shaded along y */
     uint32_t mode;
     uint32_t enable;
 };
@@ -277,6 +287,21 @@ struct wenditsal_fields {
  * Refusals: 24, 12.
  */
 uint32_t wenditsal_encode(struct wenditsal_fields fields, uint8_t *buffer, size_t buffer_size);
+
+/*
+ * The same in the second form, with the steps of A, R, G and B, to the first WENDITSAL_SHADED_TASK_SIZE bytes of buffer. A step is its register's word: over 25
+ * bits, as a negative number of 32 bits is, it is refused (24); take the low 25 bits of a signed number. In modes 0 and 1 steps are kept and
+ * not used. wenditsal_encode writes no steps: the task then has those of the task before it in its batch, and as the first of its batch 0.
+ * Refusals: 24, 12.
+ */
+uint32_t wenditsal_encode_shaded(
+    struct wenditsal_fields fields,
+    uint32_t alpha,
+    uint32_t red,
+    uint32_t green,
+    uint32_t blue,
+    uint8_t *buffer,
+    size_t buffer_size);
 
 /*
  * Writes the batch of one task that tints a rectangle by a score to the first WENDITSAL_TASK_SIZE bytes of buffer; the others stay. The score says how sure a reader is,

@@ -1,6 +1,7 @@
 // What other languages link. The header for C is include/wenditsal.h.
 ghost use mathlib.Core.Path.{_≡_};
 ghost use lib.ListN.{length};
+ghost use Rattle.encoder.specs.Forms.{firstForm, secondForm};
 ghost use Rattle.reset.specs.Reset.{ruleOf};
 ghost use Rattle.orientation.specs.Compose.{compose, inverse};
 ghost use Rattle.orientation.specs.Bits.{settingOf, bitsOf};
@@ -10,6 +11,7 @@ ghost use Rattle.calls.specs.Calls.{SetsUp, Opens, Submits, Pends, Runs};
 ghost use Rattle.tint.specs.Tint.{numberOf as tintNumber, answerOf as tintAnswer, bufferAfter as tintBuffer};
 use encoder::Fields;
 use encoder::SurfaceFields;
+use gradient::Steps;
 use reset::ResetRule;
 use tint::Tint;
 
@@ -113,11 +115,36 @@ pub extern "C" fn wenditsal_pending(engine: &[u8], client: u32, count: &mut u32)
 #[no_mangle]
 pub extern "C" fn wenditsal_encode(fields: Fields, buffer: &mut [u8]) -> u32
     ensures { λ r. ⌜
-        (r ≡ encodeRefusalOf (answerOf fields (length (now (buffer .entry)))))
-        × (now (buffer .exit) ≡ bufferAfter fields (now (buffer .entry)))
+        (r ≡ encodeRefusalOf (answerOf (firstForm fields) (length (now (buffer .entry)))))
+        × (now (buffer .exit) ≡ bufferAfter (firstForm fields) (now (buffer .entry)))
         ⌝ }
 {
     let answer = encoder::encode(fields, buffer);
+    answer.number()
+}
+
+// Writes the 100 bytes of the batch of the one task with these fields and steps to a buffer. The steps of the four channels are register words.
+#[no_mangle]
+pub extern "C" fn wenditsal_encode_shaded(
+    fields: Fields,
+    alpha: u32,
+    red: u32,
+    green: u32,
+    blue: u32,
+    buffer: &mut [u8],
+) -> u32
+    ensures { λ r. ⌜
+        (r ≡ encodeRefusalOf (answerOf (secondForm fields (record { alpha = alpha; red = red; green = green; blue = blue })) (length (now (buffer .entry)))))
+        × (now (buffer .exit) ≡ bufferAfter (secondForm fields (record { alpha = alpha; red = red; green = green; blue = blue })) (now (buffer .entry)))
+        ⌝ }
+{
+    let steps = Steps {
+        alpha,
+        red,
+        green,
+        blue,
+    };
+    let answer = encoder::encode_shaded(fields, steps, buffer);
     answer.number()
 }
 

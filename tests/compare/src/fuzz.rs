@@ -6,6 +6,7 @@ use crate::lists;
 use crate::trials::{Agreed, Trials};
 use independent::calls::{Answer, Buffers, Call};
 use independent::engine::Numbers;
+use independent::made_tasks::steps;
 use independent::play::List;
 use independent::random::Random;
 use independent::registers::UNBLENDED;
@@ -116,6 +117,7 @@ fn fields(trials: &mut Trials, random: &mut Random, _: u64) -> Agreed {
         let length = random.below(160);
         let buffer = random.bytes(length as usize);
         trials.encode(&fields, &buffer)?;
+        trials.encode_shaded(&fields, &steps(random), &buffer)?;
     }
     Ok(())
 }

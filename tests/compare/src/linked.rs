@@ -3,6 +3,7 @@ use crate::lent::Lent;
 use crate::tints::Case;
 use independent::calls::{Answer, Buffers, Call};
 use independent::engine::Numbers;
+use independent::gradient::Steps;
 use independent::made_tasks::Fields;
 use independent::play::{List, Played};
 use independent::writer::field;
@@ -91,6 +92,16 @@ mod library {
 
         pub fn wenditsal_encode(fields: HeaderFields, buffer: *mut u8, size: usize) -> u32;
 
+        pub fn wenditsal_encode_shaded(
+            fields: HeaderFields,
+            alpha: u32,
+            red: u32,
+            green: u32,
+            blue: u32,
+            buffer: *mut u8,
+            size: usize,
+        ) -> u32;
+
         pub fn wenditsal_encode_tint(
             score: f32,
             red: u8,
@@ -129,6 +140,7 @@ mod library {
         wenditsal_run(*mut u8, usize, *const u8, usize, *mut u8, usize, *mut u32) -> u32;
         wenditsal_pending(*const u8, usize, u32, *mut u32) -> u32;
         wenditsal_encode(HeaderFields, *mut u8, usize) -> u32;
+        wenditsal_encode_shaded(HeaderFields, u32, u32, u32, u32, *mut u8, usize) -> u32;
         wenditsal_encode_tint(f32, u8, u8, u8, HeaderSurface, *mut u8, usize) -> u32;
         wenditsal_compose(u32, u32) -> u32;
         wenditsal_inverse(u32) -> u32;
@@ -212,6 +224,15 @@ pub fn encode(fields: &Fields, buffer: &[u8], guards: usize) -> Option<(u32, Vec
     let mut lent = Lent::new(buffer, guards);
     // The fields go by value.
     let number = unsafe { library::wenditsal_encode(HeaderFields::of(fields), lent.pointer(), lent.length) };
+    Some((number, lent.returned()?))
+}
+
+/// The same in the second form, with steps.
+pub fn encode_shaded(fields: &Fields, steps: &Steps, buffer: &[u8], guards: usize) -> Option<(u32, Vec<u8>)> {
+    let mut lent = Lent::new(buffer, guards);
+    let (fields, [alpha, red, green, blue]) = (HeaderFields::of(fields), *steps);
+    // The pointer is followed by the number of bytes that lie there.
+    let number = unsafe { library::wenditsal_encode_shaded(fields, alpha, red, green, blue, lent.pointer(), lent.length) };
     Some((number, lent.returned()?))
 }
 

@@ -1,6 +1,7 @@
 //! Calls made by the engine and by the independent program on the same buffers, counted until the first difference.
 use crate::linked;
 use independent::calls::{self, Answer, Buffers, Call};
+use independent::gradient::Steps;
 use independent::made_tasks::Fields;
 use independent::tally::Tally;
 use independent::writer;
@@ -82,17 +83,36 @@ impl Trials {
     /// Encodes a task by both, and answers its bytes if it is not refused.
     pub fn encode(&mut self, fields: &Fields, buffer: &[u8]) -> Agreed<Option<Vec<u8>>> {
         let told = writer::written(fields, buffer.len());
+        let found = linked::encode(fields, buffer, self.guards);
+        self.encoded("encode", format!("{fields:?}"), told, found, buffer)
+    }
+
+    /// The same in the second form, with steps.
+    pub fn encode_shaded(&mut self, fields: &Fields, steps: &Steps, buffer: &[u8]) -> Agreed<Option<Vec<u8>>> {
+        let told = writer::shaded_written(fields, steps, buffer.len());
+        let found = linked::encode_shaded(fields, steps, buffer, self.guards);
+        self.encoded("encode shaded", format!("{fields:?} {steps:?}"), told, found, buffer)
+    }
+
+    /// What was told and what was found of a task that both encoded in a buffer.
+    fn encoded(
+        &mut self,
+        what: &str,
+        of: String,
+        told: Result<Vec<u8>, u32>,
+        found: Option<(u32, Vec<u8>)>,
+        buffer: &[u8],
+    ) -> Agreed<Option<Vec<u8>>> {
         let number = *told.as_ref().err().unwrap_or(&0);
         let mut after = buffer.to_vec();
         if let Ok(bytes) = &told {
             after[..bytes.len()].copy_from_slice(bytes);
         }
-        let found = linked::encode(fields, buffer, self.guards);
         if found.as_ref() != Some(&(number, after)) {
             let found = found.map_or(OUTSIDE.into(), |(number, _)| format!("{number} found"));
-            return Err(format!("encode {fields:?} in {} bytes: {number} expected, {found}, or other bytes", buffer.len()));
+            return Err(format!("{what} {of} in {} bytes: {number} expected, {found}, or other bytes", buffer.len()));
         }
-        self.counted("encode", number, 0);
+        self.counted(what, number, 0);
         Ok(told.ok())
     }
 
@@ -100,6 +120,12 @@ impl Trials {
     pub fn task(&mut self, buffers: &Buffers, fields: &Fields) -> Agreed<Buffers> {
         let batch = self.encode(fields, &[0; 80])?.ok_or_else(|| format!("{fields:?} are no allowed fields"))?;
         self.batch(buffers, &batch)
+    }
+
+    /// The same with steps.
+    pub fn shaded_task(&mut self, buffers: &Buffers, fields: &Fields, steps: &Steps) -> Agreed<Buffers> {
+        let batch = self.encode_shaded(fields, steps, &[0; 100])?;
+        self.batch(buffers, &batch.ok_or_else(|| format!("{fields:?} {steps:?} are no allowed fields"))?)
     }
 
     /// Prints what came how often.

@@ -126,9 +126,9 @@ fn is_readable(surface: &Surface, bounds: &Bounds) -> bool {
     is_inside(&surface.span(), &bounds.window) || is_inside(&surface.span(), &(0..bounds.common))
 }
 
-/// What a task reads from memory: the source but in colour mode, and the destination while it blends.
+/// What a task reads from memory: a source in a buffer, and the destination while it blends.
 fn read_surfaces(task: &Task) -> [Option<&Surface>; 2] {
-    [(!task.is_colour).then_some(&task.source), task.blend.then_some(&task.destination)]
+    [task.has_buffer().then_some(&task.source), task.blend.then_some(&task.destination)]
 }
 
 fn breaks_25(task: &Task) -> bool {
@@ -142,7 +142,7 @@ fn breaks_25(task: &Task) -> bool {
 }
 
 fn breaks_26(task: &Task) -> bool {
-    task.is_colour && task.setting.turns != 0
+    !task.has_buffer() && task.setting.turns != 0
         || size(&task.output) != turned_size(task.setting.turns, size(&task.source))
         || task.blend && size(&task.destination) != size(&task.output)
 }

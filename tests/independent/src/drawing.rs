@@ -1,6 +1,7 @@
 //! A task drawn (01, "Pixels"): the output's pixels are gone through in order, and all of them are worked out from the memory
 //! before the task.
 use crate::batch::{self, Bounds, Reading};
+use crate::gradient;
 use crate::pixel::{self, Colour};
 use crate::registers::{size, Bank, Task};
 use crate::surface;
@@ -8,11 +9,13 @@ use crate::transform::{source_of, turned_size, Point};
 
 /// The source's colour for an output pixel.
 fn source(task: &Task, memory: &[u8], at: Point) -> Colour {
-    if task.is_colour {
-        return task.colour;
-    }
     let p = source_of(task.setting, size(&task.source), at).expect("an output pixel");
-    loaded(&task.source, memory, p)
+    match task.mode {
+        0 => loaded(&task.source, memory, p),
+        1 => task.colour,
+        2 => gradient::colour(task.colour, task.steps, p.x as u32),
+        _ => gradient::colour(task.colour, task.steps, p.y as u32),
+    }
 }
 
 fn loaded(of: &surface::Surface, memory: &[u8], p: Point) -> Colour {

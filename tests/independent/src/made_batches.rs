@@ -1,20 +1,20 @@
 //! Random batches for a client: of tasks that pass, with one fault made somewhere, of few registers, damaged, or noise.
 use crate::batch::Bounds;
-use crate::made_tasks::{broken, good, Fields};
+use crate::made_tasks::{broken, good, steps, Fields};
 use crate::random::Random;
 use crate::registers::{offsets, Bank, Refusal, UNBLENDED};
 use crate::ring;
 use crate::words::bytes;
-use crate::writer::{registers, written, GROUPS};
+use crate::writer::{registers, shaded_registers, shaded_written, written, SHADED_GROUPS};
 
-/// Words of a whole task, as the writer writes it.
-const WHOLE: usize = 20;
+/// Words of a whole task, as the writer writes it in its longer form.
+const WHOLE: usize = 25;
 
 /// The groups that take one bank to another and end a task. Registers that stay are left out where they can be.
 pub fn difference(before: &Bank, after: &Bank) -> Vec<u32> {
     let mut words = Vec::new();
     let mut last = None;
-    for (first, count) in GROUPS {
+    for (first, count) in SHADED_GROUPS {
         let differ: Vec<u32> = (0..count).map(|k| first + 4 * k).filter(|at| before.word(*at) != after.word(*at)).collect();
         if let (Some(from), Some(to)) = (differ.first(), differ.last()) {
             last = Some(words.len());
@@ -36,10 +36,15 @@ fn joined(random: &mut Random, tasks: &[Fields], room: usize, reset: u32) -> Vec
     let mut bank = Bank::reset(reset);
     let mut words = Vec::new();
     for fields in tasks {
-        let after = registers(fields).unwrap_or_else(|| Bank::reset(reset));
+        // in the first form the steps stay what they are
+        let kept = bank.task().steps;
+        let steps = if random.one_in(2) { kept } else { steps(random) };
+        let after = shaded_registers(fields, &steps).unwrap_or_else(|| Bank::reset(reset));
         let mut task = difference(&bank, &after);
         if words.len() + WHOLE <= room && random.one_in(3) {
-            task = written(fields, 80).map_or(task, |whole| ring::words(&whole, 0, 80));
+            let first = steps == kept && random.one_in(2);
+            let whole = if first { written(fields, 80) } else { shaded_written(fields, &steps, 100) };
+            task = whole.map_or(task, |whole| ring::words(&whole, 0, whole.len() as u64));
         }
         if !words.is_empty() && words.len() + task.len() > room {
             break;
@@ -73,7 +78,8 @@ fn spoil(random: &mut Random, words: &mut Vec<u32>, fault: u32) {
             words[last] &= !1;
         }
         23 => {
-            let offset = random.pick(&[0x00C, 0x024, 0x04C, 0x05C, 0x064, 0x08C, 0x094, 0x10C, 0x114, 0, 0xFFFC, 0x10C]);
+            let offset = random
+                .pick(&[0x00C, 0x024, 0x02C, 0x040, 0x04C, 0x05C, 0x064, 0x08C, 0x094, 0x10C, 0x114, 0, 0xFFFC, 0x10C]);
             let offset = if random.one_in(2) { random.pick(&offsets()) + 4 } else { offset };
             words[at] = words[at] & 0xFFFF | offset << 16;
         }

@@ -1,6 +1,7 @@
 //! Random tasks for a client: such as pass all rules, and such as are meant to break one of 25 to 28. Fields are numbered as
 //! in the writer's list.
 use crate::batch::{judge, Bounds};
+use crate::gradient::{Steps, STEP_BITS};
 use crate::pixel::{format, FORMATS, RULES};
 use crate::random::Random;
 use crate::surface::Run;
@@ -76,13 +77,14 @@ fn on_one_page(random: &mut Random, window: &Run, fields: &mut Fields, base: usi
 fn attempt(random: &mut Random, bounds: &Bounds, longest: Sides) -> Fields {
     let (w, h) = (1 + random.below(longest.0), 1 + random.below(longest.1));
     let is_colour = random.one_in(3);
+    let mode = if is_colour { 1 + random.below(3) } else { 0 };
     let turns = if is_colour { 0 } else { random.below(4) };
     let turned = if turns % 2 == 0 { (w, h) } else { (h, w) };
     let source = if is_colour { [w, h, 0, 0, 0] } else { placed_readable(random, bounds, (w, h)) };
     let output = placed(random, &bounds.window, turned);
     let blends = random.one_in(2);
     let colour = if is_colour { random.word() } else { 0 };
-    let mut fields = reset_with(&[(SOURCE_MODE, is_colour.into()), (8, colour), (SOURCE_ENABLE, 1), (TURNS, turns)]);
+    let mut fields = reset_with(&[(SOURCE_MODE, mode), (8, colour), (SOURCE_ENABLE, 1), (TURNS, turns)]);
     set(&mut fields, SOURCE, source);
     set(&mut fields, OUTPUT, output);
     (fields[10], fields[11]) = (random.below(2), random.below(2));
@@ -128,6 +130,17 @@ fn blending(random: &mut Random, fields: &mut Fields) {
     fields[PREMULTIPLIED] = random.one_in(3).into();
 }
 
+/// Steps: none, such as go from end to end in a few places either way, at the limits, or any.
+pub fn steps(random: &mut Random) -> Steps {
+    let kind = random.below(4);
+    std::array::from_fn(|_| match kind {
+        0 => 0,
+        1 => random.below(0x80_0000).wrapping_sub(0x40_0000) & STEP_BITS,
+        2 => random.pick(&[1, 0x8000, 0x1_0000, 0x0FF_FFFF, 0x100_0000, 0x1FF_0000, 0x1FF_8000, 0x1FF_FFFF]),
+        _ => random.word() & STEP_BITS,
+    })
+}
+
 /// Whether a task of these fields passes 24 to 28.
 fn passes(fields: &Fields, bounds: &Bounds) -> bool {
     registers(fields).is_some_and(|bank| judge(&bank.task(), bounds).is_none())
@@ -171,7 +184,7 @@ fn break_surface(random: &mut Random, fields: &mut Fields) {
 
 fn break_sizes(random: &mut Random, fields: &mut Fields) {
     match random.below(4) {
-        0 => (fields[SOURCE_MODE], fields[TURNS]) = (1, 1 + random.below(3)),
+        0 => (fields[SOURCE_MODE], fields[TURNS]) = (1 + random.below(3), 1 + random.below(3)),
         1 => fields[OUTPUT + HEIGHT] += 1,
         2 => fields[SOURCE + random.below(2) as usize] += 1,
         _ => {

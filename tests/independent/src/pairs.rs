@@ -51,7 +51,7 @@ fn kinds(read: &Surface, output: &Surface) -> Vec<&'static str> {
 
 /// The kinds of a task's pairs, each with the name of what is read.
 pub fn of_task(task: &Task) -> Vec<String> {
-    let pairs = [(!task.is_colour, "source", &task.source), (task.blend, "destination", &task.destination)];
+    let pairs = [(task.has_buffer(), "source", &task.source), (task.blend, "destination", &task.destination)];
     let asked = pairs.into_iter().filter(|(is_read, ..)| *is_read);
     asked
         .flat_map(|(_, name, read)| kinds(read, &task.output).into_iter().map(move |kind| format!("28 of {name}: {kind}")))

@@ -76,7 +76,7 @@ impl Answers {
 
     fn draw(&mut self, ticket: u32, reading: &Reading) {
         for (number, task) in reading.tasks.iter().enumerate() {
-            let writer = Writer { ticket, task: number, mode: u32::from(task.is_colour) };
+            let writer = Writer { ticket, task: number, mode: task.mode };
             bytes_drawn(task).for_each(|at| self.writers[at] = Some(writer));
         }
     }

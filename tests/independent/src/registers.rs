@@ -1,4 +1,5 @@
-//! The registers (01, "Groups and registers"): which words each takes, and the task that their words describe.
+//! The registers (01, "Groups and registers"; 02, request 3): which words each takes, and the task that their words describe.
+use crate::gradient::{Steps, STEP_BITS};
 use crate::pixel::{self, Colour, Format};
 use crate::surface::Surface;
 use crate::transform::{Setting, Size};
@@ -9,7 +10,6 @@ use std::collections::BTreeMap;
 enum Code {
     AlphaMode,
     Format,
-    SourceMode,
     SourceFactor,
     DestinationFactor,
 }
@@ -21,12 +21,13 @@ struct Row {
     codes: &'static [Code],
 }
 
-const TABLE: [Row; 7] = [
-    Row { offsets: &[0x010], bits: 0xFFC0_7FFD, codes: &[Code::AlphaMode, Code::Format, Code::SourceMode] },
+const TABLE: [Row; 8] = [
+    Row { offsets: &[0x010], bits: 0xFFC0_7FFD, codes: &[Code::AlphaMode, Code::Format] },
     Row { offsets: &[0x050], bits: 0xFFC0_7F01, codes: &[Code::AlphaMode, Code::Format] },
     Row { offsets: &[0x014, 0x054, 0x104], bits: 0x1FFF_1FFF, codes: &[] },
     Row { offsets: &[0x018, 0x058, 0x108], bits: 0x0000_FFFF, codes: &[] },
     Row { offsets: &[0x01C, 0x020, 0x060, 0x110], bits: 0xFFFF_FFFF, codes: &[] },
+    Row { offsets: &[0x030, 0x034, 0x038, 0x03C], bits: STEP_BITS, codes: &[] },
     Row { offsets: &[0x090], bits: 0x0002_3F01, codes: &[Code::SourceFactor, Code::DestinationFactor] },
     Row { offsets: &[0x100], bits: 0x0000_7F00, codes: &[Code::Format] },
 ];
@@ -47,7 +48,6 @@ fn is_allowed(code: Code, word: u32) -> bool {
     match code {
         Code::AlphaMode => word >> 22 & 3 <= 2,
         Code::Format => pixel::format(word >> 8 & 0x7F).is_some(),
-        Code::SourceMode => word >> 2 & 3 <= 1,
         Code::SourceFactor => word >> 11 & 7 <= 5,
         Code::DestinationFactor => word >> 8 & 7 <= 5,
     }
@@ -105,8 +105,9 @@ impl Bank {
         let (control, destination, blending) = (self.word(0x010), self.word(0x050), self.word(0x090));
         Task {
             source: self.surface(0x010),
-            is_colour: control >> 2 & 3 != 0,
+            mode: control >> 2 & 3,
             colour: self.word(0x01C).to_be_bytes(),
+            steps: [0x030, 0x034, 0x038, 0x03C].map(|offset| self.word(offset)),
             setting: Setting {
                 turns: (control >> 4 & 3) as u8,
                 horizontal: control >> 6 & 1 == 1,
@@ -133,8 +134,10 @@ fn format_of(control: u32) -> &'static Format {
 #[derive(Clone, Copy)]
 pub struct Task {
     pub source: Surface,
-    pub is_colour: bool,
+    /// 0 buffer, 1 colour, 2 shaded along x, 3 shaded along y.
+    pub mode: u32,
     pub colour: Colour,
+    pub steps: Steps,
     pub setting: Setting,
     pub source_enabled: bool,
     /// Alpha mode and global alpha.
@@ -150,6 +153,13 @@ pub struct Task {
     pub premultiplied: bool,
 }
 
+impl Task {
+    /// Whether its source lies in memory.
+    pub fn has_buffer(&self) -> bool {
+        self.mode == 0
+    }
+}
+
 pub fn size(surface: &Surface) -> Size {
     Size { width: surface.width.into(), height: surface.height.into() }
 }
@@ -162,6 +172,8 @@ mod tests {
     fn words_are_refused() {
         let mut bank = Bank::reset(UNBLENDED);
         assert_eq!(bank.write(0x024, 0), Err(Refusal::Offset));
+        assert_eq!(bank.write(0x040, 0), Err(Refusal::Offset));
+        assert_eq!(bank.write(0x030, 0x0200_0000), Err(Refusal::Word));
         assert_eq!(bank.write(0x014, 0x2000), Err(Refusal::Word));
         assert_eq!(bank.write(0x100, 0x100), Err(Refusal::Word));
         assert_eq!(bank.write(0x090, 0x3000), Err(Refusal::Word));
@@ -175,7 +187,7 @@ mod tests {
     }
 
     #[test]
-    fn fourteen_registers() {
-        assert_eq!(offsets().len(), 14);
+    fn eighteen_registers() {
+        assert_eq!(offsets().len(), 18);
     }
 }

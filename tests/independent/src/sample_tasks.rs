@@ -1,8 +1,9 @@
 //! Tasks by hand, for the samples: rectangles filled and copied, with or without blending.
+use crate::gradient::Steps;
 use crate::made_tasks::{Fields, DESTINATION, OUTPUT, SOURCE};
 use crate::pixel::{self, RULES};
 use crate::replay::record;
-use crate::writer::{reset_with, written};
+use crate::writer::{reset_with, shaded_written, written};
 
 pub const ARGB8888: u32 = 0x00;
 pub const RGB888: u32 = 0x08;
@@ -43,6 +44,13 @@ pub fn fill(output: Place, colour: u32) -> Fields {
     fields
 }
 
+/// A rectangle that is shaded, in source mode 2 or 3.
+pub fn shaded(output: Place, mode: u32, colour: u32) -> Fields {
+    let mut fields = fill(output, colour);
+    fields[7] = mode;
+    fields
+}
+
 /// A copy, after flips and quarter turns. The output's sides must be those of the turned source.
 pub fn copy(source: Place, output: Place, turns: u32, horizontal: u32, vertical: u32) -> Fields {
     let mut fields = reset_with(&[(9, 1), (10, horizontal), (11, vertical), (12, turns)]);
@@ -62,6 +70,11 @@ pub fn blended(mut fields: Fields, rule: &str) -> Fields {
 /// Tasks as one batch, each in its 80 bytes.
 pub fn batch(tasks: &[Fields]) -> Vec<u8> {
     tasks.iter().flat_map(|fields| written(fields, 80).expect("allowed fields")).collect()
+}
+
+/// Tasks with steps as one batch, each in its 100 bytes.
+pub fn shaded_batch(tasks: &[(Fields, Steps)]) -> Vec<u8> {
+    tasks.iter().flat_map(|(fields, steps)| shaded_written(fields, steps, 100).expect("allowed fields")).collect()
 }
 
 /// A replay file of some records.

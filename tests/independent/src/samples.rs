@@ -1,6 +1,6 @@
 //! Small replay files, each of which shows one thing, with the lines that they print and a list of what they show.
 use crate::replay::replayed;
-use crate::{sample_columns, sample_files as files, sample_page, sample_scan, sample_scores};
+use crate::{sample_columns, sample_files as files, sample_margins, sample_page, sample_scan, sample_scores};
 use std::path::Path;
 
 pub struct Sample {
@@ -21,7 +21,7 @@ const fn sample(
 }
 
 /// The samples in the order in which to look at them.
-pub const SAMPLES: [Sample; 20] = [
+pub const SAMPLES: [Sample; 21] = [
     sample("hello", &["16384 8 2 1 ARGB8888"], files::hello, "01's worked words: two pixels of one colour by client 0"),
     sample("outside", &[], files::outside, "the same with address 64: fault 27 at byte 72, and nothing is drawn"),
     sample("blend", &["16384 64 16 8 ARGB8888"], files::blend, "a half-clear colour by SRC_OVER over a fill"),
@@ -84,6 +84,12 @@ pub const SAMPLES: [Sample; 20] = [
         &["16384 256 64 48 ARGB8888"],
         sample_scores::replay,
         "a page whose words carry the reader's scores: the less sure of a word, the stronger its tint; at the foot the scores from 0 to 1",
+    ),
+    sample(
+        "margins",
+        &["16384 256 64 48 ARGB8888"],
+        sample_margins::replay,
+        "a page with shaded margins, along x at its sides and along y at head and foot, one of each two flipped; two fades that are blended",
     ),
     sample(
         "lost_tint",
@@ -151,7 +157,7 @@ mod tests {
     #[test]
     fn faultless() {
         assert_eq!(lines("before_a_fault"), "0 0 00020002 23 164\n0 1 00020100 21 160\n0 2 00010002 27 152\n");
-        for name in ["hello", "wrapped", "blend", "rules", "turn", "formats", "page", "scores", "scan"] {
+        for name in ["hello", "wrapped", "blend", "rules", "turn", "formats", "page", "scores", "scan", "margins"] {
             assert!(lines(name).lines().all(|line| line.contains("0001 0 0")), "{name}: {}", lines(name));
         }
         assert_eq!(lines("left_over_registers"), "0 0 00010001 0 0\n0 1 00020001 0 0\n0 2 00000002 25 0\n");

@@ -6,7 +6,7 @@ use crate::engine::Numbers;
 use crate::pixel::RULES;
 use crate::registers::{allowed_bits, offsets, Bank, SRC_OVER, UNBLENDED};
 use crate::tint::tinted;
-use crate::writer::{reset_with, written};
+use crate::writer::{reset_with, shaded_written, written};
 
 /// With the reset values by the new rule and by the old one.
 pub fn register_line(offset: u32, bits: u32, [new, old]: [u32; 2]) -> String {
@@ -75,12 +75,17 @@ fn refusals() -> Vec<String> {
         refusal_line("run", &of_run),
         refusal_line("pending", &[none(), buffers(4, 0)].map(|on| number(&pending, on))),
         refusal_line("encode", &[8192, 1].map(|width| encode(width, 0))),
+        refusal_line("encode shaded", &[1 << 25, 1].map(|step| encode_shaded(step, 99))),
         refusal_line("encode tint", &[(f32::NAN, 8192), (1.0, 8192), (1.0, 1)].map(|(score, width)| tint(score, width, 0))),
     ]
 }
 
 fn encode(width: u32, room: usize) -> u32 {
     written(&reset_with(&[(0, width)]), room).err().unwrap_or(0)
+}
+
+fn encode_shaded(step: u32, room: usize) -> u32 {
+    shaded_written(&reset_with(&[]), &[0, 0, 0, step], room).err().unwrap_or(0)
 }
 
 fn tint(score: f32, width: u32, room: usize) -> u32 {

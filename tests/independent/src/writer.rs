@@ -1,4 +1,5 @@
-//! The task writer (01, "Writer and replay"): a task's fields as the 80 bytes of one task.
+//! The task writer (01, "Writer and replay"; 02, request 3): a task's fields as the 80 bytes of one task, or with steps as 100.
+use crate::gradient::Steps;
 use crate::registers::{Bank, UNBLENDED};
 
 /// Each field's register, its lowest bit and its width, in the order in which fields are given.
@@ -75,6 +76,10 @@ pub mod field {
 /// The groups of a task: the first register's offset and how many follow. The last one ends the task.
 pub const GROUPS: [(u32, u32); 6] = [(0x010, 5), (0x050, 3), (0x060, 1), (0x090, 1), (0x100, 3), (0x110, 1)];
 
+/// The groups of the second form: that of the steps comes right after the first.
+pub const SHADED_GROUPS: [(u32, u32); 7] =
+    [(0x010, 5), (0x030, 4), (0x050, 3), (0x060, 1), (0x090, 1), (0x100, 3), (0x110, 1)];
+
 /// The worked words of 01: colour 0x80FF0000, 2 by 1, at 16384, stride 8, rest at reset.
 pub const WORKED: [u32; 20] = [
     0x00100014, 0x00000005, 0x00010002, 0x00000000, 0x80FF0000, 0x00000000, 0x0050000C, 0x00000000, 0x00000000, 0x00000000,
@@ -86,6 +91,15 @@ pub fn registers(fields: &[u32; 30]) -> Option<Bank> {
     let mut bank = Bank::reset(UNBLENDED);
     for (offset, words) in gathered(fields)? {
         bank.write(offset, words).ok()?;
+    }
+    Some(bank)
+}
+
+/// The same with steps.
+pub fn shaded_registers(fields: &[u32; 30], steps: &Steps) -> Option<Bank> {
+    let mut bank = registers(fields)?;
+    for (k, step) in steps.iter().enumerate() {
+        bank.write(0x030 + 4 * k as u32, *step).ok()?;
     }
     Some(bank)
 }
@@ -109,13 +123,27 @@ pub fn written(fields: &[u32; 30], room: usize) -> Result<Vec<u8>, u32> {
     if room < 80 {
         return Err(12);
     }
+    Ok(in_groups(&bank, &GROUPS))
+}
+
+/// The 100 bytes of the second form, or the refusal's number.
+pub fn shaded_written(fields: &[u32; 30], steps: &Steps, room: usize) -> Result<Vec<u8>, u32> {
+    let bank = shaded_registers(fields, steps).ok_or(24u32)?;
+    if room < 100 {
+        return Err(12);
+    }
+    Ok(in_groups(&bank, &SHADED_GROUPS))
+}
+
+/// The registers of a bank in groups.
+fn in_groups(bank: &Bank, groups: &[(u32, u32)]) -> Vec<u8> {
     let mut bytes = Vec::new();
-    for (i, (offset, count)) in GROUPS.iter().enumerate() {
-        let end = u32::from(i + 1 == GROUPS.len());
+    for (i, (offset, count)) in groups.iter().enumerate() {
+        let end = u32::from(i + 1 == groups.len());
         bytes.extend((offset << 16 | 4 * count | end).to_le_bytes());
         bytes.extend((0..*count).flat_map(|k| bank.word(offset + 4 * k).to_le_bytes()));
     }
-    Ok(bytes)
+    bytes
 }
 
 /// The fields of a task with everything but the given ones as at reset by the old rule.
@@ -142,5 +170,17 @@ mod tests {
         assert_eq!(written(&reset_with(&[(0, 8192)]), 0), Err(24));
         assert_eq!(written(&reset_with(&[(4, 1)]), 100), Err(24));
         assert!(written(&reset_with(&[(2, 7)]), 100).is_ok());
+    }
+
+    /// The group of the steps stands at bytes 24 to 43, and the rest is as in the first form.
+    #[test]
+    fn second_form() {
+        let fields = reset_with(&[(0, 2), (1, 1), (7, 2), (8, 0x80FF0000), (9, 1), (21, 2), (22, 1), (23, 8), (24, 16384)]);
+        let (first, second) =
+            (written(&fields, 80).unwrap(), shaded_written(&fields, &[1, 2, 3, 0x01FF_FFFF], 100).unwrap());
+        assert_eq!([&second[..24], &second[44..]].concat(), first);
+        assert_eq!(second[24..44], bytes(&[0x0030_0010, 1, 2, 3, 0x01FF_FFFF]));
+        assert_eq!(shaded_written(&fields, &[0; 4], 99), Err(12));
+        assert_eq!(shaded_written(&fields, &[0, 0, 0, 0x0200_0000], 0), Err(24));
     }
 }

@@ -8,6 +8,7 @@ use Rattle.word.specs.Word.{wordsBytes}
 use Rattle.word.specs.Splice.{spliced}
 use Rattle.encoder.specs.Fields.{allowed}
 use Rattle.encoder.specs.Words.{taskWords}
+use Rattle.encoder.specs.Forms.{firstForm}
 use Rattle.encoder.proofs.Written.{forbidden, short, fitting}
 use Rattle.encoder.proofs.encode.Statement.{statement}
 use Rattle.encoder.proofs.encode.Tie as tie
@@ -22,13 +23,13 @@ is-allowed-requires c κs = search needs
 returns : tie.Need-returns
 returns c =
     let s = c .before .before .before in
-    forbidden (s .args .fields) (s .args .buffer .now)
+    forbidden (firstForm (s .args .fields)) (s .args .buffer .now)
     (sym (c .before .is-allowed .ensures) ∙ not-true (c .before .is-allowed .result) (c .if1 .taken))
 
 returns-2 : tie.Need-returns-2
 returns-2 c =
     let s = c .before .before .before .before in
-    short (s .args .fields) (s .args .buffer .now) (yes (c .before)) (c .if2 .taken)
+    short (firstForm (s .args .fields)) (s .args .buffer .now) (yes (c .before)) (c .if2 .taken)
 
 registers-requires : tie.Need-registers-requires
 registers-requires c κs = yes (c .before)
@@ -49,7 +50,7 @@ returns-3 : tie.Need-returns-3
 returns-3 c =
     let e = c .before .before .before .before .before .before .before in
     let s = e .before .before .before .before in
-    let done = fitting (s .args .fields) (s .args .buffer .now) (yes (e .before)) (e .if2 .left) in (
+    let done = fitting (firstForm (s .args .fields)) (s .args .buffer .now) (yes (e .before)) (e .if2 .left) in (
       done .0,
       c .before .before .write-le-words .ensures
           ∙ ap (λ (l : List ℕ). spliced 0 (wordsBytes l) (s .args .buffer .now)) (c .before .before .before .before .before .words-of .ensures ∙ ap taskWords (c .before .before .before .before .before .before .registers .ensures))

@@ -1,5 +1,7 @@
 use mathlib.Core.Path.{sym, ap, _∙_}
+use Prim.Native.Nat.{ℕ}
 use denote.Ref.{now}
+use Rattle.gradient.specs.Gradient.{gradientColour}
 use Rattle.surface.specs.Drawn.{loadPixel}
 use Rattle.register.specs.Task.{isBuffer}
 use Rattle.register.specs.declared.task.SourceMode.{SourceMode}
@@ -40,6 +42,59 @@ returns-2 c =
     let a = c .before .before .before .before .args in
     sym (ap (λ (m : SourceMode). sourceModeColour m (a .source) (now (a .memory)) (sourcePixelOf (a .source .surface) (a .source .transform) (a .x) (a .y))) (c .before .enum-told2 .given .1))
 
+enum-told-3 : tie.Need-enum-told-3
+enum-told-3 c = search needs
+
+column-of-requires : tie.Need-column-of-requires
+column-of-requires c κs = search needs
+
+colour-at-requires : tie.Need-colour-at-requires
+colour-at-requires c κs = search needs
+
+returns-3 : tie.Need-returns-3
+unfolding sourceColour
+returns-3 c =
+    let p = c .before in
+    let t = p .before in
+    let a = t .before .before .before .args in
+    c .colour-at .ensures
+    ∙ (ap (λ (i : ℕ). gradientColour (a .source .colour) (a .source .steps) i) (p .column-of .ensures)
+    ∙ sym (ap (λ (m : SourceMode). sourceModeColour m (a .source) (now (a .memory)) (sourcePixelOf (a .source .surface) (a .source .transform) (a .x) (a .y))) (t .enum-told3 .given .1)))
+
+enum-told-4 : tie.Need-enum-told-4
+enum-told-4 c = search needs
+
+row-of-requires : tie.Need-row-of-requires
+row-of-requires c κs = search needs
+
+colour-at-requires-2 : tie.Need-colour-at-requires-2
+colour-at-requires-2 c κs = search needs
+
+returns-4 : tie.Need-returns-4
+unfolding sourceColour
+returns-4 c =
+    let p = c .before in
+    let t = p .before in
+    let a = t .before .before .before .args in
+    c .colour-at2 .ensures
+    ∙ (ap (λ (i : ℕ). gradientColour (a .source .colour) (a .source .steps) i) (p .row-of .ensures)
+    ∙ sym (ap (λ (m : SourceMode). sourceModeColour m (a .source) (now (a .memory)) (sourcePixelOf (a .source .surface) (a .source .transform) (a .x) (a .y))) (t .enum-told4 .given .1)))
+
 pub source-colour-spec : {M : Type 1} → statement M
 source-colour-spec =
-    tie.close (tie.spec enum-told origin-requires load-requires enum-told-2 returns returns-2)
+    tie.close
+    (tie.spec
+    enum-told
+    origin-requires
+    load-requires
+    enum-told-2
+    enum-told-3
+    column-of-requires
+    colour-at-requires
+    enum-told-4
+    row-of-requires
+    colour-at-requires-2
+    returns
+    returns-2
+    returns-3
+    returns-4)

@@ -4,6 +4,7 @@ use lib.ListN.{length}
 use borrow.Author.Tests.{not-true, not-false}
 use borrow.Author.Needs.{needs}
 use Rattle.encoder.specs.declared.fields.Fields.{Fields}
+use Rattle.encoder.specs.Forms.{firstForm}
 use Rattle.encoder.specs.Encoder as encoder
 use Rattle.tint.specs.declared.Answer.the-variants.{Encoded}
 use Rattle.tint.specs.Tint.{tintFields}
@@ -41,8 +42,8 @@ returns-2 c =
     let fields = c .before .before .before .before .fields-of .ensures ∙ ap (λ (n : ℕ). tintFields (a .tint) n (a .output)) (coverage .coverage-of .ensures) in
     let done = scored (a .score) (a .tint) (a .output) (a .buffer .now) (sym (is-score .ensures) ∙ not-false (is-score .result) (tested .if1 .left)) in
     let encode = c .before .before .encode .ensures in (
-      ap Encoded (encode .0 ∙ ap (λ (f : Fields). encoder.answerOf f (length (a .buffer .now))) fields) ∙ done .0,
-      encode .1 ∙ ap (λ (f : Fields). encoder.bufferAfter f (a .buffer .now)) fields ∙ done .1,
+      ap Encoded (encode .0 ∙ ap (λ (f : Fields). encoder.answerOf (firstForm f) (length (a .buffer .now))) fields) ∙ done .0,
+      encode .1 ∙ ap (λ (f : Fields). encoder.bufferAfter (firstForm f) (a .buffer .now)) fields ∙ done .1,
     )
 
 pub encode-tint-spec : {M : Type 1} → statement M

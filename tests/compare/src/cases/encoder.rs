@@ -1,5 +1,6 @@
-//! The encoder: every field at and around every limit, alone and by twos; every code; buffers of every length.
+//! The encoder, in both forms: every field at and around every limit, alone and by twos; every code; buffers of every length.
 use crate::trials::{Agreed, Trials};
+use independent::gradient::STEP_BITS;
 use independent::made_tasks::Fields;
 use independent::pixel::FORMATS;
 use independent::random::Random;
@@ -13,6 +14,7 @@ pub fn compare(trials: &mut Trials) -> Agreed {
     limits(trials)?;
     codes(trials)?;
     lengths(trials)?;
+    steps(trials)?;
     random(trials)
 }
 
@@ -57,6 +59,28 @@ fn lengths(trials: &mut Trials) -> Agreed {
     Ok(())
 }
 
+/// Each step at the edges of its 25 bits and with each bit, alone and by twos; the second form in buffers of every length: 24 before 12.
+fn steps(trials: &mut Trials) -> Agreed {
+    let fields = reset_with(&[(0, 2), (1, 1), (SOURCE_MODE, 2)]);
+    let mut values = edges(25);
+    values.extend((0..32).map(|bit| 1 << bit));
+    values.extend([0x0FF_FFFF, 0x100_0000, 0x100_0001]);
+    let all: Vec<(usize, u32)> = (0..4).flat_map(|at| values.iter().map(move |value| (at, *value))).collect();
+    for one in &all {
+        for other in &all {
+            let mut steps = [0; 4];
+            (steps[one.0], steps[other.0]) = (one.1, other.1);
+            trials.encode_shaded(&fields, &steps, &[0x55; 104])?;
+        }
+    }
+    for length in 0..=200 {
+        for (change, steps) in [((2, 8), [1, 2, 3, 4]), ((0, 8192), [0; 4]), ((2, 8), [0, 0x200_0000, 0, 0])] {
+            trials.encode_shaded(&reset_with(&[change]), &steps, &vec![0xEE; length])?;
+        }
+    }
+    Ok(())
+}
+
 /// Fields that fit their bits, with codes that are allowed; one in three times one of them is any number.
 pub fn any_fields(random: &mut Random) -> Fields {
     let mut fields = FIELDS.map(|(_, _, width)| (u64::from(random.word()) & ((1u64 << width) - 1)) as u32);
@@ -64,7 +88,7 @@ pub fn any_fields(random: &mut Random) -> Fields {
         fields[surface + FORMAT] = FORMATS[random.below(3) as usize].code;
     }
     for (at, codes) in
-        [(SOURCE_ALPHA_MODE, 3), (SOURCE_MODE, 2), (DESTINATION_ALPHA_MODE, 3), (SOURCE_FACTOR, 6), (DESTINATION_FACTOR, 6)]
+        [(SOURCE_ALPHA_MODE, 3), (SOURCE_MODE, 4), (DESTINATION_ALPHA_MODE, 3), (SOURCE_FACTOR, 6), (DESTINATION_FACTOR, 6)]
     {
         fields[at] = random.below(codes);
     }
@@ -81,6 +105,8 @@ fn random(trials: &mut Trials) -> Agreed {
         let length = if random.one_in(4) { random.below(100) } else { 80 + random.below(60) };
         let buffer = random.bytes(length as usize);
         trials.encode(&fields, &buffer)?;
+        let steps = std::array::from_fn(|_| if random.one_in(20) { random.word() } else { random.word() & STEP_BITS });
+        trials.encode_shaded(&fields, &steps, &[&buffer[..], &[0x77; 20]].concat())?;
     }
     Ok(())
 }

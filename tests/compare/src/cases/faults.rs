@@ -12,7 +12,7 @@ use independent::writer::WORKED;
 const NUMBERS: Numbers = Numbers { ring: 256, memory: 17408, common: 16384 };
 
 /// What is put in the place of any word: headers of registers, of none, of no words and of too many; numbers at edges.
-const OTHERS: [u32; 9] = [0x0100_0004, 0x0030_0004, 0x0000_0004, 0x0110_0000, 0x0110_FFFD, 0, 1, 0x0002_0001, u32::MAX];
+const OTHERS: [u32; 9] = [0x0100_0004, 0x0040_0004, 0x0000_0004, 0x0110_0000, 0x0110_FFFD, 0, 1, 0x0002_0001, u32::MAX];
 
 pub fn compare(trials: &mut Trials) -> Agreed {
     let bench = bench(NUMBERS, 0);

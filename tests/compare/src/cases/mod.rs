@@ -5,6 +5,7 @@ mod blends;
 mod encoder;
 mod examples;
 mod faults;
+mod gradients;
 mod headers;
 mod pixels;
 mod premultiplied;
@@ -27,7 +28,7 @@ use crate::trials::{Agreed, Trials};
 /// A subject's name, and what tries its cases.
 type Subject = (&'static str, fn(&mut Trials) -> Agreed);
 
-const SUBJECTS: [Subject; 17] = [
+const SUBJECTS: [Subject; 18] = [
     ("examples of the scope paper", examples::compare),
     ("registers", registers::compare),
     ("headers and groups", headers::compare),
@@ -40,6 +41,7 @@ const SUBJECTS: [Subject; 17] = [
     ("blends", blends::compare),
     ("premultiplied sources", premultiplied::compare),
     ("transforms", transforms::compare),
+    ("gradients", gradients::compare),
     ("batches of several tasks", batches::compare),
     ("queue", queue::compare),
     ("records", records::compare),

@@ -6,9 +6,13 @@ use Rattle.inquiry.proofs.faulted.held_in.Reads as reads
 use Rattle.inquiry.proofs.faulted.held_in.Lts as lts
 use Rattle.inquiry.proofs.faulted.held_at.Reads as held-at-reads
 use Rattle.inquiry.proofs.faulted.held_surface.Reads as held-surface-reads
+use Rattle.inquiry.proofs.faulted.held_steps.Reads as held-steps-reads
 
 held-at-requires : tie.Need-held-at-requires
 held-at-requires c κs = search needs
+
+held-steps-requires : tie.Need-held-steps-requires
+held-steps-requires c κs = search needs
 
 held-at-requires-2 : tie.Need-held-at-requires-2
 held-at-requires-2 c κs = search needs
@@ -31,6 +35,7 @@ held-in-spec =
     tie.close
     (tie.spec
     held-at-requires
+    held-steps-requires
     held-at-requires-2
     held-surface-requires
     held-surface-requires-2

@@ -36,23 +36,23 @@ same-length-5 c = search needs
 returns-2 : tie.Need-returns-2
 returns-2 c = search needs
 
-is-buffer-requires : tie.Need-is-buffer-requires
-is-buffer-requires c κs = search needs
+is-uniform-requires : tie.Need-is-uniform-requires
+is-uniform-requires c κs = search needs
 
-copied-row-requires : tie.Need-copied-row-requires
-copied-row-requires c κs = search needs
+filled-row-requires : tie.Need-filled-row-requires
+filled-row-requires c κs = search needs
 
 same-length-6 : tie.Need-same-length-6
 same-length-6 c = search needs
 
-same-length-7 : tie.Need-same-length-7
-same-length-7 c = search needs
-
 returns-3 : tie.Need-returns-3
 returns-3 c = search needs
 
-filled-row-requires : tie.Need-filled-row-requires
-filled-row-requires c κs = search needs
+copied-row-requires : tie.Need-copied-row-requires
+copied-row-requires c κs = search needs
+
+same-length-7 : tie.Need-same-length-7
+same-length-7 c = search needs
 
 same-length-8 : tie.Need-same-length-8
 same-length-8 c = search needs
@@ -74,11 +74,11 @@ draw-row-spec =
     same-length-4
     same-length-5
     returns-2
-    is-buffer-requires
-    copied-row-requires
-    same-length-6
-    same-length-7
-    returns-3
+    is-uniform-requires
     filled-row-requires
+    same-length-6
+    returns-3
+    copied-row-requires
+    same-length-7
     same-length-8
     returns-4)

@@ -20,19 +20,15 @@ is-code-requires-2 c κs = search needs
 bits-requires-4 : tie.Need-bits-requires-4
 bits-requires-4 c κs = search needs
 
-bits-requires-5 : tie.Need-bits-requires-5
-bits-requires-5 c κs = search needs
-
 returns : tie.Need-returns
 returns c =
     simp (
-      c .bits5 .ensures,
-      c .before .bits4 .ensures,
-      c .before .before .is-code2 .ensures,
-      c .before .before .before .bits3 .ensures,
-      c .before .before .before .before .bits2 .ensures,
-      c .before .before .before .before .before .is-code .ensures,
-      c .before .before .before .before .before .before .bits .ensures,
+      c .bits4 .ensures,
+      c .before .is-code2 .ensures,
+      c .before .before .bits3 .ensures,
+      c .before .before .before .bits2 .ensures,
+      c .before .before .before .before .is-code .ensures,
+      c .before .before .before .before .before .bits .ensures,
     )
 
 pub source-control-accepts-spec : {M : Type 1} → statement M
@@ -45,5 +41,4 @@ source-control-accepts-spec =
     bits-requires-3
     is-code-requires-2
     bits-requires-4
-    bits-requires-5
     returns)

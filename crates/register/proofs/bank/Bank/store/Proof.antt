@@ -15,12 +15,15 @@ store-requires-3 c κs = search needs
 hold-requires : tie.Need-hold-requires
 hold-requires c κs = search needs
 
+store-steps-requires : tie.Need-store-steps-requires
+store-steps-requires c κs = search needs
+
 hold-requires-2 : tie.Need-hold-requires-2
 hold-requires-2 c κs = search needs
 
 returns : tie.Need-returns
 unfolding bankAfterWrite
-returns c = simp (c .hold2 .ensures, c .before .hold .ensures, c .before .before .store3 .ensures, c .before .before .before .store2 .ensures, c .before .before .before .before .store .ensures)
+returns c = simp (c .hold2 .ensures, c .before .store-steps .ensures, c .before .before .hold .ensures, c .before .before .before .store3 .ensures, c .before .before .before .before .store2 .ensures, c .before .before .before .before .before .store .ensures)
 
 pub store-spec : {M : Type 1} → statement M
 store-spec =
@@ -30,5 +33,6 @@ store-spec =
     store-requires-2
     store-requires-3
     hold-requires
+    store-steps-requires
     hold-requires-2
     returns)

@@ -35,14 +35,20 @@ stride-takes-requires c κs = search needs
 enum-told-6 : tie.Need-enum-told-6
 enum-told-6 c = search needs
 
-blending-takes-requires : tie.Need-blending-takes-requires
-blending-takes-requires c κs = search needs
+step-takes-requires : tie.Need-step-takes-requires
+step-takes-requires c κs = search needs
 
 enum-told-7 : tie.Need-enum-told-7
 enum-told-7 c = search needs
 
+blending-takes-requires : tie.Need-blending-takes-requires
+blending-takes-requires c κs = search needs
+
 enum-told-8 : tie.Need-enum-told-8
 enum-told-8 c = search needs
+
+enum-told-9 : tie.Need-enum-told-9
+enum-told-9 c = search needs
 
 returns : tie.Need-returns
 returns c = rw (c .before .enum-told .given .1) (c .source-control-accepts .ensures)
@@ -60,13 +66,16 @@ returns-5 : tie.Need-returns-5
 returns-5 c = rw (c .before .enum-told5 .given .1) (c .stride-takes .ensures)
 
 returns-6 : tie.Need-returns-6
-returns-6 c = rw (c .before .enum-told6 .given .1) (c .blending-takes .ensures)
+returns-6 c = rw (c .before .enum-told6 .given .1) (c .step-takes .ensures)
 
 returns-7 : tie.Need-returns-7
-returns-7 c = search needs
+returns-7 c = rw (c .before .enum-told7 .given .1) (c .blending-takes .ensures)
 
 returns-8 : tie.Need-returns-8
 returns-8 c = search needs
+
+returns-9 : tie.Need-returns-9
+returns-9 c = search needs
 
 pub takes-spec : {M : Type 1} → statement M
 takes-spec =
@@ -83,9 +92,11 @@ takes-spec =
     enum-told-5
     stride-takes-requires
     enum-told-6
-    blending-takes-requires
+    step-takes-requires
     enum-told-7
+    blending-takes-requires
     enum-told-8
+    enum-told-9
     returns
     returns-2
     returns-3
@@ -93,4 +104,5 @@ takes-spec =
     returns-5
     returns-6
     returns-7
-    returns-8)
+    returns-8
+    returns-9)

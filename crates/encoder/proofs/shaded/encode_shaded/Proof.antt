@@ -1,0 +1,83 @@
+use mathlib.Core.Path.{_≡_, sym, ap, ap₂, _∙_}
+use mathlib.Core.Bool.{true, _&&_}
+use mathlib.Core.List.{List}
+use Prim.Native.Nat.{ℕ}
+use borrow.Author.Tests.{not-true, not-false}
+use borrow.Author.Needs.{needs}
+use Rattle.word.specs.Word.{wordsBytes}
+use Rattle.word.specs.Splice.{spliced}
+use Rattle.encoder.specs.Words.{shadedWords}
+use Rattle.encoder.specs.Forms.{secondForm, formAllowed}
+use Rattle.encoder.proofs.RoundTrip.{fields-allowed}
+use Rattle.encoder.proofs.Written.{forbidden, short, fitting}
+use Rattle.encoder.proofs.shaded.encode_shaded.Statement.{statement}
+use Rattle.encoder.proofs.shaded.encode_shaded.Tie as tie
+
+-- past the first test fields and steps are allowed
+yes : (c : tie.Else1) → formAllowed (secondForm (c .before .before .before .before .args .fields) (c .before .before .before .before .args .steps)) ≡ true
+yes c =
+    let s = c .before .steps-allowed in
+    let f = c .before .before .is-allowed in
+    ap₂ _&&_ (sym (f .ensures)) (sym (s .ensures)) ∙ not-false (f .result && s .result) (c .if1 .left)
+
+is-allowed-requires : tie.Need-is-allowed-requires
+is-allowed-requires c κs = search needs
+
+steps-allowed-requires : tie.Need-steps-allowed-requires
+steps-allowed-requires c κs = search needs
+
+returns : tie.Need-returns
+returns c =
+    let a = c .before .before .before .before .args in
+    let s = c .before .steps-allowed in
+    let f = c .before .before .is-allowed in
+    forbidden (secondForm (a .fields) (a .steps)) (a .buffer .now)
+    (ap₂ _&&_ (sym (f .ensures)) (sym (s .ensures)) ∙ not-true (f .result && s .result) (c .if1 .taken))
+
+returns-2 : tie.Need-returns-2
+returns-2 c =
+    let a = c .before .before .before .before .before .args in
+    short (secondForm (a .fields) (a .steps)) (a .buffer .now) (yes (c .before)) (c .if2 .taken)
+
+registers-requires : tie.Need-registers-requires
+registers-requires c κs =
+    let a = c .before .before .before .before .before .args in
+    fields-allowed (secondForm (a .fields) (a .steps)) (yes (c .before))
+
+shaded-words-of-requires : tie.Need-shaded-words-of-requires
+shaded-words-of-requires c κs = search needs
+
+slice-aggregate-write-le-words : tie.Need-slice-aggregate-write-le-words
+slice-aggregate-write-le-words c = search needs
+
+write-le-words-requires : tie.Need-write-le-words-requires
+write-le-words-requires c κs = search needs
+
+same-length : tie.Need-same-length
+same-length c = search needs
+
+returns-3 : tie.Need-returns-3
+returns-3 c =
+    let e = c .before .before .before .before .before .before .before in
+    let a = e .before .before .before .before .before .args in
+    let done = fitting (secondForm (a .fields) (a .steps)) (a .buffer .now) (yes (e .before)) (e .if2 .left) in (
+      done .0,
+      c .before .before .write-le-words .ensures
+          ∙ ap (λ (l : List ℕ). spliced 0 (wordsBytes l) (a .buffer .now)) (c .before .before .before .before .before .shaded-words-of .ensures ∙ ap shadedWords (c .before .before .before .before .before .before .registers .ensures))
+          ∙ done .1,
+    )
+
+pub encode-shaded-spec : {M : Type 1} → statement M
+encode-shaded-spec =
+    tie.close
+    (tie.spec
+    is-allowed-requires
+    steps-allowed-requires
+    returns
+    returns-2
+    registers-requires
+    shaded-words-of-requires
+    slice-aggregate-write-le-words
+    write-le-words-requires
+    same-length
+    returns-3)

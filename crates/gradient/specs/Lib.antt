@@ -1,0 +1,2 @@
+-- Colours that change by even steps.
+pub mod Gradient
