@@ -345,7 +345,7 @@ impl Task {
     /// A rectangle of a colour that changes along x, from its left side on. [`Task::encode_shaded`] takes the steps.
     ///
     /// ```
-    /// use wenditsal::{Engine, Refusal, Setup, Steps, Surface, Task};
+    /// use wenditsal::{Engine, Refusal, ResetRule, Setup, Steps, Surface, Task};
     ///
     /// let mut engine = Engine::new(Setup { ring: 128, memory: 64, common: 0, reset: ResetRule::SrcOver })?;
     /// let client = engine.open(0, 64)?;
