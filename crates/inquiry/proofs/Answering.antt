@@ -13,7 +13,7 @@ use borrow.Author.Tests.{ltb-true, ltb-false, eqb-false, not-true, lt-ltb, le-lt
 use Rattle.word.specs.Word.{words}
 use Rattle.word.proofs.Tests.{split, and-true, or-false}
 use Rattle.ring.specs.Segment.{segment, liesInRing, batchWords}
-use Rattle.replay.specs.Lines.{fileReset}
+use Rattle.lines.specs.Lines.{fileReset}
 use Rattle.rules.specs.declared.task.Bounds.{Bounds}
 use Rattle.batch.specs.Batch.{decodeBatch, tasksDrawn}
 use Rattle.model.specs.Refusals.{badLength}
@@ -25,8 +25,8 @@ use Rattle.records.specs.declared.Taken.{Taken}
 use Rattle.records.specs.Records.{Entry, File, records}
 use Rattle.records.specs.Reading.{fileAt, entryIn, onto, Ready, Takes}
 use Rattle.records.proofs.Onward.{ends-here}
-use Rattle.replay.specs.Lines.{setup}
-use Rattle.replay.specs.Answered.{recordRefusal, replayWindow, ticketOfCount, countAfter}
+use Rattle.lines.specs.Lines.{setup}
+use Rattle.lines.specs.Answered.{recordRefusal, replayWindow, ticketOfCount, countAfter}
 use Rattle.provenance.specs.declared.Touched.{Touched}
 use Rattle.provenance.specs.declared.Touched.the-variants.{NotDrawn}
 use Rattle.provenance.specs.declared.Why.{Why}

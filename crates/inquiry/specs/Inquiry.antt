@@ -11,7 +11,7 @@ use Rattle.records.specs.Records.{Entry, records}
 use Rattle.records.specs.declared.Found.{Found}
 use Rattle.records.specs.declared.Found.the-variants.{Nothing, Record, BadVersion, BadRecord}
 use Rattle.records.specs.Reading.{fileAt, entryIn, Ready}
-use Rattle.replay.specs.Answered.{recordRefusal, ticketOfCount, countAfter}
+use Rattle.lines.specs.Answered.{recordRefusal, ticketOfCount, countAfter}
 use Rattle.provenance.specs.declared.Touched.the-variants.{NotDrawn}
 use Rattle.provenance.specs.declared.Why.the-variants.{NoFault}
 use Rattle.provenance.specs.Drawn.{readingOf, drawnBy}

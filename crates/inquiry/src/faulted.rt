@@ -4,7 +4,7 @@ ghost use mathlib.Core.Bool.{cond};
 ghost use Prim.Native.Nat.{_+_, _*_, _≤_};
 ghost use lib.ListN.{getD};
 ghost use Rattle.ring.specs.Segment.{batchWords};
-ghost use Rattle.replay.specs.Lines.{fileReset};
+ghost use Rattle.lines.specs.Lines.{fileReset};
 ghost use Rattle.batch.specs.Batch.{decodeBatch};
 ghost use Rattle.provenance.specs.Faulted.{groupAfter, registerAt, heldSurface, heldSteps, heldIn, detailOf, explained};
 use batch::Verdict;

@@ -2,7 +2,7 @@
 ghost use mathlib.Core.Path.{_≡_};
 ghost use mathlib.Core.Bool.{cond};
 ghost use Rattle.ring.specs.Segment.{batchWords};
-ghost use Rattle.replay.specs.Lines.{fileReset};
+ghost use Rattle.lines.specs.Lines.{fileReset};
 ghost use Rattle.batch.specs.Batch.{decodeBatch, tasksDrawn};
 ghost use Rattle.provenance.specs.declared.Touched.the-variants.{By};
 ghost use Rattle.provenance.specs.Drawn.{numbered};

@@ -21,8 +21,8 @@ use Rattle.batch.specs.Batch.{DecodedBatch, BatchEnd, finished, faulty, verdict
 use Rattle.claims.specs.BatchSemantics.{boundsOf, completionStatusOf}
 use Rattle.model.specs.Calls.{CompletionStatus, completed}
 use Rattle.records.specs.Records.{Entry}
-use Rattle.replay.specs.Lines.{fileReset}
-use Rattle.replay.specs.Answered.{recordRefusal, replayWindow, verdict, ticketOfCount, countAfter}
+use Rattle.lines.specs.Lines.{fileReset}
+use Rattle.lines.specs.Answered.{recordRefusal, replayWindow, verdict, ticketOfCount, countAfter}
 use Rattle.provenance.specs.declared.Detail.{Detail}
 use Rattle.provenance.specs.declared.Detail.the-variants.{Nothing, Register}
 use Rattle.provenance.specs.declared.Explanation.{Explanation}

@@ -12,9 +12,9 @@ use Rattle.batch.specs.Batch.{tasksDrawn}
 use Rattle.claims.specs.Engine.{answerOrRefusal}
 use Rattle.model.specs.Calls.{completed}
 use Rattle.records.specs.Records.{Entry}
-use Rattle.replay.specs.Lines.{replayStart, submitAndRun}
-use Rattle.replay.specs.Answered.{recordRefusal, verdict, ticketOfCount, countAfter, acceptedFrom, submitAndRunAll}
-use Rattle.replay.proofs.Answered.{promise as answered}
+use Rattle.lines.specs.Lines.{replayStart, submitAndRun}
+use Rattle.lines.specs.Answered.{recordRefusal, verdict, ticketOfCount, countAfter, acceptedFrom, submitAndRunAll}
+use Rattle.lines.proofs.Answered.{promise as answered}
 use Rattle.provenance.specs.Drawn.{Drawn, numbered, readingOf, drawnBy, drawnFrom}
 use Rattle.provenance.specs.Reason.{Given}
 

@@ -18,10 +18,10 @@ use Rattle.raster.specs.Batch.{drawBatch}
 use Rattle.claims.specs.BatchSemantics.{boundsOf}
 use Rattle.claims.specs.Engine.{State}
 use Rattle.records.specs.Records.{Entry}
-use Rattle.replay.specs.Lines.{fileReset, engineOpened, replayStart, submitAndRun}
-use Rattle.replay.specs.Answered.{recordRefusal, replayWindow, ticketOfCount, countAfter, drawnAfter, acceptedFrom, submitAndRunAll}
-use Rattle.replay.proofs.Answered.{promise as answered}
-use Rattle.replay.proofs.Serving.{starting-state}
+use Rattle.lines.specs.Lines.{fileReset, engineOpened, replayStart, submitAndRun}
+use Rattle.lines.specs.Answered.{recordRefusal, replayWindow, ticketOfCount, countAfter, drawnAfter, acceptedFrom, submitAndRunAll}
+use Rattle.lines.proofs.Answered.{promise as answered}
+use Rattle.lines.proofs.Start.{starting-state}
 use Rattle.provenance.specs.declared.Touched.{Touched}
 use Rattle.provenance.specs.declared.Touched.the-variants.{NotDrawn, By}
 use Rattle.provenance.specs.Drawn.{Drawn, numbered, readingOf, drawnBy, drawnFrom, tasksOf}

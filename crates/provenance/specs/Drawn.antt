@@ -9,8 +9,8 @@ use Rattle.register.specs.declared.task.Task.{Task}
 use Rattle.batch.specs.Batch.{DecodedBatch, decodeBatch, tasksDrawn}
 use Rattle.claims.specs.BatchSemantics.{boundsOf}
 use Rattle.records.specs.Records.{Entry}
-use Rattle.replay.specs.Lines.{fileReset}
-use Rattle.replay.specs.Answered.{recordRefusal, replayWindow, ticketOfCount, countAfter}
+use Rattle.lines.specs.Lines.{fileReset}
+use Rattle.lines.specs.Answered.{recordRefusal, replayWindow, ticketOfCount, countAfter}
 
 -- a task, with the ticket of its batch and its number there
 pub record Drawn : Type 0 where

@@ -15,7 +15,7 @@ use Rattle.rules.specs.declared.fault.Fault.the-variants.{ReservedBits, GroupLe
 use Rattle.rules.specs.Faults.{faultNumber}
 use Rattle.batch.specs.Batch.{DecodedBatch, BatchEnd, finished, faulty}
 use Rattle.records.specs.Records.{Entry}
-use Rattle.replay.specs.Answered.{recordRefusal, ticketOfCount, countAfter}
+use Rattle.lines.specs.Answered.{recordRefusal, ticketOfCount, countAfter}
 use Rattle.provenance.specs.declared.Group.{Group}
 use Rattle.provenance.specs.declared.Detail.{Detail}
 use Rattle.provenance.specs.declared.Detail.the-variants.{Nothing, Register}

@@ -15,8 +15,8 @@ use Rattle.raster.specs.Task.{drawTask, drawTasks}
 use Rattle.raster.specs.WriteFrame.{OutsideAllRows, outputByte}
 use Rattle.records.specs.Records.{Entry}
 use Rattle.model.specs.Calls.{completed}
-use Rattle.replay.specs.Lines.{replayStart, submitAndRun}
-use Rattle.replay.specs.Answered.{verdict, submitAndRunAll}
+use Rattle.lines.specs.Lines.{replayStart, submitAndRun}
+use Rattle.lines.specs.Answered.{verdict, submitAndRunAll}
 use Rattle.provenance.specs.declared.Detail.the-variants.{Register}
 use Rattle.provenance.specs.declared.Explanation.{Explanation}
 use Rattle.provenance.specs.declared.Why.the-variants.{Faulted}

@@ -10,6 +10,7 @@ use lib.Seq.{length-take-le, take-all, drop-length, drop-at, take-append-seam}
 use lib.Dec.{eqb, leb, ltb}
 use borrow.Author.Tests.{lt-ltb, le-ltb, le-leb, leb-true, ltb-true}
 use Rattle.word.specs.Splice.{spliced}
+use Rattle.word.proofs.Splice.{spliced-none}
 use Rattle.word.proofs.Tests.{split, and-true}
 use Rattle.ring.specs.Copied.{copiedIn}
 use Rattle.ring.proofs.Copied.{copied-one}
@@ -19,7 +20,7 @@ use Rattle.records.specs.declared.Reader.{Reader}
 use Rattle.records.specs.declared.Found.the-variants.{Nothing, Record, BadVersion, BadRecord}
 use Rattle.records.specs.declared.Taken.{Taken}
 use Rattle.records.specs.Records.{Entry, FileEnd, File, whole, badVersion, badRecord, cutRecord, fileEnds, consEntry, lengthField, badSize, entryOf, recordsFrom, records}
-use Rattle.records.specs.Reading.{fileFrom, fileIn, fileAt, entryIn, onto, missing, Due, Ready, Over, Takes, Lies, decided, versionTaken}
+use Rattle.records.specs.Reading.{fileFrom, fileIn, fileAt, entryIn, onto, missing, Due, Ready, Over, Takes, Lies, endingAt, decided, versionTaken, nothingTaken, keptIn, recordTaken, takenIn, bufferSuffices, takenBy, heldAfter}
 use Rattle.records.proofs.Bytes.{good-size, size-front, entry-front, decided-short, decided-bad, decided-part, decided-whole, missing-short, missing-bad, missing-rest, there, entry-there}
 
 -- ---- fuel
@@ -172,26 +173,45 @@ kept-there h kept held =
     let rest : List ℕ = drop (h + length kept) held in
     rw (sym (append-assoc (take h held) kept rest)) (take-append-seam (take h held ++ kept) rest)
 
-module _ (have : ℕ) (held input : List ℕ) (taken : ℕ) (held′ : List ℕ) (t : Taken) where
-  pub record-takes : (wanted : ℕ) → wanted ≡ missing (take have held) → have + wanted ≤ 32773 → 32773 ≤ length held → length held′ ≡ length held
-      → taken ≡ min wanted (length input) → held′ ≡ copiedIn held have (take taken input) → t ≡ decided (take (have + taken) held′) taken → t .used ≡ taken
-      → 0 < missing (take have held) → Takes (record { stage = Records; held = have }) held input t held′
-  record-takes wanted want fits room same least is-held is used some =
-      let bytes : List ℕ = take have held in
-      let part : List ℕ = take (missing bytes) input in
-      let part-is : take taken input ≡ part = take-least wanted taken input least ∙ ap (λ (n : ℕ). take n input) want in
-      let size : length part ≡ taken = ap length (sym part-is) ∙ length-take taken input ∙ omega arith in
-      let small : length part ≤ length held - have = omega arith in
-      let after : held′ ≡ spliced have part held = is-held ∙ ap (copiedIn held have) part-is ∙ copied-one held have part small in
-      let count : length (bytes ++ part) ≡ have + taken = length-append bytes part ∙ omega (arith, length-take-le have held (omega arith)) in
-      let all : take (have + taken) held′ ≡ bytes ++ part = rw (after, sym count) (kept-there have part held) in
-      let exact : Exact held′ (have + taken) taken (omega arith) = rw all (exact-by bytes input some (reach bytes)) in
+module _ (have : ℕ) (held input : List ℕ) (taken : ℕ) (held′ : List ℕ) (t : Taken) (wanted : ℕ) (want : wanted ≡ missing (take have held)) (fits : have + wanted ≤ 32773)
+    (room : 32773 ≤ length held) (same : length held′ ≡ length held) (least : taken ≡ min wanted (length input)) (is-held : held′ ≡ copiedIn held have (take taken input))
+    (is : t ≡ decided (take (have + taken) held′) taken) where
+  abbrev so-far : List ℕ
+  so-far = take have held
+
+  abbrev kept : List ℕ
+  kept = keptIn Records so-far input
+
+  kept-is : take taken input ≡ kept
+  kept-is = take-least wanted taken input least ∙ ap (λ (n : ℕ). take n input) want
+
+  size : length kept ≡ taken
+  size = ap length (sym kept-is) ∙ length-take taken input ∙ omega arith
+
+  -- the buffer after it
+  pub record-held : held′ ≡ spliced have kept held
+  record-held =
+      let small : length kept ≤ length held - have = omega (arith, size) in
+      is-held ∙ ap (copiedIn held have) kept-is ∙ copied-one held have kept small
+
+  all : take (have + taken) held′ ≡ so-far ++ kept
+  all =
+      let count : length (so-far ++ kept) ≡ have + taken = length-append so-far kept ∙ omega (arith, size, length-take-le have held (omega arith)) in
+      rw (record-held, sym count) (kept-there have kept held)
+
+  -- what is taken, of any bytes
+  pub record-exact : t ≡ recordTaken so-far input
+  record-exact = is ∙ ap (λ (xs : List ℕ). decided xs taken) all ∙ ap (decided (so-far ++ kept)) (sym size)
+
+  pub record-takes : t .used ≡ taken → 0 < missing so-far → Takes (record { stage = Records; held = have }) held input t held′
+  record-takes used some =
+      let exact : Exact held′ (have + taken) taken (omega arith) = rw all (exact-by so-far input some (reach so-far)) in
       let d = decides-by held′ (have + taken) taken (omega arith) (reach (take (have + taken) held′)) exact in
       rw is (record {
         file = λ rest.
-            ap (λ (n : ℕ). fileFrom (bytes ++ (take n input ++ rest))) (sym (ap (λ (x : Taken). x .used) is) ∙ used)
-            ∙ ap (λ (xs : List ℕ). fileFrom (bytes ++ (xs ++ rest))) part-is
-            ∙ ap fileFrom (sym (append-assoc bytes part rest))
+            ap (λ (n : ℕ). fileFrom (so-far ++ (take n input ++ rest))) (sym (ap (λ (x : Taken). x .used) is) ∙ used)
+            ∙ ap (λ (xs : List ℕ). fileFrom (so-far ++ (xs ++ rest))) kept-is
+            ∙ ap fileFrom (sym (append-assoc so-far kept rest))
             ∙ ap (λ (xs : List ℕ). fileFrom (xs ++ rest)) (sym all)
             ∙ d .file rest;
         over = d .over;
@@ -238,13 +258,6 @@ module _ (r : Reader) (held input : List ℕ) (t : Taken) (ready : Ready r held)
 
 -- ---- the end of the file
 
--- how a file ends where no byte follows
-abbrev pub endingAt : Stage → (have : ℕ) → FileEnd
-endingAt Version have = badVersion
-endingAt Records zero = whole
-endingAt Records (suc have) = cutRecord
-endingAt Ended have = whole
-
 pub file-ends : (r : Reader) (held : List ℕ) → Ready r held → fileAt r held [] ≡ fileEnds (endingAt (r .stage) (length (take (r .held) held)))
 unfolding records recordsFrom
 file-ends r held ready = go (r .stage) (take (r .held) held) (ready .due)
@@ -267,10 +280,10 @@ ends-here r held ready = ap (λ (f : File). f .entries) (file-ends r held ready)
 
 -- ---- the test of the buffer
 
-pub ready-enough : (r : Reader) (held : List ℕ) → Ready r held → leb 32773 (length held) && ltb (r .held) 32773 ≡ true
+pub ready-enough : (r : Reader) (held : List ℕ) → Ready r held → bufferSuffices r held ≡ true
 ready-enough r held ready = rw (le-leb 32773 (length held) (ready .room), lt-ltb (r .held) 32773 (ready .few))
 
-pub enough-both : (r : Reader) (held : List ℕ) → leb 32773 (length held) && ltb (r .held) 32773 ≡ true → (32773 ≤ length held) × (r .held < 32773)
+pub enough-both : (r : Reader) (held : List ℕ) → bufferSuffices r held ≡ true → (32773 ≤ length held) × (r .held < 32773)
 enough-both r held e =
     let both = and-true (leb 32773 (length held)) (ltb (r .held) 32773) e in
     (leb-true 32773 (length held) (both .0), ltb-true (r .held) 32773 (both .1))
@@ -281,3 +294,38 @@ pub inside-takes : (r : Reader) (held input : List ℕ) (t : Taken) (held′ : L
 inside-takes r held input t held′ stage takes ready =
     let due : 0 < missing (take (r .held) held) = rw stage at (ready .due) in
     subst (λ (g : Stage). Takes (record { stage = g; held = r .held }) held input t held′) (sym stage) (takes due)
+
+-- ---- the step by itself
+
+module _ (r : Reader) (held input : List ℕ) (t : Taken) (held′ : List ℕ) where
+  abbrev Exactly : Type 0
+  Exactly = (t ≡ takenBy r held input) × (held′ ≡ heldAfter r held input)
+
+  -- a buffer that does not suffice
+  pub exactly-not : bufferSuffices r held ≡ false → t ≡ nothingTaken r 0 → held′ ≡ held → Exactly
+  unfolding takenBy heldAfter
+  exactly-not e is same = rw e (is, same)
+
+  module _ (e : bufferSuffices r held ≡ true) where
+    pub exactly-in : (g : Stage) → r .stage ≡ g → t ≡ takenIn g r (take (r .held) held) input → held′ ≡ spliced (r .held) (keptIn g (take (r .held) held) input) held → Exactly
+    unfolding takenBy heldAfter
+    exactly-in g stage is buffer = rw e (
+      is ∙ ap (λ (x : Stage). takenIn x r (take (r .held) held) input) (sym stage),
+      buffer ∙ ap (λ (x : Stage). spliced (r .held) (keptIn x (take (r .held) held) input) held) (sym stage),
+    )
+
+    -- outside a record no byte is kept
+    pub exactly-version : r .stage ≡ Version → held′ ≡ held → t ≡ takenIn Version r (take (r .held) held) input → Exactly
+    exactly-version stage same is = exactly-in Version stage is (same ∙ sym (spliced-none (r .held) held))
+
+    pub exactly-ended : r .stage ≡ Ended → held′ ≡ held → t ≡ nothingTaken r (length input) → Exactly
+    exactly-ended stage same is = exactly-in Ended stage is (same ∙ sym (spliced-none (r .held) held))
+
+-- the version byte, if there is one
+pub version-none : (r : Reader) (bytes input : List ℕ) → length input ≡ 0 → takenIn Version r bytes input ≡ nothingTaken r 0
+version-none r bytes [] none = refl
+version-none r bytes (version ∷ more) none = absurd (omega arith)
+
+pub version-some : (r : Reader) (bytes input : List ℕ) → (length input ≡ 0 → ⊥) → takenIn Version r bytes input ≡ versionTaken (getD input 0 0)
+version-some r bytes [] some = absurd (some refl)
+version-some r bytes (version ∷ more) some = refl

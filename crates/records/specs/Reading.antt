@@ -1,11 +1,12 @@
 -- A file read a piece at a time, whatever its pieces: at each moment it is the records that were handed out, and then those of the bytes that
 -- are held and of those to come.
 use mathlib.Core.Path.{_≡_}
-use mathlib.Core.List.{List, [], _++_}
-use mathlib.Core.Bool.{cond}
-use Prim.Native.Nat.{ℕ, _+_, _-_, _≤_, _<_}
+use mathlib.Core.List.{List, [], _∷_, _++_}
+use mathlib.Core.Bool.{Bool, cond, _&&_}
+use Prim.Native.Nat.{ℕ, zero, suc, _+_, _-_, _≤_, _<_}
 use lib.ListN.{length, getD, take, drop}
-use lib.Dec.{eqb, ltb}
+use lib.Dec.{eqb, leb, ltb}
+use Rattle.word.specs.Splice.{spliced}
 use Rattle.records.specs.declared.Stage.{Stage}
 use Rattle.records.specs.declared.Stage.the-variants.{Version, Records, Ended}
 use Rattle.records.specs.declared.Reader.{Reader}
@@ -82,7 +83,16 @@ Lies (Record end) room = (5 ≤ end) × (end ≤ room)
 Lies BadVersion room = Unit {0}
 Lies BadRecord room = Unit {0}
 
--- ---- what comes of the bytes of a record that are there: contract of an inner function
+-- how a file ends where no byte follows, with so many bytes of an unfinished record
+abbrev pub endingAt : Stage → (have : ℕ) → FileEnd
+endingAt Version have = badVersion
+endingAt Records zero = whole
+endingAt Records (suc have) = cutRecord
+endingAt Ended have = whole
+
+-- ---- the same step by itself, of any reader, buffer and input
+
+-- what comes of the bytes of a record that are there
 
 abbrev pub undecided : (have used : ℕ) → Taken
 undecided have used = record { reader = record { stage = Records; held = have }; used = used; found = Nothing }
@@ -99,3 +109,34 @@ versionTaken version =
     cond (eqb version 1)
     (record { reader = record { stage = Records; held = 0 }; used = 1; found = Nothing })
     (record { reader = record { stage = Ended; held = 0 }; used = 1; found = BadVersion })
+
+abbrev pub nothingTaken : Reader → (used : ℕ) → Taken
+nothingTaken r used = record { reader = r; used = used; found = Nothing }
+
+-- the bytes that it keeps behind those of an unfinished record
+abbrev pub keptIn : Stage → (bytes input : List ℕ) → List ℕ
+keptIn Version bytes input = []
+keptIn Records bytes input = take (missing bytes) input
+keptIn Ended bytes input = []
+
+abbrev pub recordTaken : (bytes input : List ℕ) → Taken
+recordTaken bytes input = decided (bytes ++ keptIn Records bytes input) (length (keptIn Records bytes input))
+
+-- after the end of the file all input is used up
+abbrev pub takenIn : Stage → Reader → (bytes input : List ℕ) → Taken
+takenIn Version r bytes [] = nothingTaken r 0
+takenIn Version r bytes (version ∷ more) = versionTaken version
+takenIn Records r bytes input = recordTaken bytes input
+takenIn Ended r bytes input = nothingTaken r (length input)
+
+-- the longest record and its length fit in the buffer, and an unfinished record may have so many bytes
+abbrev pub bufferSuffices : Reader → (held : List ℕ) → Bool
+bufferSuffices r held = leb 32773 (length held) && ltb (r .held) 32773
+
+-- one step, or nothing at all where the buffer does not suffice
+unfoldable pub takenBy : Reader → (held input : List ℕ) → Taken
+takenBy r held input = cond (bufferSuffices r held) (takenIn (r .stage) r (take (r .held) held) input) (nothingTaken r 0)
+
+-- and the buffer after it
+unfoldable pub heldAfter : Reader → (held input : List ℕ) → List ℕ
+heldAfter r held input = cond (bufferSuffices r held) (spliced (r .held) (keptIn (r .stage) (take (r .held) held) input) held) held

@@ -4,7 +4,8 @@ ghost use Prim.Native.Nat.{_+_, _≤_, _<_};
 ghost use lib.ListN.{length, take};
 ghost use Rattle.records.specs.declared.Stage.the-variants.{Version, Records};
 ghost use Rattle.records.specs.Records.{badSize, lengthField};
-ghost use Rattle.records.specs.Reading.{missing, Ready, Takes, Lies, undecided, decided, versionTaken};
+ghost use Rattle.word.specs.Splice.{spliced};
+ghost use Rattle.records.specs.Reading.{missing, Ready, Takes, Lies, undecided, decided, versionTaken, keptIn, recordTaken, takenBy, heldAfter};
 
 // What is to come next: the version byte, a record, or nothing that is looked at.
 pub enum Stage {
@@ -118,7 +119,9 @@ fn take_record(have: usize, held: &mut [u8], input: &[u8]) -> Taken
     requires { ⌜ (32773 ≤ length (now held)) × (have < 32773) ⌝ }
     ensures { λ r. ⌜ (r .used ≤ length (now (input .entry))) × Lies (r .found) (length (now (held .entry)))
         × (0 < missing (take have (now (held .entry)))
-        → Takes (record { stage = Records; held = have }) (now (held .entry)) (now (input .entry)) r (now (held .exit))) ⌝ }
+        → Takes (record { stage = Records; held = have }) (now (held .entry)) (now (input .entry)) r (now (held .exit)))
+        × (r ≡ recordTaken (take have (now (held .entry))) (now (input .entry)))
+        × (now (held .exit) ≡ spliced have (keptIn Records (take have (now (held .entry))) (now (input .entry))) (now (held .entry))) ⌝ }
 {
     let wanted = bytes_missing(held, have);
     let taken = range::least(wanted, input.len());
@@ -166,7 +169,8 @@ fn judge_version(version: u8) -> Taken
 // Where the buffer does not suffice, nothing is used.
 pub fn take(reader: Reader, held: &mut [u8], input: &[u8]) -> Taken
     ensures { λ r. ⌜ (r .used ≤ length (now (input .entry))) × Lies (r .found) (length (now (held .entry)))
-        × (Ready reader (now (held .entry)) → Takes reader (now (held .entry)) (now (input .entry)) r (now (held .exit))) ⌝ }
+        × (Ready reader (now (held .entry)) → Takes reader (now (held .entry)) (now (input .entry)) r (now (held .exit)))
+        × (r ≡ takenBy reader (now (held .entry)) (now (input .entry))) × (now (held .exit) ≡ heldAfter reader (now (held .entry)) (now (input .entry))) ⌝ }
 {
     let have = reader.held;
     let enough = (32773 <= held.len()) & (have < 32773);

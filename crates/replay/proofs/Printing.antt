@@ -11,7 +11,7 @@ use Rattle.text.specs.Line.{Line, lineOf, pushed, appended}
 use Rattle.text.specs.Hex.{hexByte, hexBytes, hexWord}
 use Rattle.text.specs.Decimal.{decimal}
 use Rattle.text.proofs.Typing.{typed-append, typed-whole}
-use Rattle.replay.specs.Lines.{spaced, completionLine, refusalLine}
+use Rattle.lines.specs.Lines.{spaced, completionLine, refusalLine}
 use Rattle.replay.specs.Calls.{Prints}
 
 -- eight digits show a number modulo 2 to the 32nd

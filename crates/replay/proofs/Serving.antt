@@ -1,56 +1,23 @@
--- Laws of a record submitted and run, and of the start.
+-- Laws of a record submitted and run.
 use mathlib.Core.Path.{_≡_, refl, sym, ap, _∙_}
 use mathlib.Core.List.{List}
 use Prim.Native.Nat.{ℕ, zero, suc, _<_}
 use native.Mathlib.Omega.{arith}
-use lib.ListN.{replicate}
-use Rattle.reset.specs.declared.ResetRule.the-variants.{Unblended}
-use Rattle.record.specs.declared.Window.{Window}
 use Rattle.record.specs.declared.Record.{Record}
 use Rattle.queue.specs.declared.Reply.{Reply}
 use Rattle.queue.specs.Answers.{refusalNumberOf}
-use Rattle.queue.specs.Calls.{setUpResult, openResult, submitResult, submitRing}
+use Rattle.queue.specs.Calls.{submitResult, submitRing}
 use Rattle.engine.specs.declared.Completion.{Completion}
 use Rattle.engine.specs.declared.Outcome.the-variants.{Refused, Completed}
 use Rattle.engine.specs.declared.Ran.{Ran}
 use Rattle.engine.specs.Outcome.{runRefusalOf as refusalOf, valuesOf}
 use Rattle.engine.specs.Run.{oldest, oldestVerdict, runNumber, outcomeUnlessRefused, runResult, runMemory}
 use Rattle.model.specs.Calls.{run, refused}
-use Rattle.claims.specs.Engine.{mkState, CallResult, answerOrRefusal, completion, performCall, stateAfter}
+use Rattle.claims.specs.Engine.{mkState, CallResult, answerOrRefusal, completion, performCall}
 use Rattle.replay.specs.declared.Served.{Served}
 use Rattle.records.specs.Records.{Entry}
-use Rattle.replay.specs.Lines.{refusalLine, answerLine, submitAndRun, engineOpened, replayStart}
-use Rattle.replay.specs.Calls.{Prints, SubmitRunContract}
-
--- ---- the start
-
-abbrev windowFrom : ℕ → Window
-windowFrom start = record { start = start; length = 12288 }
-
-abbrev opened : Record
-opened =
-    let none : Record = setUpResult 32768 65536 16384 Unblended .engine in
-    let one : Record = openResult none (windowFrom 16384) .engine in
-    let two : Record = openResult one (windowFrom 28672) .engine in
-    let three : Record = openResult two (windowFrom 40960) .engine in
-    openResult three (windowFrom 53248) .engine
-
-pub started-engine : (ring memory : List ℕ) → engineOpened ring memory .engine ≡ opened
-unfolding engineOpened stateAfter performCall
-started-engine ring memory = refl
-
-pub starting-engine : replayStart .engine ≡ opened
-unfolding replayStart
-starting-engine = started-engine (replicate 32768 0) (replicate 65536 0)
-
--- opening changes neither ring nor memory
-pub started-state : (ring memory : List ℕ) → mkState (engineOpened ring memory .engine) ring memory ≡ engineOpened ring memory
-unfolding engineOpened stateAfter performCall
-started-state ring memory = refl
-
-pub starting-state : mkState (replayStart .engine) (replicate 32768 0) (replicate 65536 0) ≡ replayStart
-unfolding replayStart
-starting-state = started-state (replicate 32768 0) (replicate 65536 0)
+use Rattle.lines.specs.Lines.{refusalLine, answerLine, submitAndRun, entryLine}
+use Rattle.replay.specs.Calls.{Prints, Serves}
 
 -- ---- what run answers
 
@@ -97,7 +64,7 @@ module _ (engine : Record) (ring memory : List ℕ) (entry : Entry) where
 module _ (engine : Record) (ring memory : List ℕ) (entry : Entry) (line : List ℕ) (s : Served) (r : Reply) (ring′ memory′ line′ : List ℕ)
     (submitted : r ≡ submitResult engine ring (entry .client) (entry .batch)) (rung-is : ring′ ≡ submitRing engine ring (entry .client) (entry .batch)) where
   pub serves-refused : (number : ℕ) → number ≡ refusalNumberOf (r .answer) → (number ≡ 0 → ⊥) → s .engine ≡ r .engine → memory′ ≡ memory
-      → Prints (refusalLine (entry .client) number) line (s .written) line′ → SubmitRunContract engine ring memory entry line s ring′ memory′ line′
+      → Prints (refusalLine (entry .client) number) line (s .written) line′ → Serves (entryLine entry (mkState engine ring memory)) (submitAndRun entry (mkState engine ring memory) .after) line s ring′ memory′ line′
   unfolding answerLine
   serves-refused zero e some same kept prints = absurd (some refl)
   serves-refused (suc k) e some same kept prints =
@@ -111,7 +78,7 @@ module _ (engine : Record) (ring memory : List ℕ) (entry : Entry) (line : List
 
   pub serves-ran : (ran : Ran) → refusalNumberOf (r .answer) ≡ 0 → ran ≡ runResult (r .engine) ring′ memory → memory′ ≡ runMemory (r .engine) ring′ memory → s .engine ≡ ran .engine
       → Prints (answerLine (entry .client) (answerOrRefusal (refusalOf (ran .outcome)) (completion (valuesOf (ran .outcome))))) line (s .written) line′
-      → SubmitRunContract engine ring memory entry line s ring′ memory′ line′
+      → Serves (entryLine entry (mkState engine ring memory)) (submitAndRun entry (mkState engine ring memory) .after) line s ring′ memory′ line′
   unfolding performCall
   serves-ran ran e ran-is drawn same prints =
       let all = served-ran engine ring memory entry (ap (λ (q : Reply). refusalNumberOf (q .answer)) (sym submitted) ∙ e) in

@@ -1,87 +1,80 @@
 -- What the calls answer, and what they leave in the buffers that are lent to them, for every replay and buffer.
 use mathlib.Core.Path.{_≡_}
 use mathlib.Core.List.{List, []}
-use mathlib.Core.Bool.{Bool, cond, _&&_}
-use Prim.Native.Nat.{ℕ}
-use lib.ListN.{length, take}
-use lib.Dec.{leb, ltb}
+use mathlib.Core.Bool.{cond}
+use Prim.Native.Nat.{ℕ, _≤_}
+use lib.ListN.{length}
+use lib.Dec.{leb}
 use Rattle.word.specs.Splice.{spliced}
-use Rattle.claims.specs.Engine.{mkState}
-use Rattle.record.specs.declared.Record.{Record}
+use Rattle.claims.specs.Engine.{State, mkState}
+use Rattle.records.specs.declared.Stage.the-variants.{Version}
+use Rattle.records.specs.declared.Found.{Found}
+use Rattle.records.specs.declared.Found.the-variants.{Nothing, Record, BadVersion, BadRecord}
+use Rattle.records.specs.declared.Taken.{Taken}
+use Rattle.records.specs.Records.{badVersion, badRecord}
+use Rattle.records.specs.Reading.{entryIn, Ready, Takes, endingAt, nothingTaken, takenBy, heldAfter}
+use Rattle.lines.specs.Lines.{endingLine, submitAndRun, entryLine, replayStart}
 use Rattle.replay.specs.declared.Replay.{Replay}
 use Rattle.replay.specs.declared.Fed.{Fed}
 use Rattle.replay.specs.declared.Served.{Served}
-use Rattle.replay.specs.declared.Decided.{Decided}
-use Rattle.records.specs.Records.{Entry}
-use Rattle.replay.specs.Lines.{submitAndRun, entryLine}
-use Rattle.replay.specs.Step.{ReaderState, readerState, afterRecordBytes, FeedStep, idle, step, finishText}
 
--- what a replay stands for, with the buffers that are lent with it
-abbrev pub positionOf : Replay → (held ring memory : List ℕ) → ReaderState
-positionOf r held ring memory = readerState (r .stage) (take (r .held) held) (mkState (r .engine) ring memory)
+-- the engine of a replay, with the ring and memory that are lent with it
+abbrev pub stateOf : Replay → (ring memory : List ℕ) → State
+stateOf r ring memory = mkState (r .engine) ring memory
 
--- and the other way round
-abbrev pub replayAt : ReaderState → Replay
-replayAt p = record { engine = p .state .engine; stage = p .stage; held = length (p .bytes) }
+abbrev pub atStart : Replay
+atStart = record { engine = replayStart .engine; reader = record { stage = Version; held = 0 } }
 
 -- a text at the start of a line's buffer; other bytes are as they were
 pub record Prints (text line : List ℕ) (written : ℕ) (line′ : List ℕ) : Type 0 where
   pub size : written ≡ length text
   pub bytes : line′ ≡ spliced 0 text line
 
+-- ---- what the reading found (crate records): what is printed of it, and the engine after it
+
+abbrev pub foundText : Found → (held : List ℕ) → State → List ℕ
+foundText Nothing held s = []
+foundText (Record end) held s = entryLine (entryIn held end) s
+foundText BadVersion held s = endingLine badVersion
+foundText BadRecord held s = endingLine badRecord
+
+abbrev pub foundState : Found → (held : List ℕ) → State → State
+foundState Nothing held s = s
+foundState (Record end) held s = submitAndRun (entryIn held end) s .after
+foundState BadVersion held s = s
+foundState BadRecord held s = s
+
 -- ---- feed
 
--- the longest record and its length fit in `held`, any line in `line`, and an unfinished record may have so many bytes
-abbrev pub buffersSuffice : Replay → (held line : List ℕ) → Bool
-buffersSuffice r held line = leb 32773 (length held) && leb 128 (length line) && ltb (r .held) 32773
+-- one step of the reading, or nothing at all where the line may be too short
+unfoldable pub fedStep : Replay → (held input line : List ℕ) → Taken
+fedStep r held input line = cond (leb 128 (length line)) (takenBy (r .reader) held input) (nothingTaken (r .reader) 0)
 
--- one step, or nothing at all where the buffers do not suffice
-unfoldable pub fedStep : Replay → (held ring memory input line : List ℕ) → FeedStep
-fedStep r held ring memory input line =
-    cond (buffersSuffice r held line) (step (positionOf r held ring memory) input) (idle (positionOf r held ring memory))
-
--- the replay after it
-abbrev pub fedReplay : Replay → (held ring memory input line : List ℕ) → Replay
-fedReplay r held ring memory input line =
-    cond (buffersSuffice r held line) (replayAt (fedStep r held ring memory input line .next)) r
+unfoldable pub fedHeld : Replay → (held input line : List ℕ) → List ℕ
+fedHeld r held input line = cond (leb 128 (length line)) (heldAfter (r .reader) held input) held
 
 pub record FeedContract (r : Replay) (held ring memory input line : List ℕ) (f : Fed) (held′ ring′ memory′ line′ : List ℕ) : Type 0 where
-  pub used-is : f .used ≡ fedStep r held ring memory input line .used
-  pub replay-is : f .replay ≡ fedReplay r held ring memory input line
-  pub prints : Prints (fedStep r held ring memory input line .text) line (f .written) line′
-  pub held-is : held′ ≡ spliced (r .held) (fedStep r held ring memory input line .kept) held
-  pub ring-is : ring′ ≡ fedStep r held ring memory input line .next .state .ring
-  pub memory-is : memory′ ≡ fedStep r held ring memory input line .next .state .memory
-  -- so the reading stands where the step leaves it
-  pub onward : positionOf (f .replay) held′ ring′ memory′ ≡ fedStep r held ring memory input line .next
+  pub used-is : f .used ≡ fedStep r held input line .used
+  pub reader-is : f .replay .reader ≡ fedStep r held input line .reader
+  pub held-is : held′ ≡ fedHeld r held input line
+  pub engine-is : f .replay .engine ≡ foundState (fedStep r held input line .found) held′ (stateOf r ring memory) .engine
+  pub ring-is : ring′ ≡ foundState (fedStep r held input line .found) held′ (stateOf r ring memory) .ring
+  pub memory-is : memory′ ≡ foundState (fedStep r held input line .found) held′ (stateOf r ring memory) .memory
+  pub prints : Prints (foundText (fedStep r held input line .found) held′ (stateOf r ring memory)) line (f .written) line′
+  -- so the file goes on from there, whatever follows
+  pub within : f .used ≤ length input
+  pub takes : 128 ≤ length line → Ready (r .reader) held → Takes (r .reader) held input (fedStep r held input line) held′
 
 -- ---- finish
 
 -- what it prints: nothing into a line that may be too short
 abbrev pub finishedText : Replay → (line : List ℕ) → List ℕ
-finishedText r line = cond (leb 128 (length line)) (finishText (r .stage) (r .held)) []
+finishedText r line = cond (leb 128 (length line)) (endingLine (endingAt (r .reader .stage) (r .reader .held))) []
 
--- ---- what the two are made of: contracts of inner functions
+-- ---- Internal: what comes of a record, and of what was found
 
--- Internal: a record submitted and run
-pub record SubmitRunContract (engine : Record) (ring memory : List ℕ) (entry : Entry) (line : List ℕ) (s : Served) (ring′ memory′ line′ : List ℕ) : Type 0 where
-  pub engine-is : s .engine ≡ submitAndRun entry (mkState engine ring memory) .after .engine
-  pub ring-is : ring′ ≡ submitAndRun entry (mkState engine ring memory) .after .ring
-  pub memory-is : memory′ ≡ submitAndRun entry (mkState engine ring memory) .after .memory
-  pub prints : Prints (entryLine entry (mkState engine ring memory)) line (s .written) line′
-
--- Internal: the bytes of a record that are there
-pub record DecideContract (engine : Record) (bytes ring memory line : List ℕ) (d : Decided) (ring′ memory′ line′ : List ℕ) : Type 0 where
-  pub replay-is : d .replay ≡ replayAt (afterRecordBytes (mkState engine ring memory) bytes .next)
-  pub ring-is : ring′ ≡ afterRecordBytes (mkState engine ring memory) bytes .next .state .ring
-  pub memory-is : memory′ ≡ afterRecordBytes (mkState engine ring memory) bytes .next .state .memory
-  pub prints : Prints (afterRecordBytes (mkState engine ring memory) bytes .text) line (d .written) line′
-
--- Internal: one step, from `have` bytes held
-pub record FeedRecordContract (s : FeedStep) (have : ℕ) (held line : List ℕ) (f : Fed) (held′ ring′ memory′ line′ : List ℕ) : Type 0 where
-  pub used-is : f .used ≡ s .used
-  pub replay-is : f .replay ≡ replayAt (s .next)
-  pub prints : Prints (s .text) line (f .written) line′
-  pub held-is : held′ ≡ spliced have (s .kept) held
-  pub ring-is : ring′ ≡ s .next .state .ring
-  pub memory-is : memory′ ≡ s .next .state .memory
+pub record Serves (text : List ℕ) (next : State) (line : List ℕ) (s : Served) (ring′ memory′ line′ : List ℕ) : Type 0 where
+  pub engine-is : s .engine ≡ next .engine
+  pub ring-is : ring′ ≡ next .ring
+  pub memory-is : memory′ ≡ next .memory
+  pub prints : Prints text line (s .written) line′

@@ -1,53 +1,33 @@
 -- A file may be cut into pieces anywhere: what is printed of the pieces, fed one after the other, is what the whole file prints.
--- proofs/Cutting.antt proves it.
+-- proofs/Chunking.antt proves it.
 use mathlib.Core.Path.{_≡_}
 use mathlib.Core.List.{List, [], _∷_, _++_}
-use Prim.Native.Nat.{ℕ, zero, suc, _≤_}
+use Prim.Native.Nat.{ℕ, _≤_}
 use lib.ListN.{length, take, drop, replicate}
+use Rattle.claims.specs.Engine.{State}
+use Rattle.records.specs.Records.{records}
+use Rattle.records.specs.Reading.{fileAt, Ready}
+use Rattle.lines.specs.Lines.{engineOpened, linesFrom, lines}
+use Rattle.lines.specs.Answered.{submitAndRunAll}
 use Rattle.replay.specs.declared.Replay.{Replay}
 use Rattle.replay.specs.declared.Fed.{Fed}
-use Rattle.records.specs.Records.{records}
-use Rattle.replay.specs.Lines.{lines}
-use Rattle.replay.specs.Step.{ReaderState, atStart, FeedStep, step, finishOf}
-use Rattle.replay.specs.Calls.{replayAt, Prints, FeedContract, finishedText}
+use Rattle.replay.specs.Calls.{stateOf, atStart, Prints, FeedContract, finishedText}
 
--- what was printed, and where the reading stands
-pub record Printed : Type 0 where
-  pub text : List ℕ
-  pub last : ReaderState
+-- ---- where a replay stands
 
-abbrev pub noText : ReaderState → Printed
-noText p = record { text = []; last = p }
+-- After these bytes of a file, of which this text was printed, from an engine on: whatever follows, the lines of the whole file are this text
+-- and then those from here on, and the engine after the whole file is the one after the rest from here on.
+pub record Stands (engine : State) (seen text : List ℕ) (r : Replay) (held ring memory : List ℕ) : Type 0 where
+  pub ready : Ready (r .reader) held
+  pub prints : (rest : List ℕ) → linesFrom engine (records (seen ++ rest)) ≡ text ++ linesFrom (stateOf r ring memory) (fileAt (r .reader) held rest)
+  pub leaves : (rest : List ℕ) → submitAndRunAll (records (seen ++ rest) .entries) engine ≡ submitAndRunAll (fileAt (r .reader) held rest .entries) (stateOf r ring memory)
 
--- this text, and then the rest
-abbrev pub prependText : List ℕ → Printed → Printed
-prependText text rest = record { text = text ++ rest .text; last = rest .last }
-
--- a piece, fed until it is used up, with fuel for as many steps; each uses a byte at least
-unfoldable pub feedChunk : (fuel : ℕ) → ReaderState → (piece : List ℕ) → Printed
-feedChunk zero p piece = noText p
-feedChunk (suc fuel) p [] = noText p
-feedChunk (suc fuel) p (byte ∷ more) =
-    let s : FeedStep = step p (byte ∷ more) in
-    prependText (s .text) (feedChunk fuel (s .next) (drop (s .used) (byte ∷ more)))
-
--- the pieces, one after the other
-unfoldable pub feedChunks : ReaderState → List (List ℕ) → Printed
-feedChunks p [] = noText p
-feedChunks p (piece ∷ pieces) =
-    let one : Printed = feedChunk (length piece) p piece in
-    prependText (one .text) (feedChunks (one .last) pieces)
-
--- and then the end
-abbrev pub printed : List (List ℕ) → List ℕ
-printed pieces = feedChunks atStart pieces .text ++ finishOf (feedChunks atStart pieces .last)
+-- ---- calls
 
 -- the file
 unfoldable pub concatChunks : List (List ℕ) → List ℕ
 concatChunks [] = []
 concatChunks (piece ∷ pieces) = piece ++ concatChunks pieces
-
--- ---- the same of the calls
 
 -- Calls of feed and finish as a caller makes them, one after the other, each by its contract: a piece is fed until it is used up, and what a
 -- call wrote into the line is printed. A slice that is lent keeps its length.
@@ -61,14 +41,24 @@ pub data FeedTrace : Replay → (held ring memory line : List ℕ) → (pieces :
   feeding : {r : Replay} {held ring memory line : List ℕ} {byte : ℕ} {more : List ℕ} {pieces : List (List ℕ)} {output : List ℕ}
       {f : Fed} {held′ ring′ memory′ line′ : List ℕ}
       → FeedContract r held ring memory (byte ∷ more) line f held′ ring′ memory′ line′
-      → length held′ ≡ length held
       → length line′ ≡ length line
       → FeedTrace (f .replay) held′ ring′ memory′ line′ (drop (f .used) (byte ∷ more) ∷ pieces) output
       → FeedTrace r held ring memory line ((byte ∷ more) ∷ pieces) (take (f .written) line′ ++ output)
 
--- The promise: of the steps, and of the calls, from start's replay on, with buffers that suffice.
+-- ---- the promise: from start's replay on, with buffers that suffice
+
 pub record ChunkingIrrelevant : Type 0 where
-  pub steps : (pieces : List (List ℕ)) → printed pieces ≡ lines (records (concatChunks pieces))
+  -- any pieces print what the file prints
   pub calls : (held line : List ℕ) (pieces : List (List ℕ)) (output : List ℕ) → 32773 ≤ length held → 128 ≤ length line
-      → FeedTrace (replayAt atStart) held (replicate 32768 0) (replicate 65536 0) line pieces output
+      → FeedTrace atStart held (replicate 32768 0) (replicate 65536 0) line pieces output
       → output ≡ lines (records (concatChunks pieces))
+  -- a call at a time: at the start; after a call of feed, which uses a byte if there is one; at the end, in print and in the engine
+  pub starts : (held ring memory : List ℕ) → 32773 ≤ length held → Stands (engineOpened ring memory) [] [] atStart held ring memory
+  pub feeds : (engine : State) (seen text : List ℕ) (r : Replay) (held ring memory input line : List ℕ) (f : Fed) (held′ ring′ memory′ line′ : List ℕ)
+      → FeedContract r held ring memory input line f held′ ring′ memory′ line′ → 128 ≤ length line → Stands engine seen text r held ring memory
+      → Stands engine (seen ++ take (f .used) input) (text ++ take (f .written) line′) (f .replay) held′ ring′ memory′ × (1 ≤ length input → 1 ≤ f .used)
+  pub finishes : (engine : State) (seen text : List ℕ) (r : Replay) (held ring memory line : List ℕ) (written : ℕ) (line′ : List ℕ)
+      → Stands engine seen text r held ring memory → 128 ≤ length line → Prints (finishedText r line) line written line′
+      → text ++ take written line′ ≡ linesFrom engine (records seen)
+  pub left : (engine : State) (seen text : List ℕ) (r : Replay) (held ring memory : List ℕ) → Stands engine seen text r held ring memory
+      → stateOf r ring memory ≡ submitAndRunAll (records seen .entries) engine

@@ -1,6 +1,3 @@
--- A replay file read as records, the lines that are printed of it, what is answered of each record, and how it is read a piece at a time.
-pub mod Lines
-pub mod Answered
-pub mod Step
+-- What the calls of a replay do, and that the pieces of a file do not matter.
 pub mod Calls
 pub mod Chunking

@@ -1,40 +1,33 @@
 // A replay file read, run and printed, a piece at a time and in constant memory. The caller lends every buffer: `held` for
 // the bytes of an unfinished record, the engine's ring and memory, and `line` for the one line that a call may print.
 ghost use mathlib.Core.Path.{_≡_};
-ghost use Prim.Native.Nat.{ℕ, _+_, _≤_, _<_};
-ghost use mathlib.Core.Bool.{cond};
-ghost use mathlib.Core.List.{[], _∷_};
-ghost use lib.ListN.{length, take};
-ghost use lib.Dec.{eqb};
+ghost use Prim.Native.Nat.{ℕ, _≤_, _<_};
+ghost use mathlib.Core.List.{_∷_};
+ghost use lib.ListN.{length};
 ghost use Rattle.batch.specs.Batch.{statusWordOf, faultNumberOf as faultOf, faultOffsetOf};
 ghost use Rattle.queue.specs.Answers.{refusalNumberOf};
 ghost use Rattle.engine.specs.Outcome.{runRefusalOf as refusalOf, valuesOf};
 ghost use Rattle.claims.specs.Engine.{mkState, answerOrRefusal, completion};
 ghost use Rattle.text.specs.Line.{lineOf, appended};
 ghost use Rattle.text.specs.Decimal.{decimal};
-ghost use Rattle.records.specs.Records.{badSize, badVersion};
-ghost use Rattle.replay.specs.Lines.{completionLine, refusalLine, answerLine, endingLine};
-ghost use Rattle.replay.specs.Step.{readerState, atStart, bytesWanted, stepIn};
-ghost use Rattle.replay.specs.Calls.{replayAt, Prints, SubmitRunContract, DecideContract, FeedRecordContract, FeedContract, finishedText};
+ghost use Rattle.records.specs.Records.{badVersion};
+ghost use Rattle.records.specs.Reading.{Lies};
+ghost use Rattle.lines.specs.Lines.{completionLine, refusalLine, answerLine, endingLine, entryLine, submitAndRun};
+ghost use Rattle.replay.specs.Calls.{atStart, Prints, Serves, foundText, foundState, FeedContract, finishedText};
 use batch::Verdict;
 use engine::Outcome;
 use queue::Answer;
 use record::Record;
+use records::Found;
+use records::Reader;
+use records::Stage;
 use reset::ResetRule;
 use text::line;
 
-// What is to come next: the version byte, a record, or nothing that is looked at.
-pub enum Stage {
-    Version,
-    Records,
-    Ended,
-}
-
-// Where a replay stands. The first `held` bytes of the buffer of that name are those of an unfinished record.
+// Where a replay stands: the engine, and the reading of the file.
 pub struct Replay {
     pub engine: Record,
-    pub stage: Stage,
-    pub held: usize,
+    pub reader: Reader,
 }
 
 // What feed used of its input, and how many bytes it printed into `line`.
@@ -44,22 +37,16 @@ pub struct Fed {
     pub written: usize,
 }
 
-// The engine after a record was submitted and run, and how many bytes were printed.
+// The engine after what was found, and how many bytes were printed.
 struct Served {
     pub engine: Record,
-    pub written: usize,
-}
-
-// The replay after the bytes of a record were looked at, and how many bytes were printed.
-struct Decided {
-    pub replay: Replay,
     pub written: usize,
 }
 
 // The start of a replay: the engine set up, with four windows behind common. Ring and memory are to be 32,768 and 65,536
 // bytes, all zero.
 pub fn start() -> Replay
-    ensures { λ r. ⌜ r ≡ replayAt atStart ⌝ }
+    ensures { λ r. ⌜ r ≡ atStart ⌝ }
 {
     let none = engine::set_up(32768, 65536, 16384, ResetRule::Unblended);
     let first = none.engine;
@@ -73,8 +60,7 @@ pub fn start() -> Replay
     let engine = four.engine;
     Replay {
         engine: engine,
-        stage: Stage::Version,
-        held: 0,
+        reader: records::start(),
     }
 }
 
@@ -148,8 +134,9 @@ fn serve(
     slow: bool,
 ) -> Served
     requires { ⌜ 128 ≤ length (now line) ⌝ }
-    ensures { λ r. ⌜ SubmitRunContract engine (now (ring .entry)) (now (memory .entry)) (record { client = client; batch = now (batch .entry) }) (now (line .entry))
-        r (now (ring .exit)) (now (memory .exit)) (now (line .exit)) ⌝ }
+    ensures { λ r. ⌜ Serves (entryLine (record { client = client; batch = now (batch .entry) }) (mkState engine (now (ring .entry)) (now (memory .entry))))
+        (submitAndRun (record { client = client; batch = now (batch .entry) }) (mkState engine (now (ring .entry)) (now (memory .entry))) .after)
+        (now (line .entry)) r (now (ring .exit)) (now (memory .exit)) (now (line .exit)) ⌝ }
 {
     let submitted = engine::submit(engine, ring, client, batch);
     let answer = submitted.answer;
@@ -170,143 +157,51 @@ fn serve(
     }
 }
 
-// Whether a record may not have this length.
-fn bad_size(size: usize) -> bool
-    ensures { λ r. ⌜ r ≡ badSize size ⌝ }
-{
-    (size == 0) | (32769 < size)
-}
-
-// How many bytes of a record are missing to the next thing to decide, of which the first `have` bytes of `held` are there.
-fn bytes_missing(held: &[u8], have: usize) -> usize
-    requires { ⌜ (32773 ≤ length (now held)) × (have < 32773) ⌝ }
-    ensures { λ r. ⌜ (r ≡ bytesWanted (take have (now (held .entry)))) × (have + r ≤ 32773) ⌝ }
-{
-    if have < 4 {
-        return 4 - have;
-    }
-    let size = word::read_be32(held, 0) as usize;
-    if bad_size(size) {
-        return 0;
-    }
-    let end = 4 + size;
-    if have < end { end - have } else { 0 }
-}
-
-// The record is not yet decided.
-fn undecided(engine: Record, have: usize) -> Decided
-    ensures { λ r. ⌜ r ≡ record { replay = record { engine = engine; stage = Stage.Records; held = have }; written = 0 } ⌝ }
-{
-    Decided {
-        replay: Replay {
-            engine: engine,
-            stage: Stage::Records,
-            held: have,
-        },
-        written: 0,
-    }
-}
-
-// The output is at its end, after a line of so many bytes.
-fn ended(engine: Record, written: usize) -> Decided
-    ensures { λ r. ⌜ r ≡ record { replay = record { engine = engine; stage = Stage.Ended; held = 0 }; written = written } ⌝ }
-{
-    Decided {
-        replay: Replay {
-            engine: engine,
-            stage: Stage::Ended,
-            held: 0,
-        },
-        written: written,
-    }
-}
-
-// What comes of the bytes of a record that are there, the first `have` of `held`.
-fn decide(
-    engine: Record,
-    held: &[u8],
-    have: usize,
-    ring: &mut [u8],
-    memory: &mut [u8],
-    line: &mut [u8],
-    slow: bool,
-) -> Decided
-    requires { ⌜ (32773 ≤ length (now held)) × (have ≤ length (now held)) × (128 ≤ length (now line)) ⌝ }
-    ensures { λ r. ⌜ DecideContract engine (take have (now (held .entry))) (now (ring .entry)) (now (memory .entry)) (now (line .entry))
-        r (now (ring .exit)) (now (memory .exit)) (now (line .exit)) ⌝ }
-{
-    if have < 4 {
-        return undecided(engine, have);
-    }
-    let size = word::read_be32(held, 0) as usize;
-    if bad_size(size) {
-        return ended(engine, line::copy(line, b"bad record\n"));
-    }
-    let end = 4 + size;
-    if have < end {
-        return undecided(engine, have);
-    }
-    let client = held[4] as u32;
-    let served = serve(engine, ring, memory, client, &held[5..end], line, slow);
-    let after = served.engine;
-    Decided {
-        replay: Replay {
-            engine: after,
-            stage: Stage::Records,
-            held: 0,
-        },
-        written: served.written,
-    }
-}
-
-// Input for a record, of which the first `have` bytes of `held` are there.
-fn feed_record(
-    engine: Record,
-    have: usize,
-    held: &mut [u8],
-    ring: &mut [u8],
-    memory: &mut [u8],
-    input: &[u8],
-    line: &mut [u8],
-    slow: bool,
-) -> Fed
-    requires { ⌜ (32773 ≤ length (now held)) × (have < 32773) × (128 ≤ length (now line)) ⌝ }
-    ensures { λ r. ⌜ FeedRecordContract (stepIn Stage.Records (readerState Stage.Records (take have (now (held .entry))) (mkState engine (now (ring .entry)) (now (memory .entry)))) (now (input .entry)))
-        have (now (held .entry)) (now (line .entry)) r (now (held .exit)) (now (ring .exit)) (now (memory .exit)) (now (line .exit)) ⌝ }
-{
-    let wanted = bytes_missing(held, have);
-    let taken = range::least(wanted, input.len());
-    // It never goes on at byte 0: no record is longer than `held`.
-    ring::copy_in(held, have, &input[..taken]);
-    let told = decide(engine, held, have + taken, ring, memory, line, slow);
-    let after = told.replay;
-    Fed {
-        replay: after,
-        used: taken,
-        written: told.written,
-    }
-}
-
-// The version byte.
-fn judge_version(engine: Record, version: u8, line: &mut [u8]) -> Decided
+// The line of a file that is empty or of another version.
+fn bad_version(line: &mut [u8]) -> usize
     requires { ⌜ 128 ≤ length (now line) ⌝ }
-    ensures { λ r. ⌜ (r .replay ≡ record { engine = engine; stage = cond (eqb version 1) Stage.Records Stage.Ended; held = 0 })
-        × Prints (cond (eqb version 1) [] (endingLine badVersion)) (now (line .entry)) (r .written) (now (line .exit)) ⌝ }
+    ensures { λ r. ⌜ Prints (endingLine badVersion) (now (line .entry)) r (now (line .exit)) ⌝ }
 {
-    if version == 1 {
-        return undecided(engine, 0);
-    }
-    ended(engine, line::copy(line, b"bad version\n"))
+    line::copy(line, b"bad version\n")
 }
 
-// So many bytes passed over.
-fn passed(replay: Replay, count: usize) -> Fed
-    ensures { λ r. ⌜ r ≡ record { replay = replay; used = count; written = 0 } ⌝ }
+// What comes of what the reading found in `held`.
+fn after_found(
+    engine: Record,
+    found: Found,
+    held: &[u8],
+    ring: &mut [u8],
+    memory: &mut [u8],
+    line: &mut [u8],
+    slow: bool,
+) -> Served
+    requires { ⌜ Lies found (length (now held)) × (128 ≤ length (now line)) ⌝ }
+    ensures { λ r. ⌜ Serves (foundText found (now (held .entry)) (mkState engine (now (ring .entry)) (now (memory .entry))))
+        (foundState found (now (held .entry)) (mkState engine (now (ring .entry)) (now (memory .entry))))
+        (now (line .entry)) r (now (ring .exit)) (now (memory .exit)) (now (line .exit)) ⌝ }
 {
-    Fed {
-        replay: replay,
-        used: count,
-        written: 0,
+    match found {
+        Found::Record(end) => serve(
+            engine,
+            ring,
+            memory,
+            held[4] as u32,
+            &held[5..end],
+            line,
+            slow,
+        ),
+        Found::Nothing => Served {
+            engine: engine,
+            written: 0,
+        },
+        Found::BadVersion => Served {
+            engine: engine,
+            written: bad_version(line),
+        },
+        Found::BadRecord => Served {
+            engine: engine,
+            written: line::copy(line, b"bad record\n"),
+        },
     }
 }
 
@@ -324,28 +219,27 @@ pub fn feed(
     ensures { λ r. ⌜ FeedContract replay (now (held .entry)) (now (ring .entry)) (now (memory .entry)) (now (input .entry)) (now (line .entry))
         r (now (held .exit)) (now (ring .exit)) (now (memory .exit)) (now (line .exit)) ⌝ }
 {
-    let have = replay.held;
-    let enough = (32773 <= held.len()) & (128 <= line.len()) & (have < 32773);
-    if !enough {
-        return passed(replay, 0);
+    if line.len() < 128 {
+        return Fed {
+            replay: replay,
+            used: 0,
+            written: 0,
+        };
     }
     let engine = replay.engine;
-    let stage = replay.stage;
-    match stage {
-        Stage::Version => {
-            if input.len() == 0 {
-                return passed(replay, 0);
-            }
-            let told = judge_version(engine, input[0], line);
-            let after = told.replay;
-            Fed {
-                replay: after,
-                used: 1,
-                written: told.written,
-            }
-        }
-        Stage::Records => feed_record(engine, have, held, ring, memory, input, line, slow),
-        Stage::Ended => passed(replay, input.len()),
+    let reader = replay.reader;
+    let taken = records::take(reader, held, input);
+    let after = taken.reader;
+    let found = taken.found;
+    let served = after_found(engine, found, held, ring, memory, line, slow);
+    let next = served.engine;
+    Fed {
+        replay: Replay {
+            engine: next,
+            reader: after,
+        },
+        used: taken.used,
+        written: served.written,
     }
 }
 
@@ -357,10 +251,11 @@ pub fn finish(replay: Replay, line: &mut [u8]) -> usize
     if line.len() < 128 {
         return 0;
     }
-    let have = replay.held;
-    let stage = replay.stage;
+    let reader = replay.reader;
+    let have = reader.held;
+    let stage = reader.stage;
     match stage {
-        Stage::Version => line::copy(line, b"bad version\n"),
+        Stage::Version => bad_version(line),
         Stage::Records => {
             if have == 0 {
                 return 0;

@@ -1,36 +1,34 @@
--- Laws of what is reached: by some lines gathered, by one reading after another, from the start.
-use mathlib.Core.Path.{_≡_, refl, sym, ap, _∙_}
-use mathlib.Core.List.{List, []}
-use Prim.Native.Nat.{ℕ, _+_}
-use Rattle.record.specs.declared.Record.{Record}
-use Rattle.claims.specs.Engine.{State, mkState}
-use Rattle.replay.specs.declared.Stage.the-variants.{Version}
+-- Laws of what is reached: from the start, by some lines gathered, and what it leaves in memory.
+use mathlib.Core.Path.{_≡_, ap}
+use mathlib.Core.List.{List, [], _++_}
+use Prim.Native.Nat.{ℕ, _≤_}
+use lib.ListN.{length, take}
+use Rattle.claims.specs.Engine.{State}
+use Rattle.records.specs.Records.{records}
+use Rattle.lines.specs.Lines.{engineOpened}
+use Rattle.lines.specs.Answered.{submitAndRunAll}
+use Rattle.lines.proofs.Start.{started-state}
 use Rattle.replay.specs.declared.Replay.{Replay}
-use Rattle.replay.specs.Lines.{engineOpened}
-use Rattle.replay.specs.Step.{ReaderState, readerState, atStart}
-use Rattle.replay.specs.Chunking.{Printed, feedChunk}
-use Rattle.replay.specs.Calls.{positionOf, replayAt}
-use Rattle.replay.proofs.Serving.{started-engine, starting-engine, started-state}
+use Rattle.replay.specs.declared.Fed.{Fed}
+use Rattle.replay.specs.Calls.{atStart}
+use Rattle.replay.proofs.Chunking.{chunking}
 use Rattle.replay_io.specs.Gather.{FeedLinesContract}
-use Rattle.replay_io.specs.Reached.{Reachable, here, onward, Replayed}
+use Rattle.replay_io.specs.Reached.{Reached, Replayed}
 
-pub gathers-reach : (p q r : ReaderState) (input out : List ℕ) (used written : ℕ) (out′ : List ℕ) → Reachable p q → FeedLinesContract q input out used written r out′ → Reachable p r
-unfolding feedChunk
-gathers-reach p q r input out used written out′ reached g = onward reached (g .steps + 0) input (ap (λ (x : Printed). x .last) (g .onward 0))
+pub reached-start : (held ring memory : List ℕ) → 32773 ≤ length held → Reached (engineOpened ring memory) atStart held ring memory
+reached-start held ring memory room = record { seen = []; text = []; stands = chunking .starts held ring memory room }
 
-pub reaches-on : (p q r : ReaderState) → Reachable p q → Reachable q r → Reachable p r
-reaches-on p q r a here = a
-reaches-on p q r a (onward b steps input e) = onward (reaches-on p _ _ a b) steps input e
-
--- start's replay stands at the start
-pub start-at : (held ring memory : List ℕ) → positionOf (replayAt atStart) held ring memory ≡ readerState Version [] (engineOpened ring memory)
-start-at held ring memory =
-    ap (readerState Version []) (ap (λ (e : Record). mkState e ring memory) (starting-engine ∙ sym (started-engine ring memory)) ∙ started-state ring memory)
+pub gathers-reach : (engine : State) (r : Replay) (held ring memory input out : List ℕ) (f : Fed) (held′ ring′ memory′ out′ : List ℕ)
+    → FeedLinesContract r held ring memory input out f held′ ring′ memory′ out′ → Reached engine r held ring memory → Reached engine (f .replay) held′ ring′ memory′
+gathers-reach engine r held ring memory input out f held′ ring′ memory′ out′ g R =
+    record { seen = R .seen ++ take (f .used) input; text = R .text ++ take (f .written) out′; stands = g .onward engine (R .seen) (R .text) (R .stands) }
 
 -- memory, where it was reached
-pub replayed : (ring memory : List ℕ) (r : Replay) (held ring′ memory′ : List ℕ) → Reachable (readerState Version [] (engineOpened ring memory)) (positionOf r held ring′ memory′) → Replayed memory memory′
-replayed ring memory r held ring′ memory′ reached = record { ring = ring; last = positionOf r held ring′ memory′; reached = reached; left = refl }
+pub replayed : (ring memory : List ℕ) (r : Replay) (held ring′ memory′ : List ℕ) → Reached (engineOpened ring memory) r held ring′ memory′ → Replayed memory memory′
+replayed ring memory r held ring′ memory′ R =
+    record { ring = ring; seen = R .seen; left = ap (λ (s : State). s .memory) (chunking .left (engineOpened ring memory) (R .seen) (R .text) r held ring′ memory′ (R .stands)) }
 
 -- nothing read
 pub unread : (memory : List ℕ) → Replayed memory memory
-unread memory = record { ring = []; last = readerState Version [] (engineOpened [] memory); reached = here; left = ap (λ (s : State). s .memory) (started-state [] memory) }
+unfolding submitAndRunAll records
+unread memory = record { ring = []; seen = []; left = ap (λ (s : State). s .memory) (started-state [] memory) }

@@ -1,20 +1,15 @@
--- Internal: lines gathered in one buffer: several steps of a reading at once (crate replay: Step, Cutting).
-use mathlib.Core.Path.{_≡_}
-use mathlib.Core.List.{List}
-use Prim.Native.Nat.{ℕ, _+_, _≤_}
-use lib.ListN.{length, drop}
-use Rattle.replay.specs.Step.{ReaderState}
-use Rattle.replay.specs.Chunking.{prependText, feedChunk}
-use Rattle.replay.specs.Calls.{Prints}
+-- Internal: lines gathered in one buffer: several calls of feed at once (crate replay: Chunking).
+use mathlib.Core.List.{List, _++_}
+use Prim.Native.Nat.{ℕ, _≤_}
+use lib.ListN.{length, take}
+use Rattle.claims.specs.Engine.{State}
+use Rattle.replay.specs.declared.Replay.{Replay}
+use Rattle.replay.specs.declared.Fed.{Fed}
+use Rattle.replay.specs.Chunking.{Stands}
 
--- from p on, the first bytes of the input were used, and the reading stands at q
-pub record FeedLinesContract (p : ReaderState) (input out : List ℕ) (used written : ℕ) (q : ReaderState) (out′ : List ℕ) : Type 0 where
-  -- what was printed, and in how many steps
-  pub text : List ℕ
-  pub steps : ℕ
-  pub few : steps ≤ length input
-  pub within : used ≤ length input
-  pub room : written ≤ length out
-  pub prints : Prints text out written out′
-  -- what the input prints from p on is this text, and then what the rest of it prints from q on
-  pub onward : (fuel : ℕ) → feedChunk (steps + fuel) p input ≡ prependText text (feedChunk fuel q (drop used input))
+-- the first bytes of the input were used, and what they print stands at the start of the buffer
+pub record FeedLinesContract (r : Replay) (held ring memory input out : List ℕ) (f : Fed) (held′ ring′ memory′ out′ : List ℕ) : Type 0 where
+  pub within : f .used ≤ length input
+  pub room : f .written ≤ length out
+  pub onward : (engine : State) (seen text : List ℕ) → Stands engine seen text r held ring memory
+      → Stands engine (seen ++ take (f .used) input) (text ++ take (f .written) out′) (f .replay) held′ ring′ memory′

@@ -1,12 +1,11 @@
 // Replay files read from a descriptor and replayed, and their lines written to standard output. No contract can say
 // which bytes are read or written; that the memory is what some bytes make of it is proved.
-ghost use mathlib.Core.List.{[]};
-ghost use Rattle.replay.specs.declared.Stage.the-variants.{Version};
-ghost use Rattle.replay.specs.Lines.{engineOpened};
-ghost use Rattle.replay.specs.Step.{readerState};
-ghost use Rattle.replay.specs.Calls.{positionOf};
+ghost use Prim.Native.Nat.{_≤_};
+ghost use lib.ListN.{length};
+ghost use Rattle.claims.specs.Engine.{State};
+ghost use Rattle.lines.specs.Lines.{engineOpened};
 ghost use Rattle.replay_io.specs.Gather.{FeedLinesContract};
-ghost use Rattle.replay_io.specs.Reached.{Reachable, Replayed};
+ghost use Rattle.replay_io.specs.Reached.{Reached, Replayed};
 use replay::Fed;
 use replay::Replay;
 
@@ -30,8 +29,8 @@ fn feed_lines(
     out: &mut [u8],
     slow: bool,
 ) -> Fed
-    ensures { λ r. ⌜ FeedLinesContract (positionOf replay (now (held .entry)) (now (ring .entry)) (now (memory .entry))) (now (input .entry)) (now (out .entry))
-        (r .used) (r .written) (positionOf (r .replay) (now (held .exit)) (now (ring .exit)) (now (memory .exit))) (now (out .exit)) ⌝ }
+    ensures { λ r. ⌜ FeedLinesContract replay (now (held .entry)) (now (ring .entry)) (now (memory .entry)) (now (input .entry)) (now (out .entry))
+        r (now (held .exit)) (now (ring .exit)) (now (memory .exit)) (now (out .exit)) ⌝ }
 {
     let mut now = replay;
     let mut used = 0;
@@ -81,8 +80,8 @@ fn feed_piece(
     shows: bool,
     slow: bool,
 ) -> Progress
-    ensures { λ r. ⌜ Reachable (positionOf replay (now (held .entry)) (now (ring .entry)) (now (memory .entry)))
-        (positionOf (r .replay) (now (held .exit)) (now (ring .exit)) (now (memory .exit))) ⌝ }
+    ensures { λ r. ⌜ ((engine : State) → Reached engine replay (now (held .entry)) (now (ring .entry)) (now (memory .entry))
+        → Reached engine (r .replay) (now (held .exit)) (now (ring .exit)) (now (memory .exit))) ⌝ }
 {
     let mut out = io::large_buffer();
     let mut now = replay;
@@ -119,8 +118,8 @@ fn read_some(
     shows: bool,
     slow: bool,
 ) -> Progress
-    ensures { λ r. ⌜ Reachable (positionOf replay (now (held .entry)) (now (ring .entry)) (now (memory .entry)))
-        (positionOf (r .replay) (now (held .exit)) (now (ring .exit)) (now (memory .exit))) ⌝ }
+    ensures { λ r. ⌜ ((engine : State) → Reached engine replay (now (held .entry)) (now (ring .entry)) (now (memory .entry))
+        → Reached engine (r .replay) (now (held .exit)) (now (ring .exit)) (now (memory .exit))) ⌝ }
 {
     let mut piece = io::large_buffer();
     let got = command::read_piece(fd, name, &mut piece);
@@ -144,8 +143,8 @@ fn read_all(
     shows: bool,
     slow: bool,
 ) -> Progress
-    ensures { λ r. ⌜ Reachable (readerState Version [] (engineOpened (now (ring .entry)) (now (memory .entry))))
-        (positionOf (r .replay) (now (held .exit)) (now (ring .exit)) (now (memory .exit))) ⌝ }
+    ensures { λ r. ⌜ (32773 ≤ length (now (held .entry))
+        → Reached (engineOpened (now (ring .entry)) (now (memory .entry))) (r .replay) (now (held .exit)) (now (ring .exit)) (now (memory .exit))) ⌝ }
 {
     let mut progress = Progress {
         replay: replay::start(),

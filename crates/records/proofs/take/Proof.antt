@@ -1,11 +1,11 @@
 use mathlib.Core.Path.{_≡_, refl, sym, ap, _∙_}
-use mathlib.Core.Bool.{_&&_, false≢true}
+use mathlib.Core.Bool.{false≢true}
 use native.Mathlib.Omega.{arith}
-use lib.Dec.{leb, ltb}
-use lib.ListN.{length, getD}
+use lib.ListN.{getD, take}
 use borrow.Author.Tests.{not-true, not-false}
 use Rattle.records.specs.declared.Taken.{Taken}
-use Rattle.records.proofs.Onward.{nothing-takes, ended-takes, version-takes, ready-enough, enough-both, inside-takes, version-used}
+use Rattle.records.specs.Reading.{bufferSuffices}
+use Rattle.records.proofs.Onward.{nothing-takes, ended-takes, version-takes, ready-enough, enough-both, inside-takes, version-used, exactly-not, exactly-in, exactly-version, exactly-ended, version-none, version-some}
 use borrow.Author.Needs.{needs}
 use Rattle.records.proofs.take.Statement.{statement}
 use Rattle.records.proofs.take.Tie as tie
@@ -21,10 +21,13 @@ passed-requires c κs = search needs
 returns : tie.Need-returns
 returns c =
     let a = c .before .before .before .before .args in
-    let enough = leb 32773 (length (a .held .now)) && ltb (a .reader .held) 32773 in (
+    let enough = bufferSuffices (a .reader) (a .held .now) in
+    let exactly = exactly-not (a .reader) (a .held .now) (a .input .now) (c .passed .result) (a .held .now) (not-true enough (c .before .if1 .taken)) (c .passed .ensures) refl in (
       omega (arith, ap (λ (t : Taken). t .used) (c .passed .ensures)),
       rw (c .passed .ensures) tt,
       λ ready. absurd (false≢true (sym (not-true enough (c .before .if1 .taken)) ∙ ready-enough (a .reader) (a .held .now) ready)),
+      exactly .0,
+      exactly .1,
     )
 
 enum-told : tie.Need-enum-told
@@ -35,10 +38,13 @@ passed-requires-2 c κs = search needs
 
 returns-2 : tie.Need-returns-2
 returns-2 c =
-    let a = c .before .before .before .before .before .before .before .args in (
+    let a = c .before .before .before .before .before .before .before .args in
+    let exactly = exactly-version (a .reader) (a .held .now) (a .input .now) (c .passed2 .result) (a .held .now) (not-false (bufferSuffices (a .reader) (a .held .now)) (c .before .before .before .before .if1 .left)) (c .before .before .enum-told .given .1) refl (c .passed2 .ensures ∙ sym (version-none (a .reader) (take (a .reader .held) (a .held .now)) (a .input .now) (c .before .if2 .taken))) in (
       omega (arith, ap (λ (t : Taken). t .used) (c .passed2 .ensures)),
       rw (c .passed2 .ensures) tt,
       λ ready. nothing-takes (a .reader) (a .held .now) (a .input .now) (c .passed2 .result) ready (c .before .if2 .taken) (c .passed2 .ensures),
+      exactly .0,
+      exactly .1,
     )
 
 shared-slice-read-judge-version : tie.Need-shared-slice-read-judge-version
@@ -53,7 +59,7 @@ enum-told-2 c = search needs
 take-record-requires : tie.Need-take-record-requires
 take-record-requires c κs =
     let a = c .before .before .before .before .before .before .args in
-    enough-both (a .reader) (a .held .now) (not-false (leb 32773 (length (a .held .now)) && ltb (a .reader .held) 32773) (c .before .before .before .if1 .left))
+    enough-both (a .reader) (a .held .now) (not-false (bufferSuffices (a .reader) (a .held .now)) (c .before .before .before .if1 .left))
 
 enum-told-3 : tie.Need-enum-told-3
 enum-told-3 c = search needs
@@ -64,10 +70,13 @@ passed-requires-3 c κs = search needs
 returns-3 : tie.Need-returns-3
 returns-3 c =
     let a = c .before .before .before .before .before .before .before .before .args in
-    let v = version-used (getD (a .input .now) 0 0) in (
+    let v = version-used (getD (a .input .now) 0 0) in
+    let exactly = exactly-version (a .reader) (a .held .now) (a .input .now) (c .judge-version .result) (a .held .now) (not-false (bufferSuffices (a .reader) (a .held .now)) (c .before .before .before .before .before .if1 .left)) (c .before .before .before .enum-told .given .1) refl (c .judge-version .ensures ∙ sym (version-some (a .reader) (take (a .reader .held) (a .held .now)) (a .input .now) (c .before .before .if2 .left))) in (
       omega (arith, ap (λ (t : Taken). t .used) (c .judge-version .ensures), v .0, c .before .before .if2 .left),
       rw (c .judge-version .ensures) (v .1 _),
       λ ready. version-takes (a .reader) (a .held .now) (a .input .now) (c .judge-version .result) ready (c .before .before .before .enum-told .given .1) (c .before .before .if2 .left) (c .judge-version .ensures),
+      exactly .0,
+      exactly .1,
     )
 
 same-length : tie.Need-same-length
@@ -77,14 +86,18 @@ returns-4 : tie.Need-returns-4
 returns-4 c =
     let a = c .before .before .before .before .before .before .before .before .before .args in
     let e = c .before .before .take-record .ensures in
-    (e .0, e .1, inside-takes (a .reader) (a .held .now) (a .input .now) (c .before .before .take-record .result) _ (c .before .before .before .before .enum-told2 .given .1) (e .2))
+    let exactly = exactly-in (a .reader) (a .held .now) (a .input .now) (c .before .before .take-record .result) _ (not-false (bufferSuffices (a .reader) (a .held .now)) (c .before .before .before .before .before .before .if1 .left)) _ (c .before .before .before .before .enum-told2 .given .1) (e .3) (e .4) in
+    (e .0, e .1, inside-takes (a .reader) (a .held .now) (a .input .now) (c .before .before .take-record .result) _ (c .before .before .before .before .enum-told2 .given .1) (e .2), exactly .0, exactly .1)
 
 returns-5 : tie.Need-returns-5
 returns-5 c =
-    let a = c .before .before .before .before .before .before .args in (
+    let a = c .before .before .before .before .before .before .args in
+    let exactly = exactly-ended (a .reader) (a .held .now) (a .input .now) (c .passed3 .result) (a .held .now) (not-false (bufferSuffices (a .reader) (a .held .now)) (c .before .before .before .if1 .left)) (c .before .enum-told3 .given .1) refl (c .passed3 .ensures) in (
       omega (arith, ap (λ (t : Taken). t .used) (c .passed3 .ensures)),
       rw (c .passed3 .ensures) tt,
       λ ready. ended-takes (a .reader) (a .held .now) (a .input .now) (c .passed3 .result) ready (c .before .enum-told3 .given .1) (c .passed3 .ensures),
+      exactly .0,
+      exactly .1,
     )
 
 pub take-spec : {M : Type 1} → statement M

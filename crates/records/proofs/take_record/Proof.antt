@@ -3,7 +3,7 @@ use mathlib.Core.Path.{_≡_, sym, subst}
 use native.Mathlib.Omega.{arith}
 use lib.Seq.{length-take-le}
 use Rattle.records.specs.Reading.{Lies}
-use Rattle.records.proofs.Onward.{record-takes}
+use Rattle.records.proofs.Onward.{record-held, record-exact, record-takes}
 use borrow.Author.Needs.{needs}
 use Rattle.records.proofs.take_record.Statement.{statement}
 use Rattle.records.proofs.take_record.Tie as tie
@@ -47,6 +47,8 @@ returns c =
       omega (arith, d .2, least),
       subst (λ (n : ℕ). Lies (c .decide .result .found) n) (copy .kept .0) (d .1),
       record-takes (s .args .have) (s .args .held .now) (s .args .input .now) _ _ (c .decide .result) _ (want .0) (want .1) (s .pre .0) (copy .kept .0) least (copy .ensures) (d .0) (d .2),
+      record-exact (s .args .have) (s .args .held .now) (s .args .input .now) _ _ (c .decide .result) _ (want .0) (want .1) (s .pre .0) (copy .kept .0) least (copy .ensures) (d .0),
+      record-held (s .args .have) (s .args .held .now) (s .args .input .now) _ _ (c .decide .result) _ (want .0) (want .1) (s .pre .0) (copy .kept .0) least (copy .ensures) (d .0),
     )
 
 pub take-record-spec : {M : Type 1} → statement M

@@ -1,6 +1,6 @@
 use native.Mathlib.Omega.{arith}
-use Rattle.records.specs.Records.{badVersion, cutRecord}
-use Rattle.replay.specs.Lines.{endingLine}
+use Rattle.records.specs.Records.{cutRecord}
+use Rattle.lines.specs.Lines.{endingLine}
 use Rattle.replay.proofs.Printing.{prints-none, prints-typed}
 use Rattle.replay.proofs.Feeding.{finishes-short, finishes-version, finishes-whole, finishes-cut, finishes-ended}
 use borrow.Author.Needs.{needs}
@@ -15,25 +15,22 @@ returns c =
 enum-told : tie.Need-enum-told
 enum-told c = search needs
 
-slice-aggregate-copy : tie.Need-slice-aggregate-copy
-slice-aggregate-copy c = search needs
-
-copy-requires : tie.Need-copy-requires
-copy-requires c κs = search needs
+bad-version-requires : tie.Need-bad-version-requires
+bad-version-requires c κs = search needs
 
 enum-told-2 : tie.Need-enum-told-2
 enum-told-2 c = search needs
 
 returns-2 : tie.Need-returns-2
 returns-2 c =
-    let a = c .before .before .before .before .before .args in
-    finishes-whole (a .replay) (a .line .now) _ _ (c .before .before .before .if1 .left) (c .before .enum-told2 .given .1) (c .if2 .taken) (prints-none (a .line .now))
+    let a = c .before .before .before .before .before .before .args in
+    finishes-whole (a .replay) (a .line .now) _ _ (c .before .before .before .before .if1 .left) (c .before .enum-told2 .given .1) (c .if2 .taken) (prints-none (a .line .now))
 
-slice-aggregate-copy-2 : tie.Need-slice-aggregate-copy-2
-slice-aggregate-copy-2 c = search needs
+slice-aggregate-copy : tie.Need-slice-aggregate-copy
+slice-aggregate-copy c = search needs
 
-copy-requires-2 : tie.Need-copy-requires-2
-copy-requires-2 c κs = search needs
+copy-requires : tie.Need-copy-requires
+copy-requires c κs = search needs
 
 enum-told-3 : tie.Need-enum-told-3
 enum-told-3 c = search needs
@@ -42,11 +39,9 @@ same-length : tie.Need-same-length
 same-length c = search needs
 
 returns-3 : tie.Need-returns-3
-unfolding endingLine
 returns-3 c =
     let a = c .before .before .before .before .before .before .before .before .before .args in
-    let room = c .before .before .before .before .before .before .before .if1 .left in
-    finishes-version (a .replay) (a .line .now) _ _ room (c .before .before .before .before .before .enum-told .given .1) (prints-typed (endingLine badVersion) (a .line .now) _ _ (omega arith) room (c .before .before .copy .ensures))
+    finishes-version (a .replay) (a .line .now) _ _ (c .before .before .before .before .before .before .before .if1 .left) (c .before .before .before .before .enum-told .given .1) (c .before .before .bad-version .ensures)
 
 same-length-2 : tie.Need-same-length-2
 same-length-2 c = search needs
@@ -54,14 +49,14 @@ same-length-2 c = search needs
 returns-4 : tie.Need-returns-4
 unfolding endingLine
 returns-4 c =
-    let a = c .before .before .before .before .before .before .before .before .before .before .args in
-    let room = c .before .before .before .before .before .before .before .before .if1 .left in
-    finishes-cut (a .replay) (a .line .now) _ _ room (c .before .before .before .before .before .before .enum-told2 .given .1) (c .before .before .before .before .before .if2 .left) (prints-typed (endingLine cutRecord) (a .line .now) _ _ (omega arith) room (c .before .before .copy2 .ensures))
+    let a = c .before .before .before .before .before .before .before .before .before .before .before .args in
+    let room = c .before .before .before .before .before .before .before .before .before .if1 .left in
+    finishes-cut (a .replay) (a .line .now) _ _ room (c .before .before .before .before .before .before .enum-told2 .given .1) (c .before .before .before .before .before .if2 .left) (prints-typed (endingLine cutRecord) (a .line .now) _ _ (omega arith) room (c .before .before .copy .ensures))
 
 returns-5 : tie.Need-returns-5
 returns-5 c =
-    let a = c .before .before .before .before .args in
-    finishes-ended (a .replay) (a .line .now) _ _ (c .before .before .if1 .left) (c .enum-told3 .given .1) (prints-none (a .line .now))
+    let a = c .before .before .before .before .before .args in
+    finishes-ended (a .replay) (a .line .now) _ _ (c .before .before .before .if1 .left) (c .enum-told3 .given .1) (prints-none (a .line .now))
 
 pub finish-spec : {M : Type 1} → statement M
 finish-spec =
@@ -69,12 +64,11 @@ finish-spec =
     (tie.spec
     returns
     enum-told
-    slice-aggregate-copy
-    copy-requires
+    bad-version-requires
     enum-told-2
     returns-2
-    slice-aggregate-copy-2
-    copy-requires-2
+    slice-aggregate-copy
+    copy-requires
     enum-told-3
     same-length
     returns-3

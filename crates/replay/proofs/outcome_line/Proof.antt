@@ -1,5 +1,5 @@
 use Rattle.claims.specs.Engine.{answerOrRefusal}
-use Rattle.replay.specs.Lines.{answerLine}
+use Rattle.lines.specs.Lines.{answerLine}
 use Rattle.replay.proofs.Serving.{outcome-refused}
 use borrow.Author.Needs.{needs}
 use Rattle.replay.proofs.outcome_line.Statement.{statement}

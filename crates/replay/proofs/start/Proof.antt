@@ -1,4 +1,4 @@
-use Rattle.replay.proofs.Serving.{starting-engine}
+use Rattle.lines.proofs.Start.{starting-engine}
 use borrow.Author.Needs.{needs}
 use Rattle.replay.proofs.start.Statement.{statement}
 use Rattle.replay.proofs.start.Tie as tie
@@ -18,6 +18,9 @@ open-requires-3 c κs = search needs
 open-requires-4 : tie.Need-open-requires-4
 open-requires-4 c κs = search needs
 
+start-requires : tie.Need-start-requires
+start-requires c κs = search needs
+
 returns : tie.Need-returns
 returns c = cc starting-engine
 
@@ -30,4 +33,5 @@ start-spec =
     open-requires-2
     open-requires-3
     open-requires-4
+    start-requires
     returns)

@@ -1,22 +1,21 @@
 use mathlib.Core.Path.{_≡_, refl}
 use lib.Dec.{leb, ltb}
-use borrow.Author.Tests.{ltb-true}
+use borrow.Author.Tests.{leb-true}
 use Rattle.word.proofs.Tests.{and-true}
-use Rattle.replay.specs.Calls.{positionOf}
-use Rattle.replay_io.proofs.Gathering.{Going, going-none, going-more, gathers-more}
-use Prim.Native.Nat.{_+_, _-_, _≤_, _<_}
+use Rattle.replay_io.proofs.Gathering.{Going, going-none, going-more}
+use Prim.Native.Nat.{_+_, _-_, _≤_}
 use lib.ListN.{length}
 use native.Mathlib.Omega.{arith}
 use denote.Ref.{now}
 use Rattle.surface.proofs.Parts.{length-mid}
-use Rattle.replay_io.proofs.Bounds.{used-within, prints-within}
+use Rattle.replay_io.proofs.Bounds.{prints-within}
 use borrow.Author.Needs.{needs}
 use Rattle.replay_io.proofs.feed_lines.Statement.{statement}
 use Rattle.replay_io.proofs.feed_lines.Tie as tie
 
 abbrev Inv-loop : tie.InvT-loop
 Inv-loop held₀ ring₀ memory₀ input out₀ slow now₀ used₀ written₀ held ring memory out now used written =
-    Going (positionOf now₀ held₀ ring₀ memory₀) input out₀ used written (positionOf now held ring memory) out
+    Going now₀ held₀ ring₀ memory₀ input used written now held ring memory out
     × (used ≤ length input)
     × (written ≤ length out₀)
     × (length held ≡ length held₀)
@@ -27,12 +26,12 @@ Inv-loop held₀ ring₀ memory₀ input out₀ slow now₀ used₀ written₀ h
 abbrev μ-loop : tie.MeasureT-loop
 μ-loop held₀ ring₀ memory₀ input out₀ slow now₀ used₀ written₀ held ring memory out now used written = length input - used
 
--- input is left
-some : (c : tie.In-loop Inv-loop μ-loop) → c .before .loop .used < length (now (c .before .before .before .before .before .before .before .args .input))
-some c =
+-- a line has room
+room : (c : tie.In-loop Inv-loop μ-loop) → 128 ≤ length (c .before .loop .out) - c .before .loop .written
+room c =
     let l = c .before .loop in
     let input = now (c .before .before .before .before .before .before .before .args .input) in
-    ltb-true (l .used) (length input) (and-true (ltb (l .used) (length input)) (leb 128 (length (l .out) - l .written)) (c .loop-test .taken) .0)
+    leb-true 128 (length (l .out) - l .written) (and-true (ltb (l .used) (length input)) (leb 128 (length (l .out) - l .written)) (c .loop-test .taken) .1)
 
 -- what a call used and wrote lies within the input and the lines
 bounds : (c : tie.After-feed Inv-loop μ-loop) →
@@ -42,12 +41,14 @@ bounds c =
     let l = c .before .before .before .before .before .before .before .loop in
     let input = now (c .before .before .before .before .before .before .before .before .before .before .before .before .before .args .input) in
     let e = c .feed .ensures in (
-      omega (arith, used-within _ _ _ _ _ _ _ _ _ _ _ e, length-mid (l .used) (length input - l .used) input (omega arith)),
+      omega (arith, e .within, length-mid (l .used) (length input - l .used) input (omega arith)),
       omega (arith, prints-within _ _ _ _ (e .prints) (c .feed .kept .1 .1 .1 .1 .1 .0), length-mid (l .written) (length (l .out) - l .written) (l .out) (omega arith)),
     )
 
 loop-holds : tie.Need-loop-holds Inv-loop μ-loop
-loop-holds c = (going-none _ _ _, search needs, search needs, search needs, search needs, search needs, search needs)
+loop-holds c =
+    let a = c .before .before .before .before .before .args in
+    (going-none (a .replay) (a .held .now) (a .ring .now) (a .memory .now) (a .input .now) (a .out .now), search needs, search needs, search needs, search needs, search needs, search needs)
 
 sub-loop : tie.Need-sub-loop Inv-loop μ-loop
 sub-loop c = search needs
@@ -87,7 +88,7 @@ loop-again c =
     let d = c .before .before .before .before .before .before .before .before .before .before .before in
     let l = d .before .before .before .before .before .before .before .loop in
     let k = bounds d in (
-      going-more _ _ _ (l .used) (l .written) (l .now) _ _ _ (l .out) (l .inv .0) (some (d .before .before .before .before .before .before)) _ _ (d .feed .result) _ _ _ _ refl refl (k .0) (k .1) (d .feed .ensures) (c .if1 .left),
+      going-more _ _ _ _ _ (l .used) (l .written) (l .now) _ _ _ (l .out) (l .inv .0) _ (length (l .out) - l .written) (d .feed .result) _ _ _ _ refl (omega (arith, room (d .before .before .before .before .before .before), length-mid (l .written) (length (l .out) - l .written) (l .out) (omega arith))) (omega arith) (omega (arith, prints-within _ _ _ _ (d .feed .ensures .prints) (d .feed .kept .1 .1 .1 .1 .1 .0), d .feed .kept .1 .1 .1 .1 .1 .0)) (d .feed .ensures),
       k .0,
       k .1,
       search needs,
@@ -109,7 +110,9 @@ same-length-4 : tie.Need-same-length-4 Inv-loop μ-loop
 same-length-4 c = search needs
 
 returns : tie.Need-returns Inv-loop μ-loop
-returns c = c .before .loop .inv .0 .so
+returns c =
+    let l = c .before .loop in
+    record { within = l .inv .1; room = l .inv .2; onward = l .inv .0 }
 
 same-length-5 : tie.Need-same-length-5 Inv-loop μ-loop
 same-length-5 c = search needs
@@ -128,7 +131,7 @@ returns-2 c =
     let d = c .before .before .before .before .before .before .before .before .before .before .before in
     let l = d .before .before .before .before .before .before .before .loop in
     let k = bounds d in
-    gathers-more _ _ _ (l .used) (l .written) (l .now) _ _ _ (l .out) (l .inv .0) (some (d .before .before .before .before .before .before)) _ _ (d .feed .result) _ _ _ _ refl refl (k .0) (k .1) (d .feed .ensures)
+    record { within = k .0; room = k .1; onward = going-more _ _ _ _ _ (l .used) (l .written) (l .now) _ _ _ (l .out) (l .inv .0) _ (length (l .out) - l .written) (d .feed .result) _ _ _ _ refl (omega (arith, room (d .before .before .before .before .before .before), length-mid (l .written) (length (l .out) - l .written) (l .out) (omega arith))) (omega arith) (omega (arith, prints-within _ _ _ _ (d .feed .ensures .prints) (d .feed .kept .1 .1 .1 .1 .1 .0), d .feed .kept .1 .1 .1 .1 .1 .0)) (d .feed .ensures) }
 
 pub feed-lines-spec : {M : Type 1} → statement M
 feed-lines-spec =

@@ -1,11 +1,11 @@
 use denote.Ref.{now}
 use Rattle.surface.proofs.Parts.{length-mid}
 use mathlib.Core.Path.{_≡_}
+use Rattle.claims.specs.Engine.{State}
 use Prim.Native.Nat.{_-_, _≤_}
 use native.Mathlib.Omega.{arith}
 use lib.ListN.{length}
-use Rattle.replay.specs.Calls.{positionOf}
-use Rattle.replay_io.specs.Reached.{Reachable, here}
+use Rattle.replay_io.specs.Reached.{Reached}
 use Rattle.replay_io.proofs.Reaching.{gathers-reach}
 use borrow.Author.Needs.{needs}
 use Rattle.replay_io.proofs.feed_piece.Statement.{statement}
@@ -14,7 +14,7 @@ use Rattle.replay_io.proofs.feed_piece.Tie as tie
 abbrev Inv-loop : tie.InvT-loop
 Inv-loop held₀ ring₀ memory₀ piece shows slow out₀ now₀ used₀ well₀ held ring memory out now used well =
     (used ≤ length piece) × (65536 ≡ length out) × (length held ≡ length held₀) × (length ring ≡ length ring₀) × (length memory ≡ length memory₀)
-    × Reachable (positionOf now₀ held₀ ring₀ memory₀) (positionOf now held ring memory)
+    × ((engine : State) → Reached engine now₀ held₀ ring₀ memory₀ → Reached engine now held ring memory)
 
 abbrev μ-loop : tie.MeasureT-loop
 μ-loop held₀ ring₀ memory₀ piece shows slow out₀ now₀ used₀ well₀ held ring memory out now used well = length piece - used
@@ -23,7 +23,7 @@ large-buffer-requires : tie.Need-large-buffer-requires Inv-loop μ-loop
 large-buffer-requires c κs = search needs
 
 loop-holds : tie.Need-loop-holds Inv-loop μ-loop
-loop-holds c = (search needs, search needs, search needs, search needs, search needs, here)
+loop-holds c = (search needs, search needs, search needs, search needs, search needs, λ engine R. R)
 
 sub-feed-lines : tie.Need-sub-feed-lines Inv-loop μ-loop
 sub-feed-lines c = search needs
@@ -58,7 +58,7 @@ loop-again c =
     let f = c .before .before .before .before .before .before .before .before .before .before .before .feed-lines in
     let piece = now (c .before .before .before .before .before .before .before .before .before .before .before .before .before .before .before .before .before .before .before .before .before .before .before .before .args .piece) in
     let rest = length-mid (l .used) (length piece - l .used) piece (omega (arith, l .inv .0)) in
-    (omega (arith, f .ensures .within, rest, l .inv .0), search needs, search needs, search needs, search needs, gathers-reach _ _ _ _ _ _ _ _ (l .inv .5) (f .ensures))
+    (omega (arith, f .ensures .within, rest, l .inv .0), search needs, search needs, search needs, search needs, λ engine R. gathers-reach engine _ _ _ _ _ _ _ _ _ _ _ (f .ensures) (l .inv .5 engine R))
 
 same-length : tie.Need-same-length Inv-loop μ-loop
 same-length c = search needs
@@ -85,7 +85,7 @@ returns-2 : tie.Need-returns-2 Inv-loop μ-loop
 returns-2 c =
     let l = c .before .before .before .before .before .before .before .before .before .before .before .before .before .before .before .before .before .before .loop in
     let f = c .before .before .before .before .before .before .before .before .before .before .before .feed-lines in
-    gathers-reach _ _ _ _ _ _ _ _ (l .inv .5) (f .ensures)
+    λ engine R. gathers-reach engine _ _ _ _ _ _ _ _ _ _ _ (f .ensures) (l .inv .5 engine R)
 
 pub feed-piece-spec : {M : Type 1} → statement M
 feed-piece-spec =

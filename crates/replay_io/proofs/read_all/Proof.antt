@@ -1,12 +1,9 @@
 use mathlib.Core.Path.{_≡_}
-use mathlib.Core.List.{[]}
+use Prim.Native.Nat.{_≤_}
 use lib.ListN.{length}
-use Rattle.replay.specs.declared.Stage.the-variants.{Version}
-use Rattle.replay.specs.Lines.{engineOpened}
-use Rattle.replay.specs.Step.{readerState}
-use Rattle.replay.specs.Calls.{positionOf}
-use Rattle.replay_io.specs.Reached.{Reachable, here}
-use Rattle.replay_io.proofs.Reaching.{reaches-on, start-at}
+use Rattle.lines.specs.Lines.{engineOpened}
+use Rattle.replay_io.specs.Reached.{Reached}
+use Rattle.replay_io.proofs.Reaching.{reached-start}
 use borrow.Author.Needs.{needs}
 use Rattle.replay_io.proofs.read_all.Statement.{statement}
 use Rattle.replay_io.proofs.read_all.Tie as tie
@@ -14,7 +11,7 @@ use Rattle.replay_io.proofs.read_all.Tie as tie
 abbrev Inv-loop : tie.InvT-loop
 Inv-loop fd name held₀ ring₀ memory₀ shows slow progress₀ turns₀ more₀ held ring memory progress turns more =
     (length held ≡ length held₀) × (length ring ≡ length ring₀) × (length memory ≡ length memory₀)
-    × Reachable (readerState Version [] (engineOpened ring₀ memory₀)) (positionOf (progress .replay) held ring memory)
+    × (32773 ≤ length held₀ → Reached (engineOpened ring₀ memory₀) (progress .replay) held ring memory)
 
 abbrev μ-loop : tie.MeasureT-loop
 μ-loop fd name held₀ ring₀ memory₀ shows slow progress₀ turns₀ more₀ held ring memory progress turns more = turns
@@ -25,7 +22,7 @@ start-requires c κs = search needs
 loop-holds : tie.Need-loop-holds Inv-loop μ-loop
 loop-holds c =
     let a = c .before .before .before .before .before .args in
-    (search needs, search needs, search needs, rw (c .start .ensures, start-at (a .held .now) (a .ring .now) (a .memory .now)) here)
+    (search needs, search needs, search needs, λ room. rw (c .start .ensures) (reached-start (a .held .now) (a .ring .now) (a .memory .now) room))
 
 read-some-requires : tie.Need-read-some-requires Inv-loop μ-loop
 read-some-requires c κs = search needs
@@ -40,7 +37,7 @@ loop-again : tie.Need-loop-again Inv-loop μ-loop
 loop-again c =
     let l = c .before .before .before .before .before .before .before .before .before .before .before .before .before .loop in
     let s = c .before .before .before .before .before .before .read-some in
-    (search needs, search needs, search needs, reaches-on _ _ _ (l .inv .3) (s .ensures))
+    (search needs, search needs, search needs, λ room. s .ensures _ (l .inv .3 room))
 
 same-length : tie.Need-same-length Inv-loop μ-loop
 same-length c = search needs

@@ -1,4 +1,3 @@
-use Rattle.replay_io.specs.Reached.{here}
 use borrow.Author.Needs.{needs}
 use Rattle.replay_io.proofs.read_some.Statement.{statement}
 use Rattle.replay_io.proofs.read_some.Tie as tie
@@ -18,7 +17,7 @@ read-piece-requires : tie.Need-read-piece-requires
 read-piece-requires c κs = search needs
 
 returns : tie.Need-returns
-returns c = here
+returns c = λ engine R. R
 
 array-share-prefix-piece : tie.Need-array-share-prefix-piece
 array-share-prefix-piece c = search needs

@@ -3,7 +3,7 @@ use Prim.Native.Nat.{ℕ}
 use mathlib.Core.Path.{_≡_, sym, ap, _∙_}
 use mathlib.Core.List.{List}
 use Rattle.ring.specs.Segment.{batchWords}
-use Rattle.replay.specs.Lines.{fileReset}
+use Rattle.lines.specs.Lines.{fileReset}
 use Rattle.register.specs.declared.bank.Bank.{Bank}
 use Rattle.batch.specs.Batch.{DecodedBatch, decodeBatch, validationOf}
 use Rattle.inquiry.proofs.Batch.{explained-none, explained-fault}

@@ -5,7 +5,7 @@ use mathlib.Core.List.{List}
 use native.Mathlib.Omega.{arith}
 use lib.ListN.{length}
 use Rattle.ring.specs.Segment.{batchWords}
-use Rattle.replay.specs.Lines.{fileReset}
+use Rattle.lines.specs.Lines.{fileReset}
 use Rattle.register.specs.declared.bank.Bank.{Bank}
 use Rattle.batch.specs.Batch.{decodeBatch, tasksDrawn}
 use Rattle.batch.specs.Walk.{decodeRest}

@@ -25,9 +25,9 @@ use Rattle.claims.proofs.Related.{Related}
 use Rattle.claims.proofs.Steps.{Alike}
 use Rattle.claims.proofs.Follows.{together, at-end}
 use Rattle.records.specs.Records.{Entry, FileEnd, File}
-use Rattle.replay.specs.Lines.{setup, fileReset, opening, engineOpened, replayStart, submitAndRun, entryLine, endingLine, printedFrom, lines}
-use Rattle.replay.specs.Answered.{recordRefusal, replayWindow, verdict, ticketOfCount, answerAfter, countAfter, drawnAfter, linesAfter, lineFeeds, OneLine, acceptedFrom, submitAndRunAll, RecordAnswered, ReplayAnswersHold}
-use Rattle.replay.proofs.LineFeeds.{feeds-append, one-feed, answer-one}
+use Rattle.lines.specs.Lines.{setup, fileReset, opening, engineOpened, replayStart, submitAndRun, entryLine, endingLine, printedFrom, lines}
+use Rattle.lines.specs.Answered.{recordRefusal, replayWindow, verdict, ticketOfCount, answerAfter, countAfter, drawnAfter, linesAfter, lineFeeds, OneLine, acceptedFrom, submitAndRunAll, RecordAnswered, ReplayAnswersHold}
+use Rattle.lines.proofs.LineFeeds.{feeds-append, one-feed, answer-one}
 
 -- ---- the model between two records
 

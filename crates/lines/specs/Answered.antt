@@ -13,7 +13,7 @@ use Rattle.model.specs.Refusals.{badLength}
 use Rattle.claims.specs.ModelProperties.{batchSemantics}
 use Rattle.claims.specs.Engine.{State, CallResult, answerOrRefusal, performCall}
 use Rattle.records.specs.Records.{Entry, FileEnd, File}
-use Rattle.replay.specs.Lines.{setup, engineOpened, submitAndRun, answerLine, entryLine, endingLine, lines}
+use Rattle.lines.specs.Lines.{setup, engineOpened, submitAndRun, answerLine, entryLine, endingLine, lines}
 
 -- ---- a record by itself
 

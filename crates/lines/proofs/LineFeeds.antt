@@ -10,8 +10,8 @@ use Rattle.model.specs.Calls.{CompletionStatus, completed}
 use Rattle.claims.specs.Engine.{answerOrRefusal}
 use Rattle.text.specs.Hex.{digitOf, hexByte, hexBytes, hexWord}
 use Rattle.text.specs.Decimal.{digitsIn, decimal}
-use Rattle.replay.specs.Lines.{spaced, completionLine, refusalLine, answerLine}
-use Rattle.replay.specs.Answered.{lineFeeds, OneLine}
+use Rattle.lines.specs.Lines.{spaced, completionLine, refusalLine, answerLine}
+use Rattle.lines.specs.Answered.{lineFeeds, OneLine}
 
 pub feeds-append : (xs ys : List ℕ) → lineFeeds (xs ++ ys) ≡ lineFeeds xs + lineFeeds ys
 unfolding lineFeeds

@@ -14,7 +14,7 @@ use Rattle.claims.specs.Engine.{answerOrRefusal, performCall, answersOf, initia
 use Rattle.text.specs.Hex.{hexByte, hexBytes, hexWord}
 use Rattle.text.specs.Decimal.{digitsIn, decimal}
 use Rattle.records.specs.Records.{whole, badVersion, badRecord, cutRecord, fileEnds, consEntry, recordsFrom, records}
-use Rattle.replay.specs.Lines.{completionLine, refusalLine, setup, opening}
+use Rattle.lines.specs.Lines.{completionLine, refusalLine, setup, opening}
 
 -- `0 0 00010001 0 0`
 pub drawn : completionLine 0 0 (record { status = 0x00010001; fault = 0; offset = 0 })

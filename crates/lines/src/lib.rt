@@ -1,0 +1,1 @@
+// The lines that a replay file prints, and what is answered of each of its records. It has no code.

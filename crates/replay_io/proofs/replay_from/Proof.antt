@@ -1,0 +1,41 @@
+use Rattle.replay_io.proofs.Reaching.{replayed}
+use borrow.Author.Needs.{needs}
+use Rattle.replay_io.proofs.replay_from.Statement.{statement}
+use Rattle.replay_io.proofs.replay_from.Tie as tie
+
+slice-aggregate-read-all : tie.Need-slice-aggregate-read-all
+slice-aggregate-read-all c = search needs
+
+slice-aggregate-read-all-2 : tie.Need-slice-aggregate-read-all-2
+slice-aggregate-read-all-2 c = search needs
+
+read-all-requires : tie.Need-read-all-requires
+read-all-requires c κs = search needs
+
+same-length : tie.Need-same-length
+same-length c = search needs
+
+returns : tie.Need-returns
+returns c = replayed _ _ _ _ _ _ (c .before .before .before .before .before .before .before .read-all .ensures (search needs))
+
+finish-requires : tie.Need-finish-requires
+finish-requires c κs = search needs
+
+same-length-2 : tie.Need-same-length-2
+same-length-2 c = search needs
+
+returns-2 : tie.Need-returns-2
+returns-2 c = replayed _ _ _ _ _ _ (c .before .before .before .before .before .before .before .before .read-all .ensures (search needs))
+
+pub replay-from-spec : {M : Type 1} → statement M
+replay-from-spec =
+    tie.close
+    (tie.spec
+    slice-aggregate-read-all
+    slice-aggregate-read-all-2
+    read-all-requires
+    same-length
+    returns
+    finish-requires
+    same-length-2
+    returns-2)
