@@ -66,7 +66,7 @@ pub fn compare(trials: &mut Trials) -> Agreed {
         changed_to(&[*one])?;
         for (j, two) in edges.iter().enumerate().skip(i + 1).filter(|(_, two)| two.0 != one.0) {
             changed_to(&[*one, *two])?;
-            for three in edges.iter().skip(j + 1).step_by(5).filter(|three| three.0 != two.0) {
+            for three in edges.iter().skip(j + 1).filter(|three| three.0 != two.0) {
                 changed_to(&[*one, *two, *three])?;
             }
         }
