@@ -107,7 +107,7 @@ impl fmt::Display for Refusal {
 
 impl std::error::Error for Refusal {}
 
-/// Why a batch that was run drew nothing.
+/// Why a batch that was run ended before its end: the tasks before the fault are drawn, no others.
 #[derive(Clone, Copy, Debug, PartialEq, Eq, Hash)]
 #[non_exhaustive]
 pub enum Fault {
@@ -123,7 +123,7 @@ pub enum Fault {
     NotAllowed,
     /// 25: a surface's side or stride is wrong, or a surface that is needed is disabled.
     BadSurface,
-    /// 26: sizes do not go together, or a turn in colour mode.
+    /// 26: sizes do not go together, or a turn where the source is no buffer.
     BadSizes,
     /// 27: a span not wholly in the client's window, or, for what is read, wholly in common.
     OutOfReach,

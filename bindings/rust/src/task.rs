@@ -172,7 +172,8 @@ pub struct Steps {
 }
 
 impl Steps {
-    /// The step that takes a channel by `levels` in so many places, rounded towards zero to parts of 65,536.
+    /// The step that takes a channel by `levels` in so many places, rounded towards zero to parts of 65,536. The change a
+    /// place must be from -256 to under 256; else the word is another step.
     ///
     /// # Panics
     /// If `places` is 0.
@@ -184,7 +185,7 @@ impl Steps {
 /// What is drawn.
 #[derive(Clone, Copy, Debug, Default, PartialEq, Eq, Hash)]
 pub struct Source {
-    /// Its pixels; but in buffer mode only its sides count.
+    /// Its pixels in buffer mode; in the other modes only its sides count.
     pub surface: Surface,
     /// Used while blending.
     pub alpha: Alpha,
@@ -310,8 +311,8 @@ impl From<Rule> for Blending {
     }
 }
 
-/// A task: one rectangle drawn. Its default is every field at reset by [`ResetRule::Unblended`]. It writes every register, so the engine's own
-/// reset rule does not matter to it.
+/// A task: one rectangle drawn. Its default is every field at reset by [`ResetRule::Unblended`]. It writes every register but the
+/// steps ([`Task::encode_shaded`] writes these too), so the engine's own reset rule does not matter to it.
 #[derive(Clone, Copy, Debug, Default, PartialEq, Eq, Hash)]
 pub struct Task {
     /// What is drawn.
@@ -320,7 +321,7 @@ pub struct Task {
     pub destination: Destination,
     /// Where it is drawn.
     pub output: Surface,
-    /// The colour of colour mode: A, R, G, B from the highest byte down.
+    /// The colour of colour mode, and the one that a shaded source starts with: A, R, G, B from the highest byte down.
     pub colour: u32,
     /// How it is blended.
     pub blending: Blending,

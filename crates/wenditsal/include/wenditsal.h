@@ -123,7 +123,7 @@ extern "C" {
  *   27  task end   0x00000002  span not wholly in the client's window, or, for what is read, wholly in common
  *   28  task end   0x00000002  source and output meet; blending, destination and output meet, unless address, stride and format are equal
  * "Task end" is the header of the group that ends the task. A span runs from the address over stride x (height - 1) + width x bytes a pixel.
- * Two surfaces meet if a byte lies in rows of both; where their strides differ, if their spans share one. But in buffer mode the source has no
+ * Two surfaces meet if a byte lies in rows of both; where their strides differ, if their spans share one. In modes 1 to 3 the source has no
  * stride, format or span. A faultless batch has status tasks x 65,536 + 1, fault 0 and place 0.
  */
 #define WENDITSAL_ARGB8888 0x00
@@ -265,8 +265,8 @@ struct wenditsal_destination {
 };
 
 /*
- * A task's fields, each as in its register; any numbers may be handed in. At reset all are 0 but the last three, which are 1, 3 and 1 by
- * WENDITSAL_RESET_SRC_OVER, and 2, 3 and 0 by WENDITSAL_RESET_UNBLENDED.
+ * A task's fields, each as in its register; any numbers may be handed in. At reset all are 0 but source_factor, destination_factor and blend,
+ * which are 1, 3 and 1 by WENDITSAL_RESET_SRC_OVER, and 2, 3 and 0 by WENDITSAL_RESET_UNBLENDED.
  */
 struct wenditsal_fields {
     struct wenditsal_source source;
