@@ -4,13 +4,14 @@ use mathlib.Core.List.{List, [], _∷_, _++_}
 use Prim.Native.Nat.{ℕ, _≤_}
 use lib.ListN.{length}
 use Rattle.record.specs.declared.Batch.{Batch}
-use Rattle.record.specs.Queue.{takenSlots}
+use Rattle.record.specs.Slots.{lowestFree}
+use Rattle.record.specs.Queue.{readySlots}
 use Rattle.record.proofs.Line.{held}
 use Rattle.record.proofs.Rules.{write-newest, write-first, free-room}
 use Rattle.queue.specs.Refusals.{firstRefusal}
 use Rattle.queue.proofs.Refusals.{open-allowed, submit-allowed}
 use Rattle.queue.proofs.Kept.{few-taken, open-windows}
-use Rattle.queue.proofs.Submitted.{submit-waiting, submit-held}
+use Rattle.queue.proofs.Submitted.{submit-addable, added-waiting, added-held}
 use Rattle.engine.proofs.Refusals.{run-allowed}
 use Rattle.engine.proofs.Stays.{run-waiting, oldest-at, oldest-words}
 use Rattle.model.specs.Calls.{Setup, Call, opens, submit, run}
@@ -36,17 +37,19 @@ module _ (setup : Setup) (n : ℕ) (s : State) (S : Sound setup n s) where
   unfolding either
   allowed c z = rw (by-number c s, z)
 
-  few : takenSlots (s .engine) ≤ 8
+  few : readySlots (s .engine) ≤ 8
   few = few-taken (s .engine) (S .sized)
 
   submitted : (client : ℕ) (bytes : List ℕ) → firstRefusal (refusalTableOf (submit client bytes) s) ≡ 0 → Submitted client bytes s (performCall (submit client bytes) s .after)
   submitted client bytes z =
       let a = submit-allowed (s .engine) (length (s .ring)) client (length bytes) z in
+      let at : ℕ = lowestFree (s .engine .slots) in
+      let d = submit-addable (s .engine) (S .sized) (length (s .ring)) client (length bytes) a in
       rw (allowed (submit client bytes) z)
       (record {
-        last = submit-waiting (s .engine) (S .sized) (length (s .ring)) client (length bytes) a;
+        last = added-waiting (s .engine) (S .sized) at client (length bytes) d;
         copied =
-            contents-held _ _ ∙ submit-held alone (s .engine) (S .sized) (s .ring) client bytes a
+            contents-held _ _ ∙ added-held alone (s .engine) (S .sized) (s .ring) (a .ring) at client bytes d
             ∙ ap (λ (l : List (List ℕ)). l ++ bytes ∷ []) (sym (contents-held _ _));
       })
 

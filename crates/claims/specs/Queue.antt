@@ -55,8 +55,8 @@ pub record Queue (s : State) : Type 0 where
       Submitted client bytes s (performCall (submit client bytes) s .after)
   -- "Run takes the oldest batch .. frees its slot and ring bytes"
   pub taken : firstRefusal (refusalTableOf run s) ≡ 0 → Taken s (performCall run s .after)
-  -- "free ring bytes are the ring less the waiting lengths"
-  pub free : freeBytes (s .engine) ≡ s .engine .setup .ring - totalLength (waiting (s .engine))
+  -- "free ring bytes are the ring less the waiting lengths", the staged total among them (02, 6)
+  pub free : freeBytes (s .engine) ≡ s .engine .setup .ring - (totalLength (waiting (s .engine)) + s .engine .staged .total)
 
 abbrev pub Promise : Type 0
 Promise = (setup : Setup) (ring : List ℕ) → SetUpAccepted setup → (calls : List Call) (memory : List ℕ) → Queue (finalState setup ring calls memory)

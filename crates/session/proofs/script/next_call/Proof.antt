@@ -1,5 +1,5 @@
 use native.Mathlib.Omega.{arith}
-use Rattle.session.proofs.Parsing.{next-none, next-open, next-submit, next-run, run-read, next-pending, next-unknown}
+use Rattle.session.proofs.Parsing.{next-none, next-open, next-submit, next-run, run-read, next-pending, next-begin, next-piece, next-cancel, next-unknown}
 use borrow.Author.Needs.{needs}
 use Rattle.session.proofs.script.next_call.Statement.{statement}
 use Rattle.session.proofs.script.next_call.Tie as tie
@@ -19,6 +19,15 @@ submit-in-requires c κs = search needs
 pending-in-requires : tie.Need-pending-in-requires
 pending-in-requires c κs = search needs
 
+begin-in-requires : tie.Need-begin-in-requires
+begin-in-requires c κs = search needs
+
+piece-in-requires : tie.Need-piece-in-requires
+piece-in-requires c κs = search needs
+
+cancel-in-requires : tie.Need-cancel-in-requires
+cancel-in-requires c κs = search needs
+
 returns-2 : tie.Need-returns-2
 returns-2 c = rw (next-open (c .before .before .before .before .before .args .bytes .now) (omega arith) (c .before .match .keys1)) (c .open-in .ensures)
 
@@ -32,7 +41,16 @@ returns-5 : tie.Need-returns-5
 returns-5 c = rw (next-pending (c .before .before .before .before .before .args .bytes .now) (omega arith) (c .before .match .keys4)) (c .pending-in .ensures)
 
 returns-6 : tie.Need-returns-6
-returns-6 c = next-unknown (c .before .before .before .before .args .bytes .now) (omega arith) (c .match .rest .0 .0 .0 .1) (c .match .rest .0 .0 .1) (c .match .rest .0 .1) (c .match .rest .1)
+returns-6 c = rw (next-begin (c .before .before .before .before .before .args .bytes .now) (omega arith) (c .before .match .keys5)) (c .begin-in .ensures)
+
+returns-7 : tie.Need-returns-7
+returns-7 c = rw (next-piece (c .before .before .before .before .before .args .bytes .now) (omega arith) (c .before .match .keys6)) (c .piece-in .ensures)
+
+returns-8 : tie.Need-returns-8
+returns-8 c = rw (next-cancel (c .before .before .before .before .before .args .bytes .now) (omega arith) (c .before .match .keys7)) (c .cancel-in .ensures)
+
+returns-9 : tie.Need-returns-9
+returns-9 c = next-unknown (c .before .before .before .before .args .bytes .now) (omega arith) (c .match .rest .0 .0 .0 .0 .0 .0 .1) (c .match .rest .0 .0 .0 .0 .0 .1) (c .match .rest .0 .0 .0 .0 .1) (c .match .rest .0 .0 .0 .1) (c .match .rest .0 .0 .1) (c .match .rest .0 .1) (c .match .rest .1)
 
 pub next-call-spec : {M : Type 1} → statement M
 next-call-spec =
@@ -43,8 +61,14 @@ next-call-spec =
     open-in-requires
     submit-in-requires
     pending-in-requires
+    begin-in-requires
+    piece-in-requires
+    cancel-in-requires
     returns-2
     returns-3
     returns-4
     returns-5
-    returns-6)
+    returns-6
+    returns-7
+    returns-8
+    returns-9)

@@ -1,12 +1,13 @@
 use mathlib.Core.Path.{refl}
 use native.Mathlib.Omega.{arith}
-use Rattle.session.proofs.Parsing.{submit-short, submit-read}
+use Rattle.model.specs.Calls.{submit}
+use Rattle.session.proofs.Parsing.{bytes-short, submit-read}
 use borrow.Author.Needs.{needs}
 use Rattle.session.proofs.script.submit_in.Statement.{statement}
 use Rattle.session.proofs.script.submit_in.Tie as tie
 
 returns : tie.Need-returns
-returns c = submit-short (c .before .before .args .bytes .now) (omega (arith, c .if1 .taken))
+returns c = bytes-short (c .before .before .args .bytes .now) submit (omega (arith, c .if1 .taken))
 
 read-le32-requires : tie.Need-read-le32-requires
 read-le32-requires c κs = search needs
@@ -18,7 +19,7 @@ sub-if2 : tie.Need-sub-if2
 sub-if2 c = search needs
 
 returns-2 : tie.Need-returns-2
-returns-2 c = submit-short (c .before .before .before .before .args .bytes .now) (omega (arith, c .before .read-le32 .ensures))
+returns-2 c = bytes-short (c .before .before .before .before .args .bytes .now) submit (omega (arith, c .before .read-le32 .ensures))
 
 shared-slice-read-client : tie.Need-shared-slice-read-client
 shared-slice-read-client c = search needs
