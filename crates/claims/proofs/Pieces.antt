@@ -1,8 +1,8 @@
 -- A piece, if it is not refused, answers as the model does and leaves what it leaves: in the ring it is as if all the bytes so far were copied in at once.
 use mathlib.Core.Path.{_≡_, refl, ap, sym, subst, _∙_}
-use mathlib.Core.List.{List, [], _∷_, _++_}
+use mathlib.Core.List.{List, _++_}
 use mathlib.Core.Bool.{Bool, true, false, cond}
-use Prim.Native.Nat.{ℕ, suc, _+_, _-_, _%_, _≤_}
+use Prim.Native.Nat.{ℕ, suc, _+_, _-_, _%_}
 use native.Mathlib.Nat.{add-zero}
 use native.Mathlib.Omega.{arith}
 use lib.ListN.{length, length-append}
@@ -13,10 +13,11 @@ use Rattle.ring.specs.Copied.{copiedIn}
 use Rattle.ring.proofs.Wrapped.{wrapped-in, wrapped-below}
 use Rattle.ring.proofs.Copied.{length-copied, segment-copied}
 use Rattle.record.specs.declared.Setup.{Setup as Numbers}
+use Rattle.record.specs.declared.Batch.{Batch}
 use Rattle.record.specs.declared.Staged.{Staged}
 use Rattle.record.specs.declared.Record.{Record}
 use Rattle.record.specs.Slots.{totalLength}
-use Rattle.record.specs.Staged.{noStaged, isIdle, missingBytes}
+use Rattle.record.specs.Staged.{noStaged, missingBytes}
 use Rattle.record.specs.Queue.{readyBytes, writeOffset, waiting}
 use Rattle.record.specs.Rules.{valid}
 use Rattle.record.proofs.Line.{held, held-kept}
@@ -24,7 +25,7 @@ use Rattle.record.proofs.Pieces.{copied-behind}
 use Rattle.record.proofs.Rules.{sum-waiting, ready-within}
 use Rattle.queue.specs.declared.Answer.{Answer as Told}
 use Rattle.queue.specs.declared.Answer.the-variants.{Accepted, Missing}
-use Rattle.queue.specs.Calls.{newBatch, withBatch, withStaged, more, isLast, pieceOffset, afterPiece}
+use Rattle.queue.specs.Calls.{newBatch, withBatch, withStaged, more, isLast, pieceOffset}
 use Rattle.queue.proofs.Refusals.{PieceAllowed, piece-allowed}
 use Rattle.queue.proofs.Calls.{more-record}
 use Rattle.queue.proofs.Kept.{few-taken, staged-sized}
@@ -34,9 +35,10 @@ use Rattle.model.specs.Calls.{Setup, piece, accepted, missing}
 use Rattle.model.specs.State.{Staging, staging}
 use Rattle.model.specs.Model.{Step, plain, enqueue, pieceStep, effect, withStaged as withStagedM}
 use Rattle.claims.specs.ModelProperties.{batchSemantics}
-use Rattle.claims.specs.Engine.{State, mkState, CallResult, pieceTold}
+use Rattle.claims.specs.Engine.{State, mkState, pieceTold}
+use Rattle.claims.specs.Queue.{bytesSoFar}
 use Rattle.claims.proofs.Cases.{number, done}
-use Rattle.claims.proofs.Seen.{seenBatch, seenWaiting}
+use Rattle.claims.proofs.Seen.{seenBatch}
 use Rattle.claims.proofs.Related.{seen, seenStaging, none-seen, some-seen, facts, staged-long, Sound, Related}
 use Rattle.claims.proofs.Steps.{Alike}
 
@@ -50,30 +52,27 @@ by-last setup n false told told′ engine engine′ ring memory t t′ h k = k r
 
 module _ (setup : Setup) (n : ℕ) (s : State) (S : Sound setup n s) (count : ℕ) (next : s .engine .next ≡ count % 4294967296)
     (client : ℕ) (bytes : List ℕ) (z : number (piece client bytes) s ≡ 0) where
-  abbrev e : Record
+  abbrev pub e : Record
   e = s .engine
 
-  abbrev g : Staged
+  abbrev pub g : Staged
   g = e .staged
 
-  may : PieceAllowed e (length (s .ring)) client (length bytes)
+  pub may : PieceAllowed e (length (s .ring)) client (length bytes)
   may = piece-allowed e (length (s .ring)) client (length bytes) z
 
   -- the bytes that have come, and with the piece
-  abbrev before : List ℕ
-  before = segment (s .ring) (writeOffset e) (g .received)
-
-  abbrev all : List ℕ
-  all = before ++ bytes
+  abbrev pub all : List ℕ
+  all = bytesSoFar s ++ bytes
 
   same : n ≡ setup .ring
   same = sym (S .long) ∙ may .ring ∙ ap (λ (x : Numbers). x .ring) (S .numbers)
 
-  long-all : length all ≡ g .received + length bytes
-  long-all = length-append before bytes ∙ ap (λ (x : ℕ). x + length bytes) (staged-long setup n s S same)
+  pub long-all : length all ≡ g .received + length bytes
+  long-all = length-append (bytesSoFar s) bytes ∙ ap (λ (x : ℕ). x + length bytes) (staged-long setup n s S same)
 
   -- in the ring the piece is as if all had been copied in at once
-  copied : copiedIn (s .ring) (pieceOffset e) bytes ≡ copiedIn (s .ring) (writeOffset e) all
+  pub copied : copiedIn (s .ring) (pieceOffset e) bytes ≡ copiedIn (s .ring) (writeOffset e) all
   copied =
       let v = facts setup n s S in
       let u = may .own .unfinished in
@@ -81,10 +80,10 @@ module _ (setup : Setup) (n : ℕ) (s : State) (S : Sound setup n s) (count : �
       let below = wrapped-below (e .setup .ring) (e .read + readyBytes e) (omega (arith, v .numbers .below)) in
       rw (may .ring) at (copied-behind (s .ring) (writeOffset e) (g .received) bytes (omega (arith, may .ring)) (omega (arith, may .ring, may .fits, u .room)))
 
-  abbrev filled : List ℕ
+  abbrev pub filled : List ℕ
   filled = copiedIn (s .ring) (writeOffset e) all
 
-  lies : LiesInRing (s .ring) (writeOffset e) (length all)
+  pub lies : LiesInRing (s .ring) (writeOffset e) (length all)
   lies =
       let v = facts setup n s S in
       let ready = ready-within e v (few-taken e (S .sized)) in
@@ -94,13 +93,27 @@ module _ (setup : Setup) (n : ℕ) (s : State) (S : Sound setup n s) (count : �
   long-filled : length filled ≡ n
   long-filled = length-copied (s .ring) (writeOffset e) all lies ∙ S .long
 
+  -- the waiting batches keep their bytes; f puts a batch and its bytes together
+  pub kept : {A : Type 0} (f : Batch → List ℕ → A) → held f filled (waiting e) ≡ held f (s .ring) (waiting e)
+  kept f =
+      let v = facts setup n s S in
+      let u = may .own .unfinished in
+      let bytes-ready : readyBytes e ≡ totalLength (waiting e) = sum-waiting e v (few-taken e (S .sized)) (λ b. b .length) in
+      let first : wrapOffset (length (s .ring)) (e .read + 0) ≡ e .read = rw add-zero (wrapped-in (length (s .ring)) (e .read) (omega (arith, may .ring, v .numbers .below))) in
+      rw (may .ring) at (held-kept f (s .ring) (e .read) 0 (readyBytes e) (waiting e) all (omega (arith, may .ring, v .numbers .below)) (omega arith)
+      (omega (arith, may .ring, long-all, may .fits, u .room)) (rw (first, may .ring) (v .ends)))
+
+  -- and the ring holds all the bytes that have come
+  pub come : segment filled (writeOffset e) (g .received + length bytes) ≡ all
+  come = ap (segment filled (writeOffset e)) (sym long-all) ∙ segment-copied (s .ring) (writeOffset e) all lies
+
   -- ---- the last
 
   module _ (last : isLast g (length bytes) ≡ true) where
-    whole : length all ≡ g .total
+    pub whole : length all ≡ g .total
     whole = long-all ∙ eqb-true (g .received + length bytes) (g .total) last
 
-    addable : Addable e (g .slot) (g .client) (length all)
+    pub addable : Addable e (g .slot) (g .client) (length all)
     addable = subst (λ (t : ℕ). Addable e (g .slot) (g .client) t) (sym whole) (staged-addable e client (may .own))
 
     abbrev ready : Record
@@ -159,27 +172,15 @@ module _ (setup : Setup) (n : ℕ) (s : State) (S : Sound setup n s) (count : �
       long = long-filled;
     }
 
-    -- the waiting batches keep their bytes
-    on-held : seenWaiting filled (waiting e) ≡ seenWaiting (s .ring) (waiting e)
-    on-held =
-        let v = facts setup n s S in
-        let u = may .own .unfinished in
-        let bytes-ready : readyBytes e ≡ totalLength (waiting e) = sum-waiting e v (few-taken e (S .sized)) (λ b. b .length) in
-        let first : wrapOffset (length (s .ring)) (e .read + 0) ≡ e .read = rw add-zero (wrapped-in (length (s .ring)) (e .read) (omega (arith, may .ring, v .numbers .below))) in
-        rw (may .ring) at (held-kept seenBatch (s .ring) (e .read) 0 (readyBytes e) (waiting e) all (omega (arith, may .ring, v .numbers .below)) (omega arith)
-        (omega (arith, may .ring, long-all, may .fits, u .room)) (rw (first, may .ring) (v .ends)))
-
     -- and the staged bytes are all that have come
     on-seen : seenStaging filled on ≡ staging (g .client) (g .total) all
     unfolding withStaged
     on-seen =
-        some-seen filled on (may .own .some)
-        ∙ ap (λ (k : ℕ). staging (g .client) (g .total) (segment filled (writeOffset e) k)) (sym long-all)
-        ∙ ap (staging (g .client) (g .total)) (segment-copied (s .ring) (writeOffset e) all lies)
+        some-seen filled on (may .own .some) ∙ ap (staging (g .client) (g .total)) come
 
     on-related : Related setup n (withStagedM (seen count s) (staging (g .client) (g .total) all)) (mkState on filled (s .memory))
     unfolding withStaged
-    on-related = record { sound = on-sound; next = next; is = rw (on-seen, on-held) }
+    on-related = record { sound = on-sound; next = next; is = rw (on-seen, kept seenBatch) }
 
     on-done : Alike setup n
         (record { answer = missing (missingBytes (more g (length bytes))); after = mkState on (copiedIn (s .ring) (pieceOffset e) bytes) (s .memory) })

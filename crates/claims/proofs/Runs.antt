@@ -71,7 +71,7 @@ module _ (setup : Setup) (n : ℕ) (s : State) (S : Sound setup n s) (count : �
   run-next = next
 
   -- the staged submission lies where it lay
-  run-offset : writeOffset (withoutOldest (s .engine)) ≡ writeOffset (s .engine)
+  pub run-offset : writeOffset (withoutOldest (s .engine)) ≡ writeOffset (s .engine)
   unfolding withoutOldest sumOver
   run-offset =
       let e : Record = s .engine in

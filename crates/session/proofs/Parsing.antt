@@ -1,6 +1,7 @@
 -- What each test on a script's bytes says of the call that they begin with.
 use mathlib.Core.Path.{_≡_, refl}
 use mathlib.Core.List.{List, [], _∷_}
+use mathlib.Core.Bool.{Bool, true, false, cond}
 use Prim.Native.Nat.{ℕ, _+_, _-_, _≤_, _<_}
 use native.Mathlib.Omega.{arith}
 use lib.ListN.{length, take, drop, getD}
@@ -31,17 +32,19 @@ module _ (bytes : List ℕ) where
       parseBytes call bytes ≡ parsed (call (getD bytes 1 0) (take (le32At bytes 2) (drop 6 bytes))) (drop (6 + le32At bytes 2) bytes)
   bytes-long call h = rw (le-ltb (length bytes) (6 + le32At bytes 2) h)
 
-  pub submit-read : (client size : ℕ) → 6 + size ≤ length bytes → client ≡ getD bytes 1 0 → size ≡ le32At bytes 2 →
-      ParsesAs bytes (parseBytes submit bytes) (Begins (record { request = Submit client 6 (6 + size); size = 6 + size }))
-  submit-read client size h e f =
-      let batch : 6 + size - 6 ≡ size = omega arith in
-      record { means = rw (bytes-long submit (rw f at h), batch, e, f); within = (h, (omega arith, h)) }
+  pub bytes-read : (whole : Bool) (client size : ℕ) → 6 + size ≤ length bytes → client ≡ getD bytes 1 0 → size ≡ le32At bytes 2 →
+      ParsesAs bytes (parseBytes (cond whole submit piece) bytes)
+      (Begins (record { request = cond whole (Submit client 6 (6 + size)) (Piece client 6 (6 + size)); size = 6 + size }))
+  bytes-read whole client size h e f = go whole
+    where
+      batch : 6 + size - 6 ≡ size
+      batch = omega arith
 
-  pub piece-read : (client size : ℕ) → 6 + size ≤ length bytes → client ≡ getD bytes 1 0 → size ≡ le32At bytes 2 →
-      ParsesAs bytes (parseBytes piece bytes) (Begins (record { request = Piece client 6 (6 + size); size = 6 + size }))
-  piece-read client size h e f =
-      let batch : 6 + size - 6 ≡ size = omega arith in
-      record { means = rw (bytes-long piece (rw f at h), batch, e, f); within = (h, (omega arith, h)) }
+      go : (whole : Bool) →
+          ParsesAs bytes (parseBytes (cond whole submit piece) bytes)
+          (Begins (record { request = cond whole (Submit client 6 (6 + size)) (Piece client 6 (6 + size)); size = 6 + size }))
+      go true = record { means = rw (bytes-long submit (rw f at h), batch, e, f); within = (h, (omega arith, h)) }
+      go false = record { means = rw (bytes-long piece (rw f at h), batch, e, f); within = (h, (omega arith, h)) }
 
   pub begin-short : length bytes < 6 → ParsesAs bytes (parseBegin bytes) End
   begin-short h = record { means = rw (lt-ltb (length bytes) 6 h); within = tt }

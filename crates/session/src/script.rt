@@ -1,4 +1,5 @@
 // The calls of a script, one at a time.
+ghost use mathlib.Core.Bool.{cond};
 ghost use Rattle.model.specs.Calls.{submit, pending, piece, cancel};
 ghost use Rattle.session.specs.Script.{parseOpen, parseBytes, parseClient, parseBegin, parseCall};
 ghost use Rattle.session.specs.Parsing.{ParsesAs};
@@ -40,9 +41,9 @@ fn open_in(bytes: &[u8]) -> Next
     })
 }
 
-// Submit: client, length and batch after the opcode. The length is read only where it is there.
-fn submit_in(bytes: &[u8]) -> Next
-    ensures { λ r. ⌜ ParsesAs (now (bytes .entry)) (parseBytes submit (now (bytes .entry))) r ⌝ }
+// Submit, if `whole`, or a piece: client, length and bytes after the opcode. The length is read only where it is there.
+fn bytes_in(bytes: &[u8], whole: bool) -> Next
+    ensures { λ r. ⌜ ParsesAs (now (bytes .entry)) (parseBytes (cond whole submit piece) (now (bytes .entry))) r ⌝ }
 {
     if bytes.len() < 6 {
         return Next::End;
@@ -53,8 +54,13 @@ fn submit_in(bytes: &[u8]) -> Next
     }
     let client = bytes[1] as u32;
     let end = 6 + size;
+    let request = if whole {
+        Request::Submit(client, 6, end)
+    } else {
+        Request::Piece(client, 6, end)
+    };
     Next::Call(Found {
-        request: Request::Submit(client, 6, end),
+        request: request,
         size: end,
     })
 }
@@ -88,25 +94,6 @@ fn begin_in(bytes: &[u8]) -> Next
     })
 }
 
-// A piece: as submit.
-fn piece_in(bytes: &[u8]) -> Next
-    ensures { λ r. ⌜ ParsesAs (now (bytes .entry)) (parseBytes piece (now (bytes .entry))) r ⌝ }
-{
-    if bytes.len() < 6 {
-        return Next::End;
-    }
-    let size = word::read_le32(bytes, 2) as usize;
-    if bytes.len() - 6 < size {
-        return Next::End;
-    }
-    let client = bytes[1] as u32;
-    let end = 6 + size;
-    Next::Call(Found {
-        request: Request::Piece(client, 6, end),
-        size: end,
-    })
-}
-
 // Cancel: the client after the opcode.
 fn cancel_in(bytes: &[u8]) -> Next
     ensures { λ r. ⌜ ParsesAs (now (bytes .entry)) (parseClient cancel (now (bytes .entry))) r ⌝ }
@@ -130,14 +117,14 @@ pub fn next_call(bytes: &[u8]) -> Next
     }
     match bytes[0] {
         0 => open_in(bytes),
-        1 => submit_in(bytes),
+        1 => bytes_in(bytes, true),
         2 => Next::Call(Found {
             request: Request::Run,
             size: 1,
         }),
         3 => pending_in(bytes),
         4 => begin_in(bytes),
-        5 => piece_in(bytes),
+        5 => bytes_in(bytes, false),
         6 => cancel_in(bytes),
         _ => Next::End,
     }
