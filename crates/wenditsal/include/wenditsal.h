@@ -79,6 +79,8 @@ extern "C" {
 #define WENDITSAL_OTHER_LENGTH 10
 #define WENDITSAL_BAD_ENGINE 11
 #define WENDITSAL_SHORT_BUFFER 12
+#define WENDITSAL_HAND_OVER_OPEN 13
+#define WENDITSAL_NO_HAND_OVER 14
 #define WENDITSAL_BAD_SCORE 15
 #define WENDITSAL_FORBIDDEN_FIELD 24
 
@@ -190,7 +192,7 @@ uint32_t wenditsal_open(uint8_t *engine, size_t engine_size, uint32_t start, uin
 /*
  * Copies a client's batch into the ring behind the newest one and makes it ready. Answers its ticket in *ticket: 0, 1, 2, .. in the order of
  * submission, going on from 4,294,967,295 to 0. What the batch says is not looked at until it is run, and it may be changed or freed at once.
- * Refusals: 11, 10, 5, 6, 7, 8.
+ * Refusals: 11, 10, 5, 13, 6, 7, 8.
  */
 uint32_t wenditsal_submit(
     uint8_t *engine,
