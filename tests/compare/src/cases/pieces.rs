@@ -68,7 +68,7 @@ fn begins(trials: &mut Trials) -> Agreed {
 fn hand_overs(trials: &mut Trials) -> Agreed {
     for (read, total) in [(0, 4), (60, 8), (124, 12), (0, 128), (124, 128), (100, 64)] {
         for so_far in 0..total {
-            let mut record = bench::record(NUMBERS, &WINDOWS, read, 7);
+            let mut record = bench::record(NUMBERS, &WINDOWS[..3], read, 7);
             record.unfinished = Some(Unfinished { client: 2, slot: so_far % SLOTS as u64, total, so_far });
             let buffers = bench::buffers(&record);
             for length in (0..=(total - so_far) as usize + 3).chain([140]) {
@@ -84,7 +84,7 @@ fn hand_overs(trials: &mut Trials) -> Agreed {
                 trials.try_call(&Call::Submit { client, batch: &[9; 4] }, &buffers)?;
                 trials.try_call(&Call::Submit { client, batch: &[] }, &buffers)?;
             }
-            trials.try_call(&Call::Open { start: 92, length: 4 }, &buffers)?;
+            trials.try_call(&Call::Open { start: 52, length: 40 }, &buffers)?;
             trials.try_call(&Call::Run, &buffers)?;
         }
     }
