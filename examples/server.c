@@ -1,6 +1,6 @@
 /*
- * A small server's loop in C. Four clients hand in batches, the server submits them as they come, and runs them when the queue is full or the input
- * ends. It keeps one engine from the first input to the last, and prints a line for each batch.
+ * A small server's loop in C. Four clients hand in batches, the server hands them over piece by piece as they come, and runs them when the queue is
+ * full or the input ends. It keeps one engine from the first input to the last, and prints a line for each batch.
  *
  *     server [--picture OUT.ppm ADDRESS STRIDE WIDTH HEIGHT FORMAT] [INPUT ..]
  *
@@ -15,7 +15,7 @@
 #include <stdlib.h>
 #include <string.h>
 
-enum { RING = 32768, MEMORY = 65536, COMMON = 16384, WINDOW = 12288, CLIENTS = 4, LONGEST_RECORD = 32769 };
+enum { RING = 32768, MEMORY = 65536, COMMON = 16384, WINDOW = 12288, CLIENTS = 4, LONGEST_RECORD = 32769, PIECE = 256 };
 
 struct server {
     uint8_t engine[WENDITSAL_ENGINE_SIZE];
@@ -57,25 +57,54 @@ static void run_all(struct server *server)
     }
 }
 
-static uint32_t submit(struct server *server, uint32_t client, const uint8_t *batch, size_t size)
+static uint32_t begin(struct server *server, uint32_t client, size_t size)
 {
-    uint32_t ticket;
-
-    return wenditsal_submit(
-        server->engine, sizeof server->engine, server->ring, sizeof server->ring, client, batch, size, &ticket);
+    return wenditsal_begin(server->engine, sizeof server->engine, server->ring, sizeof server->ring, client, size);
 }
 
-/* Submits a batch. One that finds no slot or no room waits until older ones are run; lines come in the order of the batches. */
-static void serve(struct server *server, uint32_t client, const uint8_t *batch, size_t size)
+/* Begins a batch. One that finds no slot or no room waits until older ones are run. */
+static uint32_t begin_when_free(struct server *server, uint32_t client, size_t size)
 {
-    uint32_t refusal = submit(server, client, batch, size);
+    uint32_t refusal = begin(server, client, size);
 
     while ((refusal == WENDITSAL_NO_SLOT || refusal == WENDITSAL_NO_ROOM) && run_one(server) == 0)
-        refusal = submit(server, client, batch, size);
+        refusal = begin(server, client, size);
+    return refusal;
+}
+
+static uint32_t hand_over(struct server *server, uint32_t client, const uint8_t *piece, size_t size)
+{
+    struct wenditsal_progress progress;
+
+    return wenditsal_piece(
+        server->engine, sizeof server->engine, server->ring, sizeof server->ring, client, piece, size, &progress);
+}
+
+/*
+ * Hands a batch over as it comes, a piece at a time; a server that has a whole batch at hand submits it. One that is cut short is dropped again: a
+ * cancel that is refused changes nothing. Answers whether all of it came. Lines come in the order of the batches.
+ */
+static int serve(struct server *server, uint32_t client, size_t size, FILE *input)
+{
+    uint8_t piece[PIECE];
+    uint32_t refusal = begin_when_free(server, client, size);
+
+    while (size > 0) {
+        size_t next = size < sizeof piece ? size : sizeof piece;
+
+        if (fread(piece, 1, next, input) < next) {
+            wenditsal_cancel(server->engine, sizeof server->engine, client);
+            return 0;
+        }
+        if (refusal == 0)
+            refusal = hand_over(server, client, piece, next);
+        size -= next;
+    }
     if (refusal != 0) {
         run_all(server);
         printf("%u - - %u 0\n", (unsigned)client, (unsigned)refusal);
     }
+    return 1;
 }
 
 /* ---- the input */
@@ -83,7 +112,6 @@ static void serve(struct server *server, uint32_t client, const uint8_t *batch, 
 /* Serves the records of an input. Answers what is wrong with a damaged one. */
 static const char *serve_input(struct server *server, FILE *input)
 {
-    static uint8_t body[LONGEST_RECORD];
     uint8_t head[4];
 
     if (fgetc(input) != 1)
@@ -91,17 +119,18 @@ static const char *serve_input(struct server *server, FILE *input)
     for (;;) {
         size_t got = fread(head, 1, sizeof head, input);
         size_t length;
+        int client;
 
         if (got == 0)
             return NULL;
         if (got < sizeof head)
             return "cut record";
         length = (size_t)head[0] << 24 | (size_t)head[1] << 16 | (size_t)head[2] << 8 | (size_t)head[3];
-        if (length == 0 || length > sizeof body)
+        if (length == 0 || length > LONGEST_RECORD)
             return "bad record";
-        if (fread(body, 1, length, input) < length)
+        client = fgetc(input);
+        if (client == EOF || !serve(server, (uint32_t)client, length - 1, input))
             return "cut record";
-        serve(server, body[0], body + 1, length - 1);
     }
 }
 

@@ -1,5 +1,5 @@
-//! A small server's loop in Rust. Four clients hand in batches, the server submits them as they come, and runs them when the
-//! queue is full or the input ends. It keeps one engine from the first input to the last, and prints a line for each batch.
+//! A small server's loop in Rust. Four clients hand in batches, the server hands them over piece by piece as they come, and
+//! runs them when the queue is full or the input ends. It keeps one engine from the first input to the last, and prints a line for each batch.
 //!
 //!     server [--picture OUT.ppm ADDRESS STRIDE WIDTH HEIGHT FORMAT] [INPUT ..]
 //!
@@ -15,6 +15,7 @@ const MEMORY: usize = 65536;
 const COMMON: u32 = 16384;
 const WINDOW: u32 = 12288;
 const LONGEST_RECORD: usize = 32769;
+const PIECE: usize = 256;
 
 struct Server<W: Write> {
     engine: Engine,
@@ -55,18 +56,37 @@ impl<W: Write> Server<W> {
         Ok(())
     }
 
-    /// Submits a batch. One that finds no slot or no room waits until older ones are run; lines come in the order of the
-    /// batches.
-    fn serve(&mut self, client: u8, batch: &[u8]) -> io::Result<()> {
-        let mut answer = self.engine.submit(client.into(), batch);
+    /// Begins a batch. One that finds no slot or no room waits until older ones are run.
+    fn begin(&mut self, client: u32, size: usize) -> io::Result<Result<(), Refusal>> {
+        let mut answer = self.engine.begin(client, size);
         while matches!(answer, Err(Refusal::NoSlot | Refusal::NoRoom)) && self.run_one()? {
-            answer = self.engine.submit(client.into(), batch);
+            answer = self.engine.begin(client, size);
+        }
+        Ok(answer)
+    }
+
+    /// Hands a batch over as it comes, a piece at a time; a server that has a whole batch at hand submits it. One that is cut
+    /// short is dropped again. Answers whether all of it came. Lines come in the order of the batches.
+    fn serve(&mut self, client: u32, size: usize, input: &mut impl Read) -> io::Result<bool> {
+        let mut answer = self.begin(client, size)?;
+        let mut left = size;
+        while left > 0 {
+            let piece = next(input, left.min(PIECE))?;
+            if piece.is_empty() {
+                // A cancel that is refused changes nothing.
+                let _ = self.engine.cancel(client);
+                return Ok(false);
+            }
+            if answer.is_ok() {
+                answer = self.engine.piece(client, &piece).map(|_| ());
+            }
+            left -= piece.len();
         }
         if let Err(refusal) = answer {
             self.run_all()?;
             writeln!(self.lines, "{client} - - {} 0", refusal.number())?;
         }
-        Ok(())
+        Ok(true)
     }
 
     /// Serves the records of an input. Answers what is wrong with a damaged one.
@@ -86,10 +106,12 @@ impl<W: Write> Server<W> {
             if length == 0 || length > LONGEST_RECORD {
                 return Ok(Some("bad record"));
             }
-            let body = next(input, length)?;
-            match body.split_first() {
-                Some((client, batch)) if body.len() == length => self.serve(*client, batch)?,
-                _ => return Ok(Some("cut record")),
+            let whole = match next(input, 1)?.first() {
+                Some(client) => self.serve((*client).into(), length - 1, input)?,
+                None => false,
+            };
+            if !whole {
+                return Ok(Some("cut record"));
             }
         }
     }

@@ -14,13 +14,13 @@ pub enum Refusal {
     FourClients,
     /// 4, by open: the window is empty, past memory's end, or shares a byte with common or another window.
     BadWindow,
-    /// 5, by submit and pending: there is no such client.
+    /// 5, by submit, begin, piece, cancel and pending: there is no such client.
     NoClient,
-    /// 6, by submit: the batch's length is 0, no multiple of 4, or over the ring length.
+    /// 6, by submit and begin: the batch's length is 0, no multiple of 4, or over the ring length.
     BatchLength,
-    /// 7, by submit: no slot is free, eight batches are ready.
+    /// 7, by submit and begin: no slot is free, eight batches are ready.
     NoSlot,
-    /// 8, by submit: the ring has fewer free bytes than the batch.
+    /// 8, by submit and begin: the ring has fewer free bytes than the batch.
     NoRoom,
     /// 9, by run: no batch is ready.
     NothingReady,
@@ -30,6 +30,10 @@ pub enum Refusal {
     BadEngine,
     /// 12, by the library's encoder: a buffer under 80 bytes, or 100 with steps. [`Task::encode`](crate::Task::encode) never lends one.
     ShortBuffer,
+    /// 13, by submit and begin: a batch is being handed over by pieces.
+    HandOverOpen,
+    /// 14, by piece and cancel: this client hands over no batch, or the piece is longer than what is left of it.
+    NoHandOver,
     /// 15, by [`encode_tint`](crate::encode_tint): the score is NaN or outside 0 to 1.
     BadScore,
     /// 24, by [`Task::encode`](crate::Task::encode): a field that its register's rule forbids.
@@ -39,7 +43,7 @@ pub enum Refusal {
 }
 
 /// Every refusal that has a name, by its number.
-const REFUSALS: [(u32, Refusal); 14] = [
+const REFUSALS: [(u32, Refusal); 16] = [
     (1, Refusal::RingLength),
     (2, Refusal::MemoryLength),
     (3, Refusal::FourClients),
@@ -52,6 +56,8 @@ const REFUSALS: [(u32, Refusal); 14] = [
     (10, Refusal::OtherLength),
     (11, Refusal::BadEngine),
     (12, Refusal::ShortBuffer),
+    (13, Refusal::HandOverOpen),
+    (14, Refusal::NoHandOver),
     (15, Refusal::BadScore),
     (24, Refusal::ForbiddenField),
 ];
@@ -92,6 +98,8 @@ impl Refusal {
             Refusal::OtherLength => "ring or memory is not of the length that was set up",
             Refusal::BadEngine => "no engine record, or one that breaks a rule",
             Refusal::ShortBuffer => "a buffer under 80 bytes, or 100 with steps",
+            Refusal::HandOverOpen => "a batch is being handed over by pieces",
+            Refusal::NoHandOver => "this client hands over no batch, or the piece is longer than what is left of it",
             Refusal::BadScore => "the score is NaN or outside 0 to 1",
             Refusal::ForbiddenField => "a field that its register's rule forbids",
             Refusal::Other(_) => "a reason without a name here",
@@ -106,6 +114,15 @@ impl fmt::Display for Refusal {
 }
 
 impl std::error::Error for Refusal {}
+
+/// What a piece of a batch answers.
+#[derive(Clone, Copy, Debug, PartialEq, Eq, Hash)]
+pub enum Progress {
+    /// So many bytes are still to come.
+    Missing(u32),
+    /// It was the last: the batch is ready, with this ticket.
+    Ready(u32),
+}
 
 /// Why a batch that was run ended before its end: the tasks before the fault are drawn, no others.
 #[derive(Clone, Copy, Debug, PartialEq, Eq, Hash)]

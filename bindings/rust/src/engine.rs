@@ -1,6 +1,6 @@
 //! An engine with its record, ring and memory.
-use crate::answer::{Completion, Refusal};
-use crate::library::{self, CompletionFields};
+use crate::answer::{Completion, Progress, Refusal};
+use crate::library::{self, CompletionFields, ProgressFields};
 
 /// How many bytes an engine record has.
 pub const ENGINE_SIZE: usize = 272;
@@ -115,12 +115,52 @@ impl Engine {
     /// ```
     ///
     /// # Errors
-    /// [`Refusal::NoClient`], [`Refusal::BatchLength`], [`Refusal::NoSlot`], [`Refusal::NoRoom`]. The last two pass when
-    /// batches are run.
+    /// [`Refusal::NoClient`], [`Refusal::HandOverOpen`], [`Refusal::BatchLength`], [`Refusal::NoSlot`], [`Refusal::NoRoom`]. The
+    /// last two pass when batches are run.
     pub fn submit(&mut self, client: u32, batch: &[u8]) -> Result<u32, Refusal> {
         let mut ticket = 0;
         Refusal::check(library::submit(&mut self.record, &mut self.ring, client, batch, &mut ticket))?;
         Ok(ticket)
+    }
+
+    /// Begins a batch of `total` bytes that the client hands over by pieces. It holds its slot and its room in the ring from now on.
+    ///
+    /// ```
+    /// # use wenditsal::{Engine, Progress, Refusal, ResetRule, Setup};
+    /// # let mut engine = Engine::new(Setup { ring: 128, memory: 1024, common: 0, reset: ResetRule::SrcOver })?;
+    /// let client = engine.open(0, 1024)?;
+    /// engine.begin(client, 80)?;
+    /// assert_eq!(engine.submit(client, &[0; 4]), Err(Refusal::HandOverOpen));
+    /// assert_eq!(engine.piece(client, &[0; 81]), Err(Refusal::NoHandOver));
+    /// assert_eq!(engine.piece(client, &[0; 77]), Ok(Progress::Missing(3)));
+    /// assert_eq!(engine.piece(client, &[]), Ok(Progress::Missing(3)));
+    /// assert_eq!(engine.piece(client, &[0; 3]), Ok(Progress::Ready(0)));
+    /// assert_eq!(engine.cancel(client), Err(Refusal::NoHandOver));
+    /// # Ok::<(), Refusal>(())
+    /// ```
+    ///
+    /// # Errors
+    /// As [`submit`](Engine::submit).
+    pub fn begin(&mut self, client: u32, total: usize) -> Result<(), Refusal> {
+        Refusal::check(library::begin(&mut self.record, &self.ring, client, total))
+    }
+
+    /// Copies the next piece of the client's batch into the ring. The piece that brings the last byte makes the batch ready.
+    ///
+    /// # Errors
+    /// [`Refusal::NoClient`], [`Refusal::NoHandOver`].
+    pub fn piece(&mut self, client: u32, piece: &[u8]) -> Result<Progress, Refusal> {
+        let mut progress = ProgressFields::default();
+        Refusal::check(library::piece(&mut self.record, &mut self.ring, client, piece, &mut progress))?;
+        Ok(if progress.last == 0 { Progress::Missing(progress.value) } else { Progress::Ready(progress.value) })
+    }
+
+    /// Drops the client's unfinished batch and frees what it held.
+    ///
+    /// # Errors
+    /// [`Refusal::NoClient`], [`Refusal::NoHandOver`].
+    pub fn cancel(&mut self, client: u32) -> Result<(), Refusal> {
+        Refusal::check(library::cancel(&mut self.record, client))
     }
 
     /// Takes the oldest batch, judges it and draws its tasks, those before a fault too. A faulty batch is no refusal.

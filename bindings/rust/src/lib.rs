@@ -45,7 +45,7 @@ mod engine;
 mod library;
 mod task;
 
-pub use answer::{Completion, Fault, Refusal};
+pub use answer::{Completion, Fault, Progress, Refusal};
 pub use engine::{Engine, ResetRule, Setup, ENGINE_SIZE};
 pub use task::{
     encode_tint, Alpha, AlphaMode, Blending, Destination, Factor, Format, Rule, Source, SourceMode, Steps, Surface, Task,

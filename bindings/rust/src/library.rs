@@ -59,6 +59,14 @@ pub struct CompletionFields {
     pub place: u32,
 }
 
+/// `struct wenditsal_progress` of the header.
+#[repr(C)]
+#[derive(Clone, Copy, Default)]
+pub struct ProgressFields {
+    pub last: u32,
+    pub value: u32,
+}
+
 extern "C" {
     fn wenditsal_set_up(engine: *mut u8, engine_size: usize, ring: usize, memory: usize, common: usize, reset: u32) -> u32;
     fn wenditsal_open(engine: *mut u8, engine_size: usize, start: u32, length: u32, client: *mut u32) -> u32;
@@ -72,6 +80,25 @@ extern "C" {
         batch_size: usize,
         ticket: *mut u32,
     ) -> u32;
+    fn wenditsal_begin(
+        engine: *mut u8,
+        engine_size: usize,
+        ring: *const u8,
+        ring_size: usize,
+        client: u32,
+        total: usize,
+    ) -> u32;
+    fn wenditsal_piece(
+        engine: *mut u8,
+        engine_size: usize,
+        ring: *mut u8,
+        ring_size: usize,
+        client: u32,
+        piece: *const u8,
+        piece_size: usize,
+        progress: *mut ProgressFields,
+    ) -> u32;
+    fn wenditsal_cancel(engine: *mut u8, engine_size: usize, client: u32) -> u32;
     fn wenditsal_run(
         engine: *mut u8,
         engine_size: usize,
@@ -129,6 +156,29 @@ pub fn submit(engine: &mut [u8], ring: &mut [u8], client: u32, batch: &[u8], tic
             ticket,
         )
     }
+}
+
+pub fn begin(engine: &mut [u8], ring: &[u8], client: u32, total: usize) -> u32 {
+    unsafe { wenditsal_begin(engine.as_mut_ptr(), engine.len(), ring.as_ptr(), ring.len(), client, total) }
+}
+
+pub fn piece(engine: &mut [u8], ring: &mut [u8], client: u32, piece: &[u8], progress: &mut ProgressFields) -> u32 {
+    unsafe {
+        wenditsal_piece(
+            engine.as_mut_ptr(),
+            engine.len(),
+            ring.as_mut_ptr(),
+            ring.len(),
+            client,
+            piece.as_ptr(),
+            piece.len(),
+            progress,
+        )
+    }
+}
+
+pub fn cancel(engine: &mut [u8], client: u32) -> u32 {
+    unsafe { wenditsal_cancel(engine.as_mut_ptr(), engine.len(), client) }
 }
 
 pub fn run(engine: &mut [u8], ring: &[u8], memory: &mut [u8], completion: &mut CompletionFields) -> u32 {

@@ -15,7 +15,7 @@ use Rattle.record.specs.declared.Batch.{Batch}
 use Rattle.record.specs.declared.Record.{Record}
 use Rattle.record.specs.Setup.{badLength}
 use Rattle.record.specs.Tickets.{ticketBefore, batchOfTicket, inTicketOrder}
-use Rattle.record.specs.Queue.{takenSlots}
+use Rattle.record.specs.Queue.{readySlots}
 use Rattle.record.specs.Rules.{lengthsAllowed, valid}
 use Rattle.record.proofs.Rules.{valid-facts, length-good}
 use Rattle.engine.specs.declared.Outcome.{Outcome}
@@ -40,11 +40,11 @@ pub word-whole : (n : ℕ) → n ≤ 4294967295 → n % 4294967296 ≡ n
 word-whole n small = omega arith
 
 -- a batch of a valid record has no more bytes than the longest ring
-oldest-short : (engine : Record) → valid engine ≡ true → 0 < takenSlots engine → oldest engine .length ≤ 32768
+oldest-short : (engine : Record) → valid engine ≡ true → 0 < readySlots engine → oldest engine .length ≤ 32768
 unfolding inTicketOrder lengthsAllowed
-oldest-short engine ok some = go (takenSlots engine) refl some
+oldest-short engine ok some = go (readySlots engine) refl some
   where
-    go : (n : ℕ) → takenSlots engine ≡ n → 0 < n → oldest engine .length ≤ 32768
+    go : (n : ℕ) → readySlots engine ≡ n → 0 < n → oldest engine .length ≤ 32768
     go zero e h = absurd (omega arith)
     go (suc k) e h =
         let v = valid-facts engine ok in

@@ -1,20 +1,35 @@
 // What the calls answer, as six words: for callers that are not Rattle.
 ghost use mathlib.Core.Path.{_≡_};
 ghost use Rattle.queue.specs.Answers.{refusalNumberOf, valueOf};
-ghost use Rattle.answers.specs.Answers.{shortAnswer, outcomeWords, Small};
+ghost use Rattle.answers.specs.Answers.{shortAnswer, pieceWords, outcomeWords, Small};
 use engine::Outcome;
 use queue::Answer;
 
-// The words of set up, open, submit and pending.
+// The words of set up, open, submit, begin, cancel and pending.
 pub fn answer_words(answer: Answer) -> [u32; 6]
     ensures { λ r. ⌜ r ≡ shortAnswer (refusalNumberOf answer) (valueOf answer) ⌝ }
 {
     match answer {
         Answer::Refused(number) => [number, 0, 0, 0, 0, 0],
-        Answer::Set => [0, 0, 0, 0, 0, 0],
+        Answer::Done => [0, 0, 0, 0, 0, 0],
         Answer::Opened(client) => [0, client, 0, 0, 0, 0],
         Answer::Accepted(ticket) => [0, ticket, 0, 0, 0, 0],
         Answer::Ready(count) => [0, count, 0, 0, 0, 0],
+        Answer::Missing(bytes) => [0, bytes, 0, 0, 0, 0],
+    }
+}
+
+// The words of a piece: 1 with the last one.
+pub fn piece_words(answer: Answer) -> [u32; 6]
+    ensures { λ r. ⌜ r ≡ pieceWords answer ⌝ }
+{
+    match answer {
+        Answer::Refused(number) => [number, 0, 0, 0, 0, 0],
+        Answer::Done => [0, 0, 0, 0, 0, 0],
+        Answer::Opened(client) => [0, 0, client, 0, 0, 0],
+        Answer::Accepted(ticket) => [0, 1, ticket, 0, 0, 0],
+        Answer::Ready(count) => [0, 0, count, 0, 0, 0],
+        Answer::Missing(bytes) => [0, 0, bytes, 0, 0, 0],
     }
 }
 

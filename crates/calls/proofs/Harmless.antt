@@ -1,34 +1,44 @@
 -- A refused call changes nothing.
-use mathlib.Core.Path.{_≡_, refl, sym, ap, _∙_}
+use mathlib.Core.Path.{_≡_, refl, sym, ap, ap₂, _∙_}
 use mathlib.Core.List.{List, [], _∷_}
 use Prim.Native.Nat.{ℕ}
+use lib.ListN.{length}
 use Rattle.reset.specs.declared.ResetRule.{ResetRule}
 use Rattle.record.specs.declared.Window.{Window}
 use Rattle.record.specs.declared.Record.{Record}
 use Rattle.queue.specs.declared.Answer.{Answer}
-use Rattle.queue.specs.declared.Answer.the-variants.{Refused, Set, Opened, Accepted, Ready}
+use Rattle.queue.specs.declared.Answer.the-variants.{Refused, Done, Opened, Accepted, Ready, Missing}
 use Rattle.queue.specs.Answers.{refusalNumberOf, valueOf}
-use Rattle.queue.specs.Calls.{setUpResult, openResult, submitResult, submitNumber, pendingAnswer}
-use Rattle.queue.proofs.Stays.{submit-number, submit-same}
+use Rattle.queue.specs.Calls.{setUpResult, openResult, submitResult, submitNumber, beginResult, pieceResult, pieceNumber, cancelResult, pendingAnswer}
+use Rattle.queue.proofs.Stays.{submit-number, submit-same, piece-number, piece-same}
 use Rattle.engine.specs.declared.Outcome.{Outcome}
 use Rattle.engine.specs.declared.Outcome.the-variants.{Refused as NotRun, Completed}
 use Rattle.engine.specs.Outcome.{runRefusalOf as refusalOf}
 use Rattle.engine.specs.Run.{runResult, runNumber}
 use Rattle.engine.proofs.Stays.{run-number, run-same}
-use Rattle.answers.specs.Answers.{fiveOf}
+use Rattle.answers.specs.Answers.{lastOf, fiveOf}
 use Rattle.record_bytes.specs.Read.{recordOf}
 use Rattle.record_bytes.specs.Written.{bytesOf}
-use Rattle.calls.specs.Calls.{setUpNumber, SetsUp, Told, Opens, Submits, Pends, Runs}
+use Rattle.calls.specs.Calls.{setUpNumber, SetsUp, Told, Opens, Submits, Done as Silent, Begins, HandsOver, Cancels, Pends, Runs}
 use Rattle.calls.specs.Harmless.{Harmless}
 use Rattle.calls.proofs.Telling.{unless-not}
 
 -- what is answered with a refusal
 no-value : (a : Answer) → (refusalNumberOf a ≡ 0 → ⊥) → valueOf a ≡ 0
 no-value (Refused n) h = refl
-no-value Set h = absurd (h refl)
+no-value Done h = absurd (h refl)
 no-value (Opened c) h = absurd (h refl)
 no-value (Accepted t) h = absurd (h refl)
 no-value (Ready n) h = absurd (h refl)
+no-value (Missing n) h = absurd (h refl)
+
+no-last : (a : Answer) → (refusalNumberOf a ≡ 0 → ⊥) → lastOf a ≡ 0
+no-last (Refused n) h = refl
+no-last Done h = refl
+no-last (Opened c) h = refl
+no-last (Accepted t) h = absurd (h refl)
+no-last (Ready n) h = refl
+no-last (Missing n) h = refl
 
 no-five : (o : Outcome) → (refusalOf o ≡ 0 → ⊥) → fiveOf o ≡ 0 ∷ 0 ∷ 0 ∷ 0 ∷ 0 ∷ []
 no-five (NotRun n) h = refl
@@ -38,6 +48,9 @@ told-none : (bytes after : List ℕ) (a : Answer) (number value : ℕ) (bytesNow
 told-none bytes after a number value bytesNow refused t =
     let z : refusalNumberOf a ≡ 0 → ⊥ = λ e. refused (t .number-is ∙ e) in
     (t .value-is ∙ no-value a z, t .record-is ∙ unless-not bytes after (refusalNumberOf a) z)
+
+silent-none : (bytes after : List ℕ) (a : Answer) (number : ℕ) (bytesNow : List ℕ) → (number ≡ 0 → ⊥) → Silent bytes after a number bytesNow → bytesNow ≡ bytes
+silent-none bytes after a number bytesNow refused t = t .record-is ∙ unless-not bytes after (refusalNumberOf a) (λ e. refused (t .number-is ∙ e))
 
 module _ (bytes bytesNow : List ℕ) (number : ℕ) (refused : number ≡ 0 → ⊥) where
   set-up-none : (ring memory common : ℕ) (reset : ResetRule) → SetsUp bytes ring memory common reset number bytesNow → bytesNow ≡ bytes
@@ -56,6 +69,30 @@ module _ (bytes bytesNow : List ℕ) (number : ℕ) (refused : number ≡ 0 → 
       let z : submitNumber r ring client batch ≡ 0 → ⊥ = λ e. refused (s .told .number-is ∙ submit-number r ring client batch ∙ e) in
       (t .0, t .1, s .ring-is ∙ submit-same r ring client batch z .1)
 
+  begin-none : (ring : List ℕ) (client total : ℕ) → Begins bytes ring client total number bytesNow → bytesNow ≡ bytes
+  unfolding Begins
+  begin-none ring client total s =
+      let reply = beginResult (recordOf bytes) (length ring) client total in
+      silent-none bytes (bytesOf (reply .engine)) (reply .answer) number bytesNow refused s
+
+  cancel-none : (client : ℕ) → Cancels bytes client number bytesNow → bytesNow ≡ bytes
+  unfolding Cancels
+  cancel-none client s =
+      let reply = cancelResult (recordOf bytes) client in
+      silent-none bytes (bytesOf (reply .engine)) (reply .answer) number bytesNow refused s
+
+  piece-none : (ring ringNow : List ℕ) (client : ℕ) (piece two : List ℕ) → HandsOver bytes ring client piece number two bytesNow ringNow →
+      (two ≡ 0 ∷ 0 ∷ []) × (bytesNow ≡ bytes) × (ringNow ≡ ring)
+  piece-none ring ringNow client piece two s =
+      let r : Record = recordOf bytes in
+      let a : Answer = pieceResult r ring client piece .answer in
+      let z : refusalNumberOf a ≡ 0 → ⊥ = λ e. refused (s .told .number-is ∙ e) in
+      let n : pieceNumber r ring client piece ≡ 0 → ⊥ = λ e. refused (s .told .number-is ∙ piece-number r ring client piece ∙ e) in (
+        s .told .two-are ∙ ap₂ (λ (x y : ℕ). x ∷ y ∷ []) (no-last a z) (no-value a z),
+        s .told .record-is ∙ unless-not bytes (bytesOf (pieceResult r ring client piece .engine)) (refusalNumberOf a) z,
+        s .ring-is ∙ piece-same r ring client piece n .1,
+      )
+
   run-none : (ring memory memoryNow five : List ℕ) → Runs bytes ring memory number five bytesNow memoryNow →
       (five ≡ 0 ∷ 0 ∷ 0 ∷ 0 ∷ 0 ∷ []) × (bytesNow ≡ bytes) × (memoryNow ≡ memory)
   run-none ring memory memoryNow five s =
@@ -69,4 +106,4 @@ module _ (bytes bytesNow : List ℕ) (number : ℕ) (refused : number ≡ 0 → 
   pending-none client value s = s .value-is ∙ no-value (pendingAnswer (recordOf bytes) client) (λ e. refused (s .number-is ∙ e))
 
   pub harmless : Harmless bytes bytesNow number refused
-  harmless = record { by-set-up = set-up-none; by-open = open-none; by-submit = submit-none; by-run = run-none; by-pending = pending-none }
+  harmless = record { by-set-up = set-up-none; by-open = open-none; by-submit = submit-none; by-begin = begin-none; by-piece = piece-none; by-cancel = cancel-none; by-run = run-none; by-pending = pending-none }

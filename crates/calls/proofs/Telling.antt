@@ -1,7 +1,7 @@
 -- A call that answers one number.
 use mathlib.Core.Path.{_≡_, refl, sym, ap, subst, _∙_}
 use mathlib.Core.Bool.{true}
-use mathlib.Core.List.{List}
+use mathlib.Core.List.{List, [], _∷_}
 use Prim.Native.Nat.{ℕ, zero, suc}
 use lib.ListN.{length, getD}
 use borrow.Author.Tests.{eq-eqb, ne-eqb}
@@ -12,14 +12,14 @@ use Rattle.record.specs.Rules.{valid}
 use Rattle.queue.specs.declared.Answer.{Answer}
 use Rattle.queue.specs.declared.Reply.{Reply}
 use Rattle.queue.specs.Answers.{refusalNumberOf, valueOf}
-use Rattle.queue.specs.Calls.{unlessRefused, setUpResult, openResult, submitResult, submitRing, pendingAnswer}
-use Rattle.queue.proofs.Refusals.{open-allowed, submit-allowed}
-use Rattle.queue.proofs.Stays.{open-number, submit-number}
-use Rattle.answers.specs.Answers.{shortAnswer}
+use Rattle.queue.specs.Calls.{unlessRefused, setUpResult, openResult, submitResult, submitRing, beginResult, pieceResult, pieceRing, cancelResult, pendingAnswer}
+use Rattle.queue.proofs.Refusals.{open-allowed, submit-allowed, piece-allowed, cancel-allowed}
+use Rattle.queue.proofs.Stays.{open-number, submit-number, begin-number, piece-number, cancel-number}
+use Rattle.answers.specs.Answers.{shortAnswer, pieceWords}
 use Rattle.record_bytes.specs.Read.{recordOf}
 use Rattle.record_bytes.specs.Written.{bytesOf, written}
 use Rattle.record_bytes.proofs.Cases.{valid-record, record-size, written-whole}
-use Rattle.calls.specs.Calls.{SetsUp, Told, Opens, Submits, Pends}
+use Rattle.calls.specs.Calls.{SetsUp, Told, Opens, Submits, Done, Begins, ToldTwo, HandsOver, Cancels, Pends}
 
 -- ---- what tell does
 
@@ -48,6 +48,22 @@ module _ (bytes after words : List ℕ) (a : Answer) (w : words ≡ shortAnswer 
     record-is = sym (unless-not bytes after (refusalNumberOf a) (rw w at z));
   }
 
+-- the same of a piece
+module _ (bytes after words : List ℕ) (a : Answer) (w : words ≡ pieceWords a) where
+  pub two-done : (bytesNow : List ℕ) → getD words 0 0 ≡ 0 → bytesNow ≡ after → ToldTwo bytes after a (getD words 0 0) (getD words 1 0 ∷ getD words 2 0 ∷ []) bytesNow
+  two-done bytesNow z e = record {
+    number-is = rw w;
+    two-are = rw w;
+    record-is = e ∙ sym (unless-zero bytes after (refusalNumberOf a) (rw w at z));
+  }
+
+  pub two-refused : (getD words 0 0 ≡ 0 → ⊥) → ToldTwo bytes after a (getD words 0 0) (getD words 1 0 ∷ getD words 2 0 ∷ []) bytes
+  two-refused z = record {
+    number-is = rw w;
+    two-are = rw w;
+    record-is = sym (unless-not bytes after (refusalNumberOf a) (rw w at z));
+  }
+
 -- ---- the record is written whole
 
 -- what is not refused was done on a buffer that a record fits in
@@ -63,6 +79,13 @@ told-whole bytes reply number value bytesNow h t = record {
   value-is = t .value-is;
   record-is = t .record-is ∙ whole bytes (reply .engine) (refusalNumberOf (reply .answer)) h;
 }
+
+-- and of a call whose value is left out
+done-whole : (bytes : List ℕ) (reply : Reply) (number value : ℕ) (bytesNow : List ℕ) → (refusalNumberOf (reply .answer) ≡ 0 → length bytes ≡ 272) →
+    Told bytes (written (reply .engine) bytes) (reply .answer) number value bytesNow → Done bytes (bytesOf (reply .engine)) (reply .answer) number bytesNow
+done-whole bytes reply number value bytesNow h t =
+    let s = told-whole bytes reply number value bytesNow h t in
+    record { number-is = s .number-is; record-is = s .record-is }
 
 pub fits : (bytes : List ℕ) → valid (recordOf bytes) ≡ true → length bytes ≡ 272
 fits bytes v = record-size bytes (valid-record bytes v)
@@ -91,6 +114,43 @@ module _ (bytes : List ℕ) (engine : Record) (is : engine ≡ recordOf bytes) w
             (subst (λ (x : Reply). Told bytes (written (x .engine) bytes) (x .answer) number value bytesNow) both t);
         ring-is = q ∙ ap (λ (x : Record). submitRing x ring client batch) is;
       }
+
+  pub begin-told : (ring : List ℕ) (client total : ℕ) (reply : Reply) (number value : ℕ) (bytesNow : List ℕ) → reply ≡ beginResult engine (length ring) client total →
+      Told bytes (written (reply .engine) bytes) (reply .answer) number value bytesNow → Begins bytes ring client total number bytesNow
+  unfolding Begins
+  begin-told ring client total reply number value bytesNow e t =
+      let both : reply ≡ beginResult (recordOf bytes) (length ring) client total = e ∙ ap (λ (x : Record). beginResult x (length ring) client total) is in
+      done-whole bytes (beginResult (recordOf bytes) (length ring) client total) number value bytesNow
+      (λ z. fits bytes (submit-allowed (recordOf bytes) (length ring) client total (sym (begin-number (recordOf bytes) (length ring) client total) ∙ z) .ok))
+      (subst (λ (x : Reply). Told bytes (written (x .engine) bytes) (x .answer) number value bytesNow) both t)
+
+  pub piece-told : (ring : List ℕ) (client : ℕ) (piece : List ℕ) (reply : Reply) (number : ℕ) (two bytesNow ringNow : List ℕ) → reply ≡ pieceResult engine ring client piece →
+      ringNow ≡ pieceRing engine ring client piece → ToldTwo bytes (written (reply .engine) bytes) (reply .answer) number two bytesNow →
+      HandsOver bytes ring client piece number two bytesNow ringNow
+  piece-told ring client piece reply number two bytesNow ringNow e q t =
+      let r : Record = recordOf bytes in
+      let both : reply ≡ pieceResult r ring client piece = e ∙ ap (λ (x : Record). pieceResult x ring client piece) is in
+      let s = subst (λ (x : Reply). ToldTwo bytes (written (x .engine) bytes) (x .answer) number two bytesNow) both t in
+      record {
+        told = record {
+          number-is = s .number-is;
+          two-are = s .two-are;
+          record-is =
+              s .record-is
+              ∙ whole bytes (pieceResult r ring client piece .engine) (refusalNumberOf (pieceResult r ring client piece .answer))
+              (λ z. fits bytes (piece-allowed r (length ring) client (length piece) (sym (piece-number r ring client piece) ∙ z) .own .ok));
+        };
+        ring-is = q ∙ ap (λ (x : Record). pieceRing x ring client piece) is;
+      }
+
+  pub cancel-told : (client : ℕ) (reply : Reply) (number value : ℕ) (bytesNow : List ℕ) → reply ≡ cancelResult engine client →
+      Told bytes (written (reply .engine) bytes) (reply .answer) number value bytesNow → Cancels bytes client number bytesNow
+  unfolding Cancels
+  cancel-told client reply number value bytesNow e t =
+      let both : reply ≡ cancelResult (recordOf bytes) client = e ∙ ap (λ (x : Record). cancelResult x client) is in
+      done-whole bytes (cancelResult (recordOf bytes) client) number value bytesNow
+      (λ z. fits bytes (cancel-allowed (recordOf bytes) client (sym (cancel-number (recordOf bytes) client) ∙ z) .ok))
+      (subst (λ (x : Reply). Told bytes (written (x .engine) bytes) (x .answer) number value bytesNow) both t)
 
   pub pending-told : (client : ℕ) (a : Answer) (words : List ℕ) → a ≡ pendingAnswer engine client → words ≡ shortAnswer (refusalNumberOf a) (valueOf a) →
       Pends bytes client (getD words 0 0) (getD words 1 0)

@@ -2,7 +2,7 @@
 -- stand for. A refused call answers zeros and leaves every byte as it was.
 use mathlib.Core.Path.{_≡_}
 use mathlib.Core.Bool.{cond}
-use mathlib.Core.List.{List}
+use mathlib.Core.List.{List, [], _∷_}
 use Prim.Native.Nat.{ℕ}
 use lib.ListN.{length}
 use lib.Dec.{eqb}
@@ -11,12 +11,12 @@ use Rattle.record.specs.declared.Window.{Window}
 use Rattle.queue.specs.declared.Answer.{Answer}
 use Rattle.queue.specs.declared.Reply.{Reply}
 use Rattle.queue.specs.Answers.{refusalNumberOf, valueOf}
-use Rattle.queue.specs.Calls.{unlessRefused, setUpResult, openResult, submitResult, submitRing, pendingAnswer}
+use Rattle.queue.specs.Calls.{unlessRefused, setUpResult, openResult, submitResult, submitRing, beginResult, pieceResult, pieceRing, cancelResult, pendingAnswer}
 use Rattle.engine.specs.declared.Outcome.{Outcome}
 use Rattle.engine.specs.declared.Ran.{Ran}
 use Rattle.engine.specs.Outcome.{runRefusalOf as refusalOf}
 use Rattle.engine.specs.Run.{runResult, runMemory}
-use Rattle.answers.specs.Answers.{fiveOf}
+use Rattle.answers.specs.Answers.{lastOf, fiveOf}
 use Rattle.record_bytes.specs.Read.{recordOf}
 use Rattle.record_bytes.specs.Written.{bytesOf}
 
@@ -54,6 +54,36 @@ pub record Submits (bytes ring : List ℕ) (client : ℕ) (batch : List ℕ) (nu
 pub record Pends (bytes : List ℕ) (client number value : ℕ) : Type 0 where
   pub number-is : number ≡ refusalNumberOf (pendingAnswer (recordOf bytes) client)
   pub value-is : value ≡ valueOf (pendingAnswer (recordOf bytes) client)
+
+-- ---- begin, pieces, cancel (02, 6)
+
+-- a call that answers nothing
+pub record Done (bytes after : List ℕ) (answer : Answer) (number : ℕ) (bytesNow : List ℕ) : Type 0 where
+  pub number-is : number ≡ refusalNumberOf answer
+  pub record-is : bytesNow ≡ unlessRefused (refusalNumberOf answer) bytes after
+
+-- the ring is only asked for its length
+unfoldable pub Begins : (bytes ring : List ℕ) → (client total number : ℕ) → (bytesNow : List ℕ) → Type 0
+Begins bytes ring client total =
+    let reply : Reply = beginResult (recordOf bytes) (length ring) client total in
+    Done bytes (bytesOf (reply .engine)) (reply .answer)
+
+unfoldable pub Cancels : (bytes : List ℕ) → (client number : ℕ) → (bytesNow : List ℕ) → Type 0
+Cancels bytes client =
+    let reply : Reply = cancelResult (recordOf bytes) client in
+    Done bytes (bytesOf (reply .engine)) (reply .answer)
+
+-- a piece answers two numbers: 0 and the bytes still to come, or, of the last, 1 and the ticket
+pub record ToldTwo (bytes after : List ℕ) (answer : Answer) (number : ℕ) (two bytesNow : List ℕ) : Type 0 where
+  pub number-is : number ≡ refusalNumberOf answer
+  pub two-are : two ≡ lastOf answer ∷ valueOf answer ∷ []
+  pub record-is : bytesNow ≡ unlessRefused (refusalNumberOf answer) bytes after
+
+pub record HandsOver (bytes ring : List ℕ) (client : ℕ) (piece : List ℕ) (number : ℕ) (two bytesNow ringNow : List ℕ) : Type 0 where
+  pub told :
+      let reply : Reply = pieceResult (recordOf bytes) ring client piece in
+      ToldTwo bytes (bytesOf (reply .engine)) (reply .answer) number two bytesNow
+  pub ring-is : ringNow ≡ pieceRing (recordOf bytes) ring client piece
 
 -- ---- run
 

@@ -3,7 +3,7 @@ ghost use mathlib.Core.Path.{_≡_};
 ghost use Rattle.queue.specs.Answers.{refusalNumberOf, valueOf};
 ghost use Rattle.record_bytes.specs.Written.{written};
 ghost use Rattle.answers.specs.Answers.{Small};
-ghost use Rattle.calls.specs.Calls.{SetsUp, Told, Opens, Submits, Pends, Reports, Runs};
+ghost use Rattle.calls.specs.Calls.{SetsUp, Told, Opens, Submits, Begins, ToldTwo, HandsOver, Cancels, Pends, Reports, Runs};
 use engine::Ran;
 use queue::Reply;
 use reset::ResetRule;
@@ -17,6 +17,21 @@ fn tell(bytes: &mut [u8], reply: Reply, value: &mut u32) -> u32
     let words = answers::answer_words(answer);
     let number = words[0];
     *value = words[1];
+    if number == 0 {
+        record_bytes::encode(engine, bytes);
+    }
+    number
+}
+
+// The same of a piece.
+fn tell_two(bytes: &mut [u8], reply: Reply, two: &mut [u32; 2]) -> u32
+    ensures { λ r. ⌜ ToldTwo (now (bytes .entry)) (written (reply .engine) (now (bytes .entry))) (reply .answer) r (now (two .exit)) (now (bytes .exit)) ⌝ }
+{
+    let answer = reply.answer;
+    let engine = reply.engine;
+    let words = answers::piece_words(answer);
+    let number = words[0];
+    *two = [words[1], words[2]];
     if number == 0 {
         record_bytes::encode(engine, bytes);
     }
@@ -67,6 +82,41 @@ pub fn submit(bytes: &mut [u8], ring: &mut [u8], client: u32, batch: &[u8], tick
     let engine = record_bytes::decode(bytes);
     let reply = engine::submit(engine, ring, client, batch);
     tell(bytes, reply, ticket)
+}
+
+// Begins a batch of a total length that is handed over by pieces.
+pub fn begin(bytes: &mut [u8], ring: &[u8], client: u32, total: usize) -> u32
+    ensures { λ r. ⌜ Begins (now (bytes .entry)) (now (ring .entry)) client total r (now (bytes .exit)) ⌝ }
+{
+    let engine = record_bytes::decode(bytes);
+    let reply = engine::begin(engine, ring, client, total);
+    let mut none: u32 = 0;
+    tell(bytes, reply, &mut none)
+}
+
+// Hands over a piece of it.
+pub fn piece(
+    bytes: &mut [u8],
+    ring: &mut [u8],
+    client: u32,
+    piece: &[u8],
+    two: &mut [u32; 2],
+) -> u32
+    ensures { λ r. ⌜ HandsOver (now (bytes .entry)) (now (ring .entry)) client (now (piece .entry)) r (now (two .exit)) (now (bytes .exit)) (now (ring .exit)) ⌝ }
+{
+    let engine = record_bytes::decode(bytes);
+    let reply = engine::piece(engine, ring, client, piece);
+    tell_two(bytes, reply, two)
+}
+
+// Drops it.
+pub fn cancel(bytes: &mut [u8], client: u32) -> u32
+    ensures { λ r. ⌜ Cancels (now (bytes .entry)) client r (now (bytes .exit)) ⌝ }
+{
+    let engine = record_bytes::decode(bytes);
+    let reply = engine::cancel(engine, client);
+    let mut none: u32 = 0;
+    tell(bytes, reply, &mut none)
 }
 
 // Takes the oldest batch.

@@ -1,6 +1,7 @@
 -- Each call by its refusal number: refused, and then nothing changes, or done.
 use mathlib.Core.Path.{_≡_, refl}
 use mathlib.Core.List.{List}
+use mathlib.Core.Bool.{Bool, true, false, cond}
 use Prim.Native.Nat.{ℕ, zero, suc}
 use native.Mathlib.Omega.{arith}
 use lib.ListN.{length}
@@ -9,19 +10,21 @@ use Rattle.record.specs.declared.Window.{Window as Place}
 use Rattle.record.specs.Slots.{readyBatches as readyOf, countOf}
 use Rattle.record.specs.Queue.{writeOffset}
 use Rattle.record.specs.declared.Record.{Record}
-use Rattle.queue.specs.declared.Answer.the-variants.{Opened, Accepted, Ready}
+use Rattle.queue.specs.declared.Answer.{Answer as Told}
+use Rattle.record.specs.Staged.{noStaged, missingBytes}
+use Rattle.queue.specs.declared.Answer.the-variants.{Done, Opened, Accepted, Ready, Missing}
 use Rattle.queue.specs.Answers.{refusalNumberOf, valueOf, answerUnlessRefused as replied}
 use Rattle.queue.specs.Refusals.{firstRefusal}
-use Rattle.queue.specs.Calls.{unlessRefused, withClient, openResult, newBatch, withBatch, submitResult, submitRing, pendingAnswer}
+use Rattle.queue.specs.Calls.{unlessRefused, withClient, openResult, newBatch, submitted, submitResult, submitRing, withStaged, begun, beginResult, more, isLast, pieceAnswer, afterPiece, pieceOffset, pieceResult, pieceRing, cancelResult, pendingAnswer}
 use Rattle.engine.specs.declared.Completion.{Completion}
 use Rattle.engine.specs.declared.Outcome.the-variants.{Completed}
 use Rattle.engine.specs.Outcome.{runRefusalOf as refusalOf, valuesOf}
 use Rattle.engine.specs.Run.{outcomeUnlessRefused, runResult, runMemory}
 use Rattle.engine.proofs.Calls.{completion as completionOf}
 use Rattle.model.specs.Windows.{Window}
-use Rattle.model.specs.Calls.{Call, opens, submit, run, pending, opened, accepted, completed, ready, refused}
+use Rattle.model.specs.Calls.{Call, opens, submit, run, pending, begin, piece, cancel, opened, accepted, completed, ready, done as silent, refused}
 use Rattle.claims.specs.BatchSemantics.{completionStatusOf}
-use Rattle.claims.specs.Engine.{State, mkState, CallResult, answerOrRefusal, completion, performCall}
+use Rattle.claims.specs.Engine.{State, mkState, CallResult, answerOrRefusal, completion, pieceTold, performCall}
 use Rattle.claims.specs.Demand1.{refusalTableOf, RefusalNoOp}
 use Rattle.claims.specs.Demand2.{executed}
 
@@ -38,10 +41,16 @@ abbrev pub done : Call → State → CallResult
 done (opens w) s = record { answer = opened (s .engine .opened); after = mkState (withClient (s .engine) (given w)) (s .ring) (s .memory) }
 done (submit client bytes) s = record {
   answer = accepted (s .engine .next);
-  after = mkState (withBatch (s .engine) (newBatch (s .engine) client (length bytes))) (copiedIn (s .ring) (writeOffset (s .engine)) bytes) (s .memory);
+  after = mkState (submitted (s .engine) client (length bytes)) (copiedIn (s .ring) (writeOffset (s .engine)) bytes) (s .memory);
 }
 done run s = executed s
 done (pending client) s = record { answer = ready (countOf client (readyOf (s .engine .slots))); after = s }
+done (begin client total) s = record { answer = silent; after = mkState (withStaged (s .engine) (begun (s .engine) client total)) (s .ring) (s .memory) }
+done (piece client bytes) s = record {
+  answer = pieceTold (pieceAnswer (s .engine) (length bytes));
+  after = mkState (afterPiece (s .engine) (length bytes)) (copiedIn (s .ring) (pieceOffset (s .engine)) bytes) (s .memory);
+}
+done (cancel client) s = record { answer = silent; after = mkState (withStaged (s .engine) noStaged) (s .ring) (s .memory) }
 
 -- the one or the other
 unfoldable pub either : (number : ℕ) → State → CallResult → CallResult
@@ -78,8 +87,30 @@ module _ (e e′ : Record) (r r′ m m′ : List ℕ) where
   case-pending zero count = refl
   case-pending (suc n) count = refl
 
+  case-silent : (n : ℕ) →
+      record { answer = answerOrRefusal (refusalNumberOf (replied n Done)) silent; after = mkState (unlessRefused n e e′) r m } ≡
+      either n (mkState e r m) (record { answer = silent; after = mkState e′ r m })
+  unfolding answerOrRefusal replied unlessRefused either
+  case-silent zero = refl
+  case-silent (suc n) = refl
+
+  case-piece : (n : ℕ) (a : Told) → refusalNumberOf a ≡ 0 →
+      record { answer = answerOrRefusal (refusalNumberOf (replied n a)) (pieceTold (replied n a)); after = mkState (unlessRefused n e e′) (unlessRefused n r r′) m } ≡
+      either n (mkState e r m) (record { answer = pieceTold a; after = mkState e′ r′ m })
+  unfolding answerOrRefusal replied unlessRefused either
+  case-piece zero a h = rw h
+  case-piece (suc n) a h = refl
+
+-- no piece that is done answers a refusal
+piece-told : (engine : Record) (size : ℕ) → refusalNumberOf (pieceAnswer engine size) ≡ 0
+piece-told engine size = go (isLast (engine .staged) size)
+  where
+    go : (b : Bool) → refusalNumberOf (cond b (Accepted (engine .next)) (Missing (missingBytes (more (engine .staged) size)))) ≡ 0
+    go true = refl
+    go false = refl
+
 pub by-number : (c : Call) (s : State) → performCall c s ≡ either (number c s) s (done c s)
-unfolding performCall openResult submitResult submitRing runResult runMemory pendingAnswer
+unfolding performCall openResult submitResult submitRing runResult runMemory beginResult pieceResult pieceRing cancelResult pendingAnswer
 by-number (opens w) s =
     let d : State = done (opens w) s .after in
     case-open (s .engine) (d .engine) (s .ring) (d .ring) (s .memory) (d .memory) (number (opens w) s) (s .engine .opened)
@@ -91,6 +122,15 @@ by-number run s =
     case-run (s .engine) (d .engine) (s .ring) (d .ring) (s .memory) (d .memory) (number run s) (completionOf (s .engine) (s .ring))
 by-number (pending client) s =
     case-pending (s .engine) (s .engine) (s .ring) (s .ring) (s .memory) (s .memory) (number (pending client) s) (countOf client (readyOf (s .engine .slots)))
+by-number (begin client total) s =
+    let d : State = done (begin client total) s .after in
+    case-silent (s .engine) (d .engine) (s .ring) (d .ring) (s .memory) (d .memory) (number (begin client total) s)
+by-number (piece client bytes) s =
+    let d : State = done (piece client bytes) s .after in
+    case-piece (s .engine) (d .engine) (s .ring) (d .ring) (s .memory) (d .memory) (number (piece client bytes) s) (pieceAnswer (s .engine) (length bytes)) (piece-told (s .engine) (length bytes))
+by-number (cancel client) s =
+    let d : State = done (cancel client) s .after in
+    case-silent (s .engine) (d .engine) (s .ring) (d .ring) (s .memory) (d .memory) (number (cancel client) s)
 
 -- ---- a refusal changes nothing, whatever record, ring and memory are
 
@@ -104,6 +144,13 @@ answers (opens w) s k e = let z : _≡_ {A = ℕ} 0 1 = cc in omega arith
 answers (submit client bytes) s k e = let z : _≡_ {A = ℕ} 0 1 = cc in omega arith
 answers run s k e = let z : _≡_ {A = ℕ} 0 1 = cc in omega arith
 answers (pending client) s k e = let z : _≡_ {A = ℕ} 0 1 = cc in omega arith
+answers (begin client total) s k e = let z : _≡_ {A = ℕ} 0 1 = cc in omega arith
+answers (piece client bytes) s k e = go (isLast (s .engine .staged) (length bytes)) e
+  where
+    go : (b : Bool) → pieceTold (cond b (Accepted (s .engine .next)) (Missing (missingBytes (more (s .engine .staged) (length bytes))))) ≡ refused k → ⊥
+    go true e = let z : _≡_ {A = ℕ} 0 1 = cc in omega arith
+    go false e = let z : _≡_ {A = ℕ} 0 1 = cc in omega arith
+answers (cancel client) s k e = let z : _≡_ {A = ℕ} 0 1 = cc in omega arith
 
 pub harmless : (c : Call) (s : State) → RefusalNoOp c s
 harmless c s = rw (by-number c s) (quiet (number c s) s (done c s) (answers c s))

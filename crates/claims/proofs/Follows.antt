@@ -10,7 +10,7 @@ use Rattle.queue.specs.Calls.{unlessRefused, initialRecord as freshRecord, setU
 use Rattle.queue.proofs.Refusals.{set-up-allowed}
 use Rattle.queue.proofs.Kept.{fresh-sized, fresh-valid, fresh-waiting}
 use Rattle.queue.proofs.Stays.{set-up-number}
-use Rattle.model.specs.Calls.{Setup, Call, opens, submit, run, pending, Answer}
+use Rattle.model.specs.Calls.{Setup, Call, opens, submit, run, pending, begin, piece, cancel, Answer}
 use Rattle.model.specs.State.{Model, initialModel}
 use Rattle.model.specs.Refusals.{refusal}
 use Rattle.model.specs.Model.{step, effect, answers, after, modelAfterAll}
@@ -19,9 +19,10 @@ use Rattle.claims.specs.Engine.{State, mkState, performCall, answersOf, 
 use Rattle.claims.specs.Demand3.{RefinesModel}
 use Rattle.claims.proofs.Cases.{number, done, by-number}
 use Rattle.claims.proofs.Seen.{seenWindows}
-use Rattle.claims.proofs.Related.{numbersIn, seen, Related}
+use Rattle.claims.proofs.Related.{numbersIn, seen, none-seen, Related}
 use Rattle.claims.proofs.Tables.{alike}
-use Rattle.claims.proofs.Steps.{Alike, either-alike, open-done, submit-done, pending-done}
+use Rattle.claims.proofs.Steps.{Alike, either-alike, open-done, submit-done, begin-done, cancel-done, pending-done}
+use Rattle.claims.proofs.Pieces.{piece-done}
 use Rattle.claims.proofs.Runs.{run-done}
 
 module _ (setup : Setup) (n : ℕ) where
@@ -30,6 +31,9 @@ module _ (setup : Setup) (n : ℕ) where
   all-done (opens w) model s R z = open-done setup n s (R .sound) (model .accepted) (R .next) w z
   all-done (submit client bytes) model s R z = submit-done setup n s (R .sound) (model .accepted) (R .next) client bytes z
   all-done run model s R z = run-done setup n s (R .sound) (model .accepted) (R .next) z
+  all-done (begin client total) model s R z = begin-done setup n s (R .sound) (model .accepted) (R .next) client total z
+  all-done (piece client bytes) model s R z = piece-done setup n s (R .sound) (model .accepted) (R .next) client bytes z
+  all-done (cancel client) model s R z = cancel-done setup n s (R .sound) (model .accepted) (R .next) client z
   all-done (pending client) model s R z = pending-done setup n s (R .sound) (model .accepted) (R .next) client
 
   -- any call
@@ -71,7 +75,7 @@ module _ (setup : Setup) (ring : List ℕ) (A : SetUpAccepted setup) where
       long = refl;
     };
     next = refl;
-    is = rw (fresh-waiting (numbersIn setup));
+    is = rw (fresh-waiting (numbersIn setup), none-seen ring (freshRecord (numbersIn setup)) refl);
   }
 
   pub start : (memory : List ℕ) → Related setup (length ring) (initialModel memory) (initialState setup ring memory)

@@ -1,18 +1,21 @@
 -- An accepted batch is completed in time: the completions name the executed batches, in order.
-use mathlib.Core.Path.{_≡_, ap, sym, _∙_}
+use mathlib.Core.Path.{_≡_, refl, ap, sym, _∙_}
 use mathlib.Core.List.{List, [], _∷_, _++_, List·Memᴰ, List·Memᴰ·head, List·Memᴰ·tail, List·Memᴰ·not-nil, List·Memᴰ·cases-cons}
 use mathlib.Core.Logic.{_⊎_, inl, inr}
 use Prim.Native.Nat.{ℕ, zero, suc}
 use lib.ListN.{length, take}
-use Rattle.model.specs.Calls.{Setup, Call, opens, submit, run, pending, CompletionStatus, Answer, completed}
+use Rattle.model.specs.Calls.{Setup, Call, opens, submit, run, pending, begin, piece, cancel, CompletionStatus, Answer, completed}
 use Rattle.model.specs.BatchSemantics.{BatchSemantics}
-use Rattle.model.specs.State.{Batch, batch, Model}
+use Rattle.model.specs.State.{Batch, Staging, idle, staging, Model}
 use Rattle.model.specs.Refusals.{refusal}
-use Rattle.model.specs.Model.{Step, runStep, effect, step, answers, executed, modelAfterAll}
+use Rattle.model.specs.Model.{Step, runStep, pieceStep, effect, step, answers, executed, modelAfterAll}
+use Rattle.model.specs.Properties.{HandedIn, whole, pieces}
 use Rattle.model.proofs.Refusals.{unless-cases}
+use Rattle.model.proofs.Tests.{cond-cases}
+use lib.Dec.{eqb}
 use Rattle.claims.specs.ModelProperties.{batchSemantics}
 use Rattle.claims.specs.Engine.{performCall, SetUpAccepted}
-use Rattle.claims.specs.Demand3.{completedOf, finalState, BoundedWaiting}
+use Rattle.claims.specs.Demand3.{completedOf, finalState, CompletedSoon, BoundedWaiting}
 use Rattle.claims.proofs.OfModel.{of-model}
 use Rattle.claims.proofs.Follows.{together, follow, at-end}
 
@@ -52,6 +55,13 @@ module _ (way : BatchSemantics) (setup : Setup) (ring : ℕ) where
       go : (bs : List Batch) → One (runStep way (setup .common) model bs)
       go [] told bs n = n
       go (b ∷ rest) told bs n = more b _ n
+  step-one (begin client total) model = unless-cases One (refusal setup ring model (begin client total)) model _ (λ e told bs n. n) (λ k told bs n. n)
+  step-one (piece client bytes) model = unless-cases One (refusal setup ring model (piece client bytes)) model _ (λ e. staged (model .staged)) (λ k told bs n. n)
+    where
+      staged : (g : Staging) → One (pieceStep model g bytes)
+      staged idle = λ told bs n. n
+      staged (staging d total before) = cond-cases One (eqb (length (before ++ bytes)) total) _ _ (λ t told bs n. n) (λ t told bs n. n)
+  step-one (cancel client) model = unless-cases One (refusal setup ring model (cancel client)) model _ (λ e told bs n. n) (λ k told bs n. n)
   step-one (pending client) model = unless-cases One (refusal setup ring model (pending client)) model _ (λ e told bs n. n) (λ k told bs n. n)
 
   all-named : (cs : List Call) (model : Model) → Names (completedOf (answers way setup ring cs model)) (executed way setup ring cs model)
@@ -61,14 +71,36 @@ module _ (way : BatchSemantics) (setup : Setup) (ring : ℕ) where
       let next : Model = step way setup ring c model .after in
       step-one c model (answers way setup ring cs next) (executed way setup ring cs next) (all-named cs next)
 
--- ---- and the engine answers told the model does
+-- ---- and the engine answers as the model does
 
-pub in-time : (setup : Setup) (ring : List ℕ) → SetUpAccepted setup → (calls later : List Call) (memory : List ℕ) → BoundedWaiting setup ring calls memory later
-in-time setup ring A calls later memory client ticket bytes a h =
-    let n : ℕ = length ring in
-    let model : Model = modelAfterAll (batchSemantics setup) setup n calls memory in
-    let first : Step = step (batchSemantics setup) setup n (submit client bytes) model in
-    let q = together setup n (submit client bytes) model (finalState setup ring calls memory) (at-end setup ring A calls memory) in
-    let same = follow setup n later (first .after) (performCall (submit client bytes) (finalState setup ring calls memory) .after) (q .1) .0 in
-    let among = of-model setup n .in-time calls later memory client ticket bytes (sym (q .0) ∙ a) (rw same at h) in
-    rw same (named 8 (batch client ticket bytes) (all-named (batchSemantics setup) setup n later (first .after)) among)
+-- the batch that a call hands in is of the client that the call names
+submit-own : (model : Model) (client : ℕ) (bytes : List ℕ) (b : Batch) → HandedIn model (submit client bytes) b → b .client ≡ client
+submit-own model client bytes b (whole c t x) = refl
+
+piece-own : (model : Model) (client : ℕ) (bytes : List ℕ) (b : Batch) → HandedIn model (piece client bytes) b → b .client ≡ client
+piece-own model client bytes b (pieces c t total before x e) = refl
+
+of-client : (b : Batch) (client ticket : ℕ) (told : List Answer) → b .client ≡ client → b .ticket ≡ ticket → Told b told → (v : CompletionStatus) × List·Memᴰ (completed client ticket v) told
+of-client b client ticket told c t x = rw (← c, ← t) x
+
+module _ (setup : Setup) (ring : List ℕ) (A : SetUpAccepted setup) (calls later : List Call) (memory : List ℕ) where
+  abbrev n : ℕ
+  n = length ring
+
+  abbrev model : Model
+  model = modelAfterAll (batchSemantics setup) setup n calls memory
+
+  soon : (call : Call) (client : ℕ) → ((b : Batch) → HandedIn model call b → b .client ≡ client) → CompletedSoon setup ring calls memory call client later
+  soon call client own ticket a h =
+      let first : Step = step (batchSemantics setup) setup n call model in
+      let q = together setup n call model (finalState setup ring calls memory) (at-end setup ring A calls memory) in
+      let same = follow setup n later (first .after) (performCall call (finalState setup ring calls memory) .after) (q .1) .0 in
+      let among = of-model setup n .in-time calls later memory call ticket (sym (q .0) ∙ a) (rw same at h) in
+      let t = named 8 (among .batch) (all-named (batchSemantics setup) setup n later (first .after)) (among .soon) in
+      rw same (of-client (among .batch) client ticket _ (own (among .batch) (among .own)) (among .numbered) t)
+
+  pub in-time : BoundedWaiting setup ring calls memory later
+  in-time = record {
+    submitted = λ client bytes. soon (submit client bytes) client (submit-own model client bytes);
+    last-piece = λ client bytes. soon (piece client bytes) client (piece-own model client bytes);
+  }

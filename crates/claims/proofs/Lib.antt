@@ -9,9 +9,11 @@ pub mod Seen
 pub mod Related
 pub mod Tables
 pub mod Steps
+pub mod Pieces
 pub mod Runs
 pub mod Follows
 pub mod InTime
+pub mod Cutting
 pub mod Faulted
 pub mod Theorem
 pub mod Queue

@@ -13,7 +13,9 @@ of-model setup ring =
       separate = c .separate (confined (resetBank (setup .reset)));
       unmoved = c .unmoved (confined (resetBank (setup .reset)));
       holds = c .holds;
+      of-open = c .of-open;
       in-order = c .in-order;
       in-time = c .in-time;
       harmless = c .harmless;
+      cutting = c .cutting;
     }

@@ -1,25 +1,31 @@
--- The queue is as 01 says, after any list of calls.
-use mathlib.Core.Path.{_≡_, refl, ap, sym, _∙_}
+-- The queue is as 01 and 02, 6 say, after any list of calls.
+use mathlib.Core.Path.{_≡_, refl, ap, sym, subst, _∙_}
+use mathlib.Core.Bool.{true, false}
 use mathlib.Core.List.{List, [], _∷_, _++_}
-use Prim.Native.Nat.{ℕ, _≤_}
+use Prim.Native.Nat.{ℕ, _%_, _≤_}
+use native.Mathlib.Omega.{arith}
 use lib.ListN.{length}
 use Rattle.record.specs.declared.Batch.{Batch}
-use Rattle.record.specs.Queue.{takenSlots}
+use Rattle.record.specs.Slots.{lowestFree}
+use Rattle.record.specs.Queue.{readySlots, waiting}
 use Rattle.record.proofs.Line.{held}
 use Rattle.record.proofs.Rules.{write-newest, write-first, free-room}
 use Rattle.queue.specs.Refusals.{firstRefusal}
 use Rattle.queue.proofs.Refusals.{open-allowed, submit-allowed}
 use Rattle.queue.proofs.Kept.{few-taken, open-windows}
-use Rattle.queue.proofs.Submitted.{submit-waiting, submit-held}
+use Rattle.queue.specs.Calls.{newBatch, withBatch, withStaged, isLast}
+use Rattle.queue.proofs.Submitted.{submit-addable, staged-addable, added-waiting, added-held}
 use Rattle.engine.proofs.Refusals.{run-allowed}
-use Rattle.engine.proofs.Stays.{run-waiting, oldest-at, oldest-words}
-use Rattle.model.specs.Calls.{Setup, Call, opens, submit, run}
+use Rattle.engine.proofs.Stays.{run-waiting, run-kept, oldest-at, oldest-words}
+use Rattle.model.specs.Calls.{Setup, Call, opens, submit, run, begin, piece, cancel}
 use Rattle.claims.specs.Engine.{State, performCall}
 use Rattle.claims.specs.Demand1.{refusalTableOf}
 use Rattle.claims.specs.Demand3.{finalState}
-use Rattle.claims.specs.Queue.{contents, Submitted, Taken, Queue, Promise}
+use Rattle.claims.specs.Queue.{bytesSoFar, contents, Submitted, Begun, Continued, Finished, Cancelled, Taken, Queue, Promise}
 use Rattle.claims.proofs.Cases.{given, done, either, by-number}
 use Rattle.claims.proofs.Related.{Sound, facts}
+use Rattle.claims.proofs.Pieces.{may, copied, filled, kept, come, whole, addable}
+use Rattle.claims.proofs.Runs.{run-offset}
 use Rattle.claims.proofs.Follows.{at-end}
 
 -- a batch's bytes alone
@@ -36,19 +42,72 @@ module _ (setup : Setup) (n : ℕ) (s : State) (S : Sound setup n s) where
   unfolding either
   allowed c z = rw (by-number c s, z)
 
-  few : takenSlots (s .engine) ≤ 8
+  few : readySlots (s .engine) ≤ 8
   few = few-taken (s .engine) (S .sized)
 
   submitted : (client : ℕ) (bytes : List ℕ) → firstRefusal (refusalTableOf (submit client bytes) s) ≡ 0 → Submitted client bytes s (performCall (submit client bytes) s .after)
   submitted client bytes z =
       let a = submit-allowed (s .engine) (length (s .ring)) client (length bytes) z in
+      let at : ℕ = lowestFree (s .engine .slots) in
+      let d = submit-addable (s .engine) (S .sized) (length (s .ring)) client (length bytes) a in
       rw (allowed (submit client bytes) z)
       (record {
-        last = submit-waiting (s .engine) (S .sized) (length (s .ring)) client (length bytes) a;
+        last = added-waiting (s .engine) (S .sized) at client (length bytes) d;
         copied =
-            contents-held _ _ ∙ submit-held alone (s .engine) (S .sized) (s .ring) client bytes a
+            contents-held _ _ ∙ added-held alone (s .engine) (S .sized) (s .ring) (a .ring) at client bytes d
             ∙ ap (λ (l : List (List ℕ)). l ++ bytes ∷ []) (sym (contents-held _ _));
       })
+
+  -- the next ticket is its own remainder
+  own : s .engine .next ≡ s .engine .next % 4294967296
+  own = omega (arith, S .sized .next)
+
+  begins : (client total : ℕ) → firstRefusal (refusalTableOf (begin client total) s) ≡ 0 → Begun client total s (performCall (begin client total) s .after)
+  unfolding withStaged
+  begins client total z = rw (allowed (begin client total) z) (record { held = refl; waits = refl; ring = refl })
+
+  module _ (client : ℕ) (bytes : List ℕ) (z : firstRefusal (refusalTableOf (piece client bytes) s) ≡ 0) where
+    continued : isLast (s .engine .staged) (length bytes) ≡ false → Continued bytes s (performCall (piece client bytes) s .after)
+    unfolding withStaged
+    continued other =
+        rw (allowed (piece client bytes) z, other, copied setup n s S (s .engine .next) own client bytes z)
+        (record {
+          on = refl;
+          come = come setup n s S (s .engine .next) own client bytes z;
+          waits = refl;
+          kept = contents-held _ _ ∙ kept setup n s S (s .engine .next) own client bytes z alone ∙ sym (contents-held _ _);
+        })
+
+    -- of a batch whose length is that of all the bytes that have come
+    whole-held : isLast (s .engine .staged) (length bytes) ≡ true →
+        contents (filled setup n s S (s .engine .next) own client bytes z)
+        (waiting (withBatch (s .engine) (s .engine .staged .slot) (newBatch (s .engine) (s .engine .staged .client) (s .engine .staged .total))))
+        ≡ contents (s .ring) (waiting (s .engine)) ++ (bytesSoFar s ++ bytes) ∷ []
+    whole-held last =
+        subst
+        (λ (t : ℕ). contents (filled setup n s S (s .engine .next) own client bytes z)
+        (waiting (withBatch (s .engine) (s .engine .staged .slot) (newBatch (s .engine) (s .engine .staged .client) t)))
+        ≡ contents (s .ring) (waiting (s .engine)) ++ (bytesSoFar s ++ bytes) ∷ [])
+        (whole setup n s S (s .engine .next) own client bytes z last)
+        (contents-held _ _
+        ∙ added-held alone (s .engine) (S .sized) (s .ring) (may setup n s S (s .engine .next) own client bytes z .ring) (s .engine .staged .slot) (s .engine .staged .client) (bytesSoFar s ++ bytes)
+        (addable setup n s S (s .engine .next) own client bytes z last)
+        ∙ ap (λ (l : List (List ℕ)). l ++ (bytesSoFar s ++ bytes) ∷ []) (sym (contents-held _ _)))
+
+    finished : isLast (s .engine .staged) (length bytes) ≡ true → Finished bytes s (performCall (piece client bytes) s .after)
+    unfolding withBatch
+    finished last =
+        rw (allowed (piece client bytes) z, last, copied setup n s S (s .engine .next) own client bytes z)
+        (record {
+          none = refl;
+          last = added-waiting (s .engine) (S .sized) (s .engine .staged .slot) (s .engine .staged .client) (s .engine .staged .total)
+              (staged-addable (s .engine) client (may setup n s S (s .engine .next) own client bytes z .own));
+          copied = whole-held last;
+        })
+
+  cancelled : (client : ℕ) → firstRefusal (refusalTableOf (cancel client) s) ≡ 0 → Cancelled s (performCall (cancel client) s .after)
+  unfolding withStaged
+  cancelled client z = rw (allowed (cancel client) z) (record { none = refl; waits = refl; read = refl; ring = refl })
 
   taken : firstRefusal (refusalTableOf run s) ≡ 0 → Taken s (performCall run s .after)
   unfolding contents
@@ -61,6 +120,8 @@ module _ (setup : Setup) (n : ℕ) (s : State) (S : Sound setup n s) where
         at-read = oldest-at (s .engine) (S .sized) (length (s .ring)) (length (s .memory)) a;
         whole = oldest-words (s .engine) (S .sized) (s .ring) (length (s .memory)) a;
         kept = ap (contents (s .ring)) first;
+        staged = run-kept (s .engine) .3;
+        so-far = rw (run-offset setup n s S (s .engine .next) own z, run-kept (s .engine) .3);
       })
 
   queue : Queue s
@@ -70,6 +131,10 @@ module _ (setup : Setup) (n : ℕ) (s : State) (S : Sound setup n s) where
     after-newest = write-newest (s .engine) (facts setup n s S) few;
     none-ready = write-first (s .engine) (facts setup n s S) few;
     submitted = submitted;
+    begins = begins;
+    continued = continued;
+    finished = finished;
+    cancelled = cancelled;
     taken = taken;
     free = free-room (s .engine) (facts setup n s S) few;
   }

@@ -1,32 +1,95 @@
 -- The model that record, ring and memory stand for, and what of it is read where.
-use mathlib.Core.Path.{_≡_, ap, sym, _∙_}
-use mathlib.Core.Bool.{true, cond}
-use Prim.Native.Nat.{ℕ, _+_, _%_, _<_}
+use mathlib.Core.Path.{_≡_, refl, ap, sym, _∙_}
+use mathlib.Core.List.{List}
+use mathlib.Core.Bool.{Bool, true, false, cond}
+use borrow.Author.Tests.{eqb-true}
+use Prim.Native.Nat.{ℕ, _+_, _%_, _≤_, _<_}
 use native.Mathlib.Nat.{add-zero}
 use native.Mathlib.Omega.{arith}
 use lib.ListN.{length}
 use lib.Seq.{length-take-le}
 use lib.Dec.{eqb}
-use Rattle.ring.specs.Segment.{wrapOffset}
-use Rattle.ring.proofs.Wrapped.{wrapped-in}
+use Rattle.ring.specs.Segment.{wrapOffset, segment}
+use mathlib.Core.Logic.{⊎-elim}
+use Rattle.ring.proofs.Wrapped.{wrapped-in, wrapped-below}
+use Rattle.ring.proofs.Segment.{length-segment}
+use Rattle.record.proofs.Unfinished.{Unfinished, staged-cases}
 use Rattle.record.specs.declared.Setup.{Setup as Numbers}
+use Rattle.record.specs.declared.Record.{Record}
+use Rattle.record.specs.Staged.{noStaged, isIdle, stagedBy, stagedSlots, missingBytes}
 use Rattle.record.specs.Slots.{readyBatches, countOf as countIn}
 use Rattle.record.specs.Clients.{openClients, openWindows, clientAt}
-use Rattle.record.specs.Queue.{takenSlots, takenBytes, waiting}
+use Rattle.record.specs.Queue.{readySlots, readyBytes, writeOffset, waiting}
 use Rattle.record.specs.Rules.{valid}
 use Rattle.record.proofs.Windows.{length-windows, window-is}
-use Rattle.record.proofs.Rules.{Valid, valid-facts, sum-waiting, length-waiting}
+use Rattle.record.proofs.Rules.{Valid, valid-facts, sum-waiting, length-waiting, ready-within}
 use Rattle.queue.proofs.Kept.{Sized, few-taken}
 use Rattle.model.specs.Calls.{Setup}
-use Rattle.model.specs.State.{Model, totalBytes, countOf, windowOf}
+use Rattle.model.specs.State.{Model, Staging, idle, staging, isIdle as isIdleM, stagedBy as stagedByM, stagedSlots as stagedSlotsM, stagedBytes as stagedBytesM, missingBytes as missingBytesM, totalBytes, countOf, windowOf}
 use Rattle.claims.specs.Engine.{State}
 use Rattle.claims.proofs.Seen.{seenWindow, seenWindows, seen-length, seen-at, seenWaiting, waits-length, waits-count, waits-bytes}
+
+-- the staged submission, with the bytes that the ring holds of it
+unfoldable pub seenStaging : (ring : List ℕ) → Record → Staging
+seenStaging ring engine =
+    cond (isIdle (engine .staged)) idle (staging (engine .staged .client) (engine .staged .total) (segment ring (writeOffset engine) (engine .staged .received)))
+
+module _ (ring : List ℕ) (engine : Record) where
+  pub idle-like : isIdleM (seenStaging ring engine) ≡ isIdle (engine .staged)
+  unfolding seenStaging
+  idle-like = go (isIdle (engine .staged))
+    where
+      go : (b : Bool) → isIdleM (cond b idle (staging (engine .staged .client) (engine .staged .total) (segment ring (writeOffset engine) (engine .staged .received)))) ≡ b
+      go true = refl
+      go false = refl
+
+  -- none is seen as none
+  pub none-seen : engine .staged ≡ noStaged → seenStaging ring engine ≡ idle
+  unfolding seenStaging
+  none-seen e = rw e
+
+  pub some-seen : isIdle (engine .staged) ≡ false → seenStaging ring engine ≡ staging (engine .staged .client) (engine .staged .total) (segment ring (writeOffset engine) (engine .staged .received))
+  unfolding seenStaging
+  some-seen e = rw e
+
+  pub by-like : (client : ℕ) → stagedByM (seenStaging ring engine) client ≡ stagedBy (engine .staged) client
+  unfolding seenStaging
+  by-like client = go (isIdle (engine .staged))
+    where
+      go : (b : Bool) → stagedByM (cond b idle (staging (engine .staged .client) (engine .staged .total) (segment ring (writeOffset engine) (engine .staged .received)))) client ≡ cond b false (eqb (engine .staged .client) client)
+      go true = refl
+      go false = refl
+
+  pub slots-like : stagedSlotsM (seenStaging ring engine) ≡ stagedSlots (engine .staged)
+  unfolding seenStaging
+  slots-like = go (isIdle (engine .staged))
+    where
+      go : (b : Bool) → stagedSlotsM (cond b idle (staging (engine .staged .client) (engine .staged .total) (segment ring (writeOffset engine) (engine .staged .received)))) ≡ cond b 0 1
+      go true = refl
+      go false = refl
+
+  pub room-like : stagedBytesM (seenStaging ring engine) ≡ engine .staged .total
+  unfolding seenStaging
+  room-like = go (isIdle (engine .staged)) refl
+    where
+      go : (b : Bool) → isIdle (engine .staged) ≡ b → stagedBytesM (cond b idle (staging (engine .staged .client) (engine .staged .total) (segment ring (writeOffset engine) (engine .staged .received)))) ≡ engine .staged .total
+      go true e = sym (eqb-true (engine .staged .total) 0 e)
+      go false e = refl
+
+  pub missing-like : length (segment ring (writeOffset engine) (engine .staged .received)) ≡ engine .staged .received → missingBytesM (seenStaging ring engine) ≡ missingBytes (engine .staged)
+  unfolding seenStaging
+  missing-like long = go (isIdle (engine .staged)) refl
+    where
+      go : (b : Bool) → isIdle (engine .staged) ≡ b → missingBytesM (cond b idle (staging (engine .staged .client) (engine .staged .total) (segment ring (writeOffset engine) (engine .staged .received)))) ≡ missingBytes (engine .staged)
+      go true e = omega (arith, eqb-true (engine .staged .total) 0 e)
+      go false e = rw long
 
 -- `accepted` counts more than the record does, whose tickets go round
 abbrev pub seen : (accepted : ℕ) → State → Model
 seen accepted s = record {
   windows = seenWindows (openWindows (s .engine));
   waiting = seenWaiting (s .ring) (waiting (s .engine));
+  staged = seenStaging (s .ring) (s .engine);
   accepted = accepted;
   memory = s .memory;
 }
@@ -60,11 +123,11 @@ module _ (setup : Setup) (n : ℕ) (s : State) (S : Sound setup n s) where
       ∙ length-take-le (s .engine .opened) (s .engine .clients) (omega (arith, facts .numbers .clients, S .sized .clients))
 
   -- as many batches wait as slots are taken
-  pub slots-count : length (seenWaiting (s .ring) (waiting (s .engine))) ≡ takenSlots (s .engine)
+  pub slots-count : length (seenWaiting (s .ring) (waiting (s .engine))) ≡ readySlots (s .engine)
   slots-count = waits-length (s .ring) (waiting (s .engine)) ∙ length-waiting (s .engine) facts (few-taken (s .engine) (S .sized))
 
   -- with the bytes that are taken, in a ring of the length that was set up
-  pub bytes-count : n ≡ setup .ring → totalBytes (seenWaiting (s .ring) (waiting (s .engine))) ≡ takenBytes (s .engine)
+  pub bytes-count : n ≡ setup .ring → totalBytes (seenWaiting (s .ring) (waiting (s .engine))) ≡ readyBytes (s .engine)
   bytes-count same =
       let ring : s .engine .setup .ring ≡ length (s .ring) = ap (λ (x : Numbers). x .ring) (S .numbers) ∙ omega (arith, S .long) in
       let first : wrapOffset (length (s .ring)) (s .engine .read + 0) ≡ s .engine .read =
@@ -72,6 +135,17 @@ module _ (setup : Setup) (n : ℕ) (s : State) (S : Sound setup n s) where
       in
       waits-bytes (s .ring) (s .engine .read) 0 (waiting (s .engine)) (omega (arith, facts .numbers .below)) (omega (arith, facts .within)) (rw (first, ← ring) (facts .ends))
       ∙ sym (sum-waiting (s .engine) facts (few-taken (s .engine) (S .sized)) (λ b. b .length))
+
+  -- the ring holds as many bytes of the staged submission as have come
+  pub staged-long : n ≡ setup .ring → length (segment (s .ring) (writeOffset (s .engine)) (s .engine .staged .received)) ≡ s .engine .staged .received
+  staged-long same =
+      let ring : s .engine .setup .ring ≡ length (s .ring) = ap (λ (x : Numbers). x .ring) (S .numbers) ∙ omega (arith, S .long) in
+      let ready = ready-within (s .engine) facts (few-taken (s .engine) (S .sized)) in
+      let below = wrapped-below (s .engine .setup .ring) (s .engine .read + readyBytes (s .engine)) (omega (arith, facts .numbers .below)) in
+      let short : s .engine .staged .received ≤ s .engine .setup .ring =
+      ⊎-elim (λ (z : s .engine .staged ≡ noStaged). rw z (omega arith)) (λ (u : (isIdle (s .engine .staged) ≡ false) × Unfinished (s .engine)). omega (arith, u .1 .short, u .1 .room)) (staged-cases (s .engine) (facts .staged))
+      in
+      length-segment (s .ring) (writeOffset (s .engine)) (s .engine .staged .received) (record { starts = omega arith; fits = omega arith })
 
   -- and the counts of each client
   pub client-count : (client : ℕ) → countOf client (seenWaiting (s .ring) (waiting (s .engine))) ≡ countIn client (readyBatches (s .engine .slots))

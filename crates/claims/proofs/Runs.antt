@@ -1,19 +1,25 @@
 -- Run, if it is not refused, takes the batch that the model takes, judges and draws it alike, and leaves what the model leaves.
-use mathlib.Core.Path.{_≡_, ap, ap₂, _∙_}
+use mathlib.Core.Path.{_≡_, ap, ap₂, sym, _∙_}
+use native.Mathlib.Omega.{arith}
 use mathlib.Core.List.{List, _∷_}
-use Prim.Native.Nat.{ℕ, _%_}
+use Prim.Native.Nat.{ℕ, _+_, _%_}
 use lib.ListN.{length}
 use Rattle.reset.specs.declared.ResetRule.{ResetRule}
 use Rattle.word.specs.Word.{words}
-use Rattle.ring.specs.Segment.{segment}
+use Rattle.ring.specs.Segment.{segment, wrapOffset}
+use Rattle.ring.proofs.Wrapped.{wrapped-add}
 use Rattle.register.specs.Bank.{resetBank}
 use Rattle.rules.specs.declared.task.Bounds.{Bounds}
 use Rattle.batch.specs.Batch.{decodeBatch, verdictOf}
 use Rattle.record.specs.declared.Setup.{Setup as Numbers}
-use Rattle.record.specs.Queue.{waiting}
+use Rattle.record.specs.declared.Record.{Record}
+use Rattle.record.specs.Slots.{sumOver, totalLength}
+use Rattle.record.specs.Queue.{readyBytes, writeOffset, waiting}
+use Rattle.record.proofs.Rules.{valid-facts, sum-waiting, ready-within}
+use Rattle.queue.proofs.Kept.{few-taken}
 use Rattle.engine.specs.Run.{oldest, boundsOfClient, oldestWords, withoutOldest}
 use Rattle.engine.proofs.Refusals.{RunAllowed, run-allowed}
-use Rattle.engine.proofs.Stays.{run-sized, run-valid, oldest-owner, run-windows, oldest-words, run-held}
+use Rattle.engine.proofs.Stays.{run-sized, run-valid, run-kept, run-waiting, oldest-owner, run-windows, oldest-words, run-held}
 use Rattle.model.specs.Calls.{Setup, run, Answer, completed}
 use Rattle.model.specs.State.{Batch, windowOf}
 use Rattle.model.specs.Model.{runStep, effect}
@@ -22,7 +28,7 @@ use Rattle.claims.specs.ModelProperties.{batchSemantics}
 use Rattle.claims.specs.Engine.{State}
 use Rattle.claims.proofs.Cases.{number, done}
 use Rattle.claims.proofs.Seen.{seenBatch, seenWaiting}
-use Rattle.claims.proofs.Related.{seen, Sound, window-at}
+use Rattle.claims.proofs.Related.{seen, seenStaging, Sound, window-at}
 use Rattle.claims.proofs.Steps.{Alike}
 
 module _ (setup : Setup) (n : ℕ) (s : State) (S : Sound setup n s) (count : ℕ) (next : s .engine .next ≡ count % 4294967296) (z : number run s ≡ 0) where
@@ -64,6 +70,28 @@ module _ (setup : Setup) (n : ℕ) (s : State) (S : Sound setup n s) (count : �
   unfolding withoutOldest
   run-next = next
 
+  -- the staged submission lies where it lay
+  pub run-offset : writeOffset (withoutOldest (s .engine)) ≡ writeOffset (s .engine)
+  unfolding withoutOldest sumOver
+  run-offset =
+      let e : Record = s .engine in
+      let v = valid-facts e (S .ok) in
+      let after : Record = withoutOldest e in
+      let rest : readyBytes after ≡ totalLength (waiting after) =
+      sum-waiting after (valid-facts after (run-valid e (S .sized) (length (s .ring)) (length (s .memory)) allowed)) (few-taken after (run-sized e (S .sized))) (λ b. b .length)
+      in
+      let all : readyBytes e ≡ oldest e .length + totalLength (waiting after) =
+      sum-waiting e v (few-taken e (S .sized)) (λ b. b .length) ∙ ap totalLength (run-waiting e (S .sized) (length (s .ring)) (length (s .memory)) allowed)
+      in
+      let within = ready-within e v (few-taken e (S .sized)) in
+      ap (λ (x : ℕ). wrapOffset (e .setup .ring) (wrapOffset (e .setup .ring) (e .read + oldest e .length) + x)) rest
+      ∙ wrapped-add (e .setup .ring) (e .read) (oldest e .length) (totalLength (waiting after)) (v .numbers .below) (omega arith)
+      ∙ ap (λ (x : ℕ). wrapOffset (e .setup .ring) (e .read + x)) (sym all)
+
+  run-staged : seenStaging (s .ring) (withoutOldest (s .engine)) ≡ seenStaging (s .ring) (s .engine)
+  unfolding seenStaging
+  run-staged = rw (run-offset, run-kept (s .engine) .3)
+
   abbrev told : Bounds → ResetRule → List ℕ → Answer
   told b r ws = completed (oldest (s .engine) .client) (oldest (s .engine) .ticket) (completionStatusOf (verdictOf (decodeBatch b (resetBank r) ws)))
 
@@ -74,7 +102,7 @@ module _ (setup : Setup) (n : ℕ) (s : State) (S : Sound setup n s) (count : �
     record {
       sound = run-sound;
       next = run-next;
-      is = rw (run-windows (s .engine) (S .sized) (length (s .ring)) (length (s .memory)) allowed, bounds, rule, read);
+      is = rw (run-staged, run-windows (s .engine) (S .sized) (length (s .ring)) (length (s .memory)) allowed, bounds, rule, read);
     },
   )
 

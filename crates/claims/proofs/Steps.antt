@@ -1,26 +1,35 @@
--- Open, submit and pending, if they are not refused, answer as the model does and leave what it leaves.
+-- Open, submit, begin, cancel and pending, if they are not refused, answer as the model does and leave what it leaves.
 use mathlib.Core.Path.{_≡_, refl, ap, sym, _∙_}
-use mathlib.Core.List.{List}
+use mathlib.Core.List.{List, []}
+use mathlib.Core.Bool.{true}
+use borrow.Author.Tests.{ne-eqb}
+use Rattle.ring.specs.Copied.{copiedIn}
 use Prim.Native.Nat.{ℕ, zero, suc, _%_}
 use native.Mathlib.Omega.{arith}
 use lib.ListN.{length}
 use Rattle.ring.proofs.Copied.{length-copied}
 use Rattle.record.specs.declared.Batch.{Batch as Ready}
+use Rattle.record.specs.Slots.{lowestFree}
+use Rattle.record.specs.Staged.{noStaged}
+use Rattle.record.specs.Rules.{valid}
+use Rattle.record.proofs.Rules.{length-good}
+use Rattle.ring.specs.Segment.{segment}
 use Rattle.record.specs.Queue.{writeOffset}
-use Rattle.queue.specs.Calls.{withClient, newBatch, withBatch}
+use Rattle.queue.specs.Calls.{unlessRefused, withClient, newBatch, withBatch, submitted, withStaged, begun, beginResult, cancelResult}
 use Rattle.queue.proofs.Refusals.{open-allowed, SubmitAllowed, submit-allowed}
 use Rattle.queue.proofs.Kept.{open-sized, open-valid, open-windows, open-waiting}
-use Rattle.queue.proofs.Submitted.{submit-sized, submit-valid, submit-windows, submit-held}
+use Rattle.queue.proofs.Submitted.{Addable, submit-addable, added-sized, added-valid, added-windows, added-held}
+use Rattle.queue.proofs.Stays.{begin-stays, cancel-stays}
 use Rattle.queue.proofs.Room.{submit-lies}
 use Rattle.model.specs.Windows.{Window}
-use Rattle.model.specs.Calls.{Setup, opens, submit, pending, opened, accepted, ready}
-use Rattle.model.specs.State.{Model}
+use Rattle.model.specs.Calls.{Setup, opens, submit, pending, begin, cancel, opened, accepted, ready}
+use Rattle.model.specs.State.{Model, idle, staging}
 use Rattle.model.specs.Model.{Step, refuseOr, effect}
 use Rattle.claims.specs.ModelProperties.{batchSemantics}
 use Rattle.claims.specs.Engine.{State, CallResult}
 use Rattle.claims.proofs.Cases.{given, number, done, either}
 use Rattle.claims.proofs.Seen.{seen-snoc, seenBatch}
-use Rattle.claims.proofs.Related.{seen, Sound, Related, open-count, client-count}
+use Rattle.claims.proofs.Related.{seen, seenStaging, none-seen, Sound, Related, open-count, client-count}
 
 -- the same answer, and related ends
 abbrev pub Alike : Setup → ℕ → CallResult → Step → Type 0
@@ -48,6 +57,10 @@ module _ (setup : Setup) (n : ℕ) (s : State) (S : Sound setup n s) (count : �
     long = S .long;
   }
 
+  open-staged : (w : Window) → seenStaging (s .ring) (withClient (s .engine) (given w)) ≡ seenStaging (s .ring) (s .engine)
+  unfolding seenStaging withClient
+  open-staged w = refl
+
   open-next : (w : Window) → done (opens w) s .after .engine .next ≡ count % 4294967296
   unfolding withClient
   open-next w = next
@@ -59,7 +72,7 @@ module _ (setup : Setup) (n : ℕ) (s : State) (S : Sound setup n s) (count : �
     record {
       sound = open-sound w z;
       next = open-next w;
-      is = rw (open-windows (s .engine) (given w) (S .sized) (open-allowed (s .engine) (given w) z .few), seen-snoc, open-waiting (s .engine) (given w) (S .sized));
+      is = rw (open-windows (s .engine) (given w) (S .sized) (open-allowed (s .engine) (given w) z .few), seen-snoc, open-waiting (s .engine) (given w) (S .sized), open-staged w);
     },
   )
 
@@ -72,11 +85,21 @@ module _ (setup : Setup) (n : ℕ) (s : State) (S : Sound setup n s) (count : �
     abbrev b : Ready
     b = newBatch (s .engine) client (length bytes)
 
+    abbrev at : ℕ
+    at = lowestFree (s .engine .slots)
+
+    addable : Addable (s .engine) at client (length bytes)
+    addable = submit-addable (s .engine) (S .sized) (length (s .ring)) client (length bytes) allowed
+
+    submit-none : submitted (s .engine) client (length bytes) .staged ≡ noStaged
+    unfolding withBatch
+    submit-none = refl
+
     submit-sound : Sound setup n (done (submit client bytes) s .after)
     unfolding withBatch
     submit-sound = record {
-      sized = submit-sized (s .engine) b (S .sized);
-      ok = submit-valid (s .engine) (S .sized) (length (s .ring)) client (length bytes) allowed;
+      sized = added-sized (s .engine) at b (S .sized);
+      ok = added-valid (s .engine) (S .sized) at client (length bytes) addable;
       numbers = S .numbers;
       long = length-copied (s .ring) (writeOffset (s .engine)) bytes (submit-lies (s .engine) (s .ring) client (length bytes) allowed) ∙ S .long;
     }
@@ -92,9 +115,47 @@ module _ (setup : Setup) (n : ℕ) (s : State) (S : Sound setup n s) (count : �
       record {
         sound = submit-sound;
         next = submit-next;
-        is = rw (submit-windows (s .engine) (S .sized) (length (s .ring)) client (length bytes) allowed, submit-held seenBatch (s .engine) (S .sized) (s .ring) client bytes allowed, next);
+        is = rw (added-windows (s .engine) (S .sized) at client (length bytes) addable, added-held seenBatch (s .engine) (S .sized) (s .ring) (allowed .ring) at client bytes addable, none-seen (copiedIn (s .ring) (writeOffset (s .engine)) bytes) (submitted (s .engine) client (length bytes)) submit-none, next);
       },
     )
+
+  -- ---- begin and cancel
+
+  module _ (client total : ℕ) (z : number (begin client total) s ≡ 0) where
+    begin-ok : valid (withStaged (s .engine) (begun (s .engine) client total)) ≡ true
+    unfolding beginResult unlessRefused
+    begin-ok = rw z at (begin-stays (s .engine) (S .sized) (S .ok) (length (s .ring)) client total .0)
+
+    begin-sound : Sound setup n (done (begin client total) s .after)
+    unfolding withStaged
+    begin-sound = record { sized = record { clients = S .sized .clients; slots = S .sized .slots; next = S .sized .next }; ok = begin-ok; numbers = S .numbers; long = S .long }
+
+    begin-seen : seenStaging (s .ring) (withStaged (s .engine) (begun (s .engine) client total)) ≡ staging client total []
+    unfolding seenStaging withStaged segment
+    begin-seen =
+        let good = length-good (s .engine .setup .ring) total (submit-allowed (s .engine) (length (s .ring)) client total z .allowed) in
+        rw (ne-eqb total 0 (omega (arith, good .some)))
+
+    pub begin-done : Alike setup n (done (begin client total) s) (effect (batchSemantics setup) setup n (begin client total) (seen count s))
+    unfolding effect withStaged
+    begin-done = (refl, record { sound = begin-sound; next = next; is = rw begin-seen })
+
+  module _ (client : ℕ) (z : number (cancel client) s ≡ 0) where
+    cancel-ok : valid (withStaged (s .engine) noStaged) ≡ true
+    unfolding cancelResult unlessRefused
+    cancel-ok = rw z at (cancel-stays (s .engine) (S .sized) (S .ok) client .0)
+
+    cancel-sound : Sound setup n (done (cancel client) s .after)
+    unfolding withStaged
+    cancel-sound = record { sized = record { clients = S .sized .clients; slots = S .sized .slots; next = S .sized .next }; ok = cancel-ok; numbers = S .numbers; long = S .long }
+
+    cancel-seen : seenStaging (s .ring) (withStaged (s .engine) noStaged) ≡ idle
+    unfolding withStaged
+    cancel-seen = none-seen (s .ring) (withStaged (s .engine) noStaged) refl
+
+    pub cancel-done : Alike setup n (done (cancel client) s) (effect (batchSemantics setup) setup n (cancel client) (seen count s))
+    unfolding effect withStaged
+    cancel-done = (refl, record { sound = cancel-sound; next = next; is = rw cancel-seen })
 
   -- ---- pending
 

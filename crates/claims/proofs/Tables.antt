@@ -1,11 +1,14 @@
 -- Engine and model refuse alike.
-use mathlib.Core.Path.{_≡_, refl, ap₂, _∙_}
+use mathlib.Core.Path.{_≡_, refl, sym, ap, ap₂, _∙_}
+use Rattle.record.specs.Staged.{stagedBy, missingBytes}
+use Rattle.model.specs.State.{missingBytes as missingBytesM}
 use mathlib.Core.List.{List, [], _∷_}
 use mathlib.Core.Bool.{Bool, true, false, cond, _||_, _&&_, not}
 use mathlib.Core.Logic.{⊎-elim}
 use Prim.Native.Nat.{ℕ, _+_, _≤_, _<_}
 use native.Mathlib.Omega.{arith}
 use lib.Dec.{ltb, leb, eqb}
+use lib.ListN.{length}
 use borrow.Author.Tests.{lt-ltb, le-ltb, le-leb, lt-leb, eqb-true, eqb-false, not-true}
 use Rattle.word.proofs.Tests.{split, and-true}
 use Rattle.range.specs.Range.{containedIn, overlaps}
@@ -13,14 +16,14 @@ use Rattle.record.specs.declared.Setup.{Setup as Numbers}
 use Rattle.record.specs.declared.Window.{Window as Place}
 use Rattle.record.specs.Clients.{openWindows, windowRange, prefixRange, overlapsAny, badWindow as badPlace, windowsValid}
 use Rattle.record.proofs.Windows.{placed, shared-tests, shared-first}
-use Rattle.queue.specs.Refusals.{firstRefusal}
+use Rattle.queue.specs.Refusals.{firstRefusal, submitTable}
 use Rattle.model.specs.Windows.{Window, window, overlap, overlapAny}
-use Rattle.model.specs.Calls.{Setup, Call, opens, submit, run, pending}
-use Rattle.model.specs.Refusals.{refusalTable, firstHolding as firstRow, refusal}
+use Rattle.model.specs.Calls.{Setup, Call, opens, submit, run, pending, begin, piece, cancel}
+use Rattle.model.specs.Refusals.{batchRows, refusalTable, firstHolding as firstRow, refusal}
 use Rattle.claims.specs.Engine.{State}
 use Rattle.claims.proofs.Cases.{given, number}
 use Rattle.claims.proofs.Seen.{seenWindows}
-use Rattle.claims.proofs.Related.{numbersIn, seen, Sound, facts, open-count, slots-count, bytes-count}
+use Rattle.claims.proofs.Related.{numbersIn, seen, seenStaging, Sound, facts, open-count, slots-count, bytes-count, idle-like, by-like, slots-like, room-like, missing-like, staged-long}
 
 -- ---- row 4
 
@@ -69,16 +72,44 @@ past-ten : (t : Bool) (a b : ℕ) → (t ≡ true → a ≡ b) → cond (not t) 
 past-ten true a b h = h refl
 past-ten false a b h = refl
 
+-- a piece's rows below 11
+piece-rows : (there own : Bool) (m m′ size : ℕ) (t t′ : Bool) → t ≡ t′ → (t′ ≡ true → m ≡ m′) →
+    _≡_ {A = ℕ} (cond (not t) 10 (cond (not there) 5 (cond (not own || ltb m size) 14 0))) (cond (not t′) 10 (cond (not there) 5 (cond (not own || ltb m′ size) 14 0)))
+piece-rows there own m m′ size t t′ e h =
+    rw e (past-ten t′ (cond (not there) 5 (cond (not own || ltb m size) 14 0)) (cond (not there) 5 (cond (not own || ltb m′ size) 14 0))
+    (λ q. ap (λ (x : ℕ). cond (not there) 5 (cond (not own || ltb x size) 14 0)) (h q)))
+
 module _ (setup : Setup) (n : ℕ) (s : State) (S : Sound setup n s) (accepted : ℕ) where
   open-alike : (w : Window) → number (opens w) s ≡ refusal setup n (seen accepted s) (opens w)
   unfolding firstRefusal firstRow refusalTable
   open-alike w = rw (S .ok, open-count setup n s S, S .numbers, bad-like setup w (openWindows (s .engine)) (rw (S .numbers) at (facts setup n s S .windows)))
 
-  submit-alike : (client : ℕ) (bytes : List ℕ) → number (submit client bytes) s ≡ refusal setup n (seen accepted s) (submit client bytes)
-  unfolding firstRefusal firstRow refusalTable
-  submit-alike client bytes =
-      rw (S .ok, S .long, S .numbers, open-count setup n s S, slots-count setup n s S)
+  -- submit and begin
+  batch-alike : (client size : ℕ) → firstRefusal (submitTable (s .engine) (length (s .ring)) client size) ≡ firstRow (batchRows setup n (seen accepted s) client size)
+  unfolding firstRefusal firstRow
+  batch-alike client size =
+      rw (idle-like (s .ring) (s .engine), slots-like (s .ring) (s .engine), room-like (s .ring) (s .engine), S .ok, S .long, S .numbers, open-count setup n s S, slots-count setup n s S)
       (past-ten (eqb n (setup .ring)) _ _ (λ e. rw (bytes-count setup n s S (eqb-true n (setup .ring) e))))
+
+  submit-alike : (client : ℕ) (bytes : List ℕ) → number (submit client bytes) s ≡ refusal setup n (seen accepted s) (submit client bytes)
+  unfolding refusalTable
+  submit-alike client bytes = batch-alike client (length bytes)
+
+  begin-alike : (client total : ℕ) → number (begin client total) s ≡ refusal setup n (seen accepted s) (begin client total)
+  unfolding refusalTable
+  begin-alike client total = batch-alike client total
+
+  piece-alike : (client : ℕ) (bytes : List ℕ) → number (piece client bytes) s ≡ refusal setup n (seen accepted s) (piece client bytes)
+  unfolding firstRefusal firstRow refusalTable
+  piece-alike client bytes =
+      rw (by-like (s .ring) (s .engine) client, S .ok, open-count setup n s S)
+      (piece-rows (ltb client (s .engine .opened)) (stagedBy (s .engine .staged) client) (missingBytes (s .engine .staged)) (missingBytesM (seenStaging (s .ring) (s .engine))) (length bytes)
+      (eqb (length (s .ring)) (s .engine .setup .ring)) (eqb n (setup .ring)) (ap₂ eqb (S .long) (ap (λ (x : Numbers). x .ring) (S .numbers)))
+      (λ e. sym (missing-like (s .ring) (s .engine) (staged-long setup n s S (eqb-true n (setup .ring) e)))))
+
+  cancel-alike : (client : ℕ) → number (cancel client) s ≡ refusal setup n (seen accepted s) (cancel client)
+  unfolding firstRefusal firstRow refusalTable
+  cancel-alike client = rw (S .ok, open-count setup n s S, by-like (s .ring) (s .engine) client)
 
   run-alike : number run s ≡ refusal setup n (seen accepted s) run
   unfolding firstRefusal firstRow refusalTable
@@ -93,3 +124,6 @@ module _ (setup : Setup) (n : ℕ) (s : State) (S : Sound setup n s) (accepted :
   alike (submit client bytes) = submit-alike client bytes
   alike run = run-alike
   alike (pending client) = pending-alike client
+  alike (begin client total) = begin-alike client total
+  alike (piece client bytes) = piece-alike client bytes
+  alike (cancel client) = cancel-alike client

@@ -12,6 +12,7 @@ use Rattle.claims.proofs.OfModel.{of-model}
 use Rattle.claims.proofs.Demand1.{demand1}
 use Rattle.claims.proofs.Follows.{like-model}
 use Rattle.claims.proofs.InTime.{in-time}
+use Rattle.claims.proofs.Cutting.{cutting}
 use Rattle.claims.proofs.Faulted.{stands}
 
 module _ (setup : Setup) (A : SetUpAccepted setup) where
@@ -45,6 +46,7 @@ promise setup ring A = record {
   separate = separate setup A ring;
   unmoved = λ client ring′. unmoved setup A client ring ring′;
   in-time = in-time setup ring A;
+  cutting = cutting setup ring A;
   harmless = λ call s. demand1 .calls s .harmless call;
   stands = stands setup ring A;
 }

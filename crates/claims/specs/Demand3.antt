@@ -1,22 +1,23 @@
--- Demand 3 (01, "The book of demand 3"): what is promised of the engine over any list of open, submit, run and pending calls, refused ones
+-- Demand 3 (01, "The book of demand 3"): what is promised of the engine over any list of calls after set up, refused ones
 -- included, from an accepted set up, with any ring and memory at the start. `batchSemantics setup` is reading, judging and drawing by demand 2's
 -- definitions, with the reset rule of the set up (ModelProperties). The model is in crates/model/specs. One hypothesis: set up was accepted. proofs/Theorem.antt proves it.
 use mathlib.Core.Path.{_≡_}
-use mathlib.Core.List.{List, [], _∷_, List·Memᴰ}
+use mathlib.Core.List.{List, [], _∷_, _++_, map, flatten, List·Memᴰ}
 use Prim.Native.Nat.{ℕ, _/_, _≤_, _<_}
 use lib.ListN.{length, take}
 use Rattle.raster.specs.Task.{drawTasks}
 use Rattle.record.specs.Queue.{waiting}
+use Rattle.queue.specs.Refusals.{firstRefusal}
 use Rattle.engine.specs.Run.{oldest}
 use Rattle.model.specs.Windows.{byte}
-use Rattle.model.specs.Calls.{Setup, Call, submit, run, CompletionStatus, Answer, opened, accepted, completed, ready, refused, completions}
+use Rattle.model.specs.Calls.{Setup, Call, submit, run, begin, piece, CompletionStatus, Answer, opened, accepted, completed, ready, missing, done, refused, completions}
 use Rattle.model.specs.State.{Model, initialModel, Owns}
 use Rattle.model.specs.Model.{answers, modelAfterAll}
 use Rattle.model.specs.ReplayedAlone.{replayedAlone}
 use Rattle.model.specs.Noninterference.{Pointwise, LowEqualAnswer, LowEquivalent}
 use Rattle.claims.specs.ModelProperties.{batchSemantics}
 use Rattle.claims.specs.Engine.{State, CallResult, performCall, answersOf, stateAfter, SetUpAccepted, initialState}
-use Rattle.claims.specs.Demand1.{RefusalNoOp, standing}
+use Rattle.claims.specs.Demand1.{refusalTableOf, RefusalNoOp, standing}
 
 -- the completions among the answers, in order: the successful runs
 unfoldable pub completedOf : List Answer → List Answer
@@ -25,6 +26,8 @@ completedOf (completed c t v ∷ rest) = completed c t v ∷ completedOf rest
 completedOf (opened c ∷ rest) = completedOf rest
 completedOf (accepted t ∷ rest) = completedOf rest
 completedOf (ready n ∷ rest) = completedOf rest
+completedOf (missing n ∷ rest) = completedOf rest
+completedOf (done ∷ rest) = completedOf rest
 completedOf (refused n ∷ rest) = completedOf rest
 
 module _ (setup : Setup) (ring : List ℕ) where
@@ -49,13 +52,27 @@ module _ (setup : Setup) (ring : List ℕ) where
       pub common : (i : ℕ) → i < setup .common → byte (finalState .memory) i ≡ byte memory i
       pub size : length (finalState .memory) ≡ length memory
 
-    -- d: a batch that is accepted now is among the first eight that later calls complete, once eight of their runs have succeeded
-    abbrev pub BoundedWaiting : (later : List Call) → Type 0
-    BoundedWaiting later = (client ticket : ℕ) (bytes : List ℕ) →
-        let submitted : CallResult = performCall (submit client bytes) finalState in
-        submitted .answer ≡ accepted ticket →
-        8 ≤ completions (answersOf later (submitted .after)) →
-        (v : CompletionStatus) × List·Memᴰ (completed client ticket v) (take 8 (completedOf (answersOf later (submitted .after))))
+    -- d: a batch that the call makes ready now is among the first eight that later calls complete, once eight of their runs have succeeded
+    abbrev pub CompletedSoon : Call → (client : ℕ) → (later : List Call) → Type 0
+    CompletedSoon call client later = (ticket : ℕ) →
+        let made : CallResult = performCall call finalState in
+        made .answer ≡ accepted ticket →
+        8 ≤ completions (answersOf later (made .after)) →
+        (v : CompletionStatus) × List·Memᴰ (completed client ticket v) (take 8 (completedOf (answersOf later (made .after))))
+
+    -- a submit makes its batch ready, and the last piece of a staged submission (02, 6: "the last piece makes the batch ready")
+    pub record BoundedWaiting (later : List Call) : Type 0 where
+      pub submitted : (client : ℕ) (bytes : List ℕ) → CompletedSoon (submit client bytes) client later
+      pub last-piece : (client : ℕ) (bytes : List ℕ) → CompletedSoon (piece client bytes) client later
+
+    -- 02, 6: "With no other call between, every cutting gives the record, ring and ticket that a whole submit gives." Begin is refused as the submit
+    -- is; if it is not, then the last piece answers and leaves just what the submit does. Pieces may be empty, but not the last.
+    pub record Cutting (client : ℕ) (pieces : List (List ℕ)) (last : List ℕ) : Type 0 where
+      pub checks : firstRefusal (refusalTableOf (begin client (length (flatten pieces ++ last))) finalState)
+          ≡ firstRefusal (refusalTableOf (submit client (flatten pieces ++ last)) finalState)
+      pub whole : 0 < length last → firstRefusal (refusalTableOf (submit client (flatten pieces ++ last)) finalState) ≡ 0 →
+          performCall (piece client last) (stateAfter (begin client (length (flatten pieces ++ last)) ∷ map (piece client) pieces) finalState)
+          ≡ performCall (submit client (flatten pieces ++ last)) finalState
 
     -- e: a faulty batch leaves memory with the tasks before its fault drawn, as many as the upper half of its status says (02, 5), and the queue without it
     abbrev pub FaultyBatchStands : Type 0
@@ -79,6 +96,7 @@ pub record Demand3 (setup : Setup) (ring : List ℕ) : Type 0 where
   pub unmoved : (client : ℕ) (ring′ : List ℕ) (calls calls′ : List Call) (memory memory′ : List ℕ) → length ring ≡ length ring′ →
       LowEquivalent (batchSemantics setup) setup (length ring) client calls calls′ memory memory′ → Noninterference setup ring client ring′ calls calls′ memory memory′
   pub in-time : (calls later : List Call) (memory : List ℕ) → BoundedWaiting setup ring calls memory later
+  pub cutting : (calls : List Call) (memory : List ℕ) (client : ℕ) (pieces : List (List ℕ)) (last : List ℕ) → Cutting setup ring calls memory client pieces last
   -- e: a refused call changes nothing (demand 1)
   pub harmless : (call : Call) (s : State) → RefusalNoOp call s
   pub stands : (calls : List Call) (memory : List ℕ) → FaultyBatchStands setup ring calls memory

@@ -3,15 +3,17 @@
 use mathlib.Core.Path.{_≡_}
 use mathlib.Core.List.{List, [], _∷_}
 use Prim.Native.Nat.{ℕ, zero, suc}
+use lib.ListN.{length}
 use Rattle.record.specs.declared.Record.{Record}
 use Rattle.queue.specs.declared.Answer.{Answer as Told}
+use Rattle.queue.specs.declared.Answer.the-variants.{Refused, Done, Opened, Accepted, Ready, Missing}
 use Rattle.queue.specs.declared.Reply.{Reply}
 use Rattle.queue.specs.Answers.{refusalNumberOf, valueOf}
-use Rattle.queue.specs.Calls.{setUpResult, openResult, submitResult, submitRing, pendingAnswer}
+use Rattle.queue.specs.Calls.{setUpResult, openResult, submitResult, submitRing, beginResult, pieceResult, pieceRing, cancelResult, pendingAnswer}
 use Rattle.engine.specs.declared.Ran.{Ran}
 use Rattle.engine.specs.Outcome.{CompletionValues, runRefusalOf as refusalOf, valuesOf}
 use Rattle.engine.specs.Run.{runResult, runMemory}
-use Rattle.model.specs.Calls.{Setup, Call, opens, submit, run, pending, Answer, opened, accepted, completed, ready, refused}
+use Rattle.model.specs.Calls.{Setup, Call, opens, submit, run, pending, begin, piece, cancel, Answer, opened, accepted, completed, ready, missing, done, refused}
 
 -- the engine record, and the ring and memory that are lent to every call
 pub record State : Type 0 where
@@ -36,6 +38,15 @@ answerOrRefusal (suc n) answer = refused (suc n)
 abbrev pub completion : CompletionValues → Answer
 completion v = completed (v .client) (v .ticket) (record { status = v .status; fault = v .fault; offset = v .offset })
 
+-- 02, 6: "A piece answers the bytes still to come, the last its ticket."
+abbrev pub pieceTold : Told → Answer
+pieceTold (Accepted ticket) = accepted ticket
+pieceTold (Missing bytes) = missing bytes
+pieceTold (Opened client) = opened client
+pieceTold (Ready count) = ready count
+pieceTold Done = done
+pieceTold (Refused number) = refused number
+
 unfoldable pub performCall : Call → State → CallResult
 performCall (opens w) s =
     let r : Reply = openResult (s .engine) (record { start = w .start; length = w .length }) in
@@ -55,6 +66,18 @@ performCall run s =
 performCall (pending client) s =
     let a : Told = pendingAnswer (s .engine) client in
     record { answer = answerOrRefusal (refusalNumberOf a) (ready (valueOf a)); after = s }
+performCall (begin client total) s =
+    let r : Reply = beginResult (s .engine) (length (s .ring)) client total in
+    record { answer = answerOrRefusal (refusalNumberOf (r .answer)) done; after = mkState (r .engine) (s .ring) (s .memory) }
+performCall (piece client bytes) s =
+    let r : Reply = pieceResult (s .engine) (s .ring) client bytes in
+    record {
+      answer = answerOrRefusal (refusalNumberOf (r .answer)) (pieceTold (r .answer));
+      after = mkState (r .engine) (pieceRing (s .engine) (s .ring) client bytes) (s .memory);
+    }
+performCall (cancel client) s =
+    let r : Reply = cancelResult (s .engine) client in
+    record { answer = answerOrRefusal (refusalNumberOf (r .answer)) done; after = mkState (r .engine) (s .ring) (s .memory) }
 
 -- ---- a list of calls
 

@@ -7,7 +7,7 @@ use Rattle.model.specs.Calls.{Setup, Call}
 use Rattle.model.specs.BatchSemantics.{BatchSemantics}
 use Rattle.model.specs.State.{Model}
 use Rattle.model.specs.Noninterference.{LowEquivalent}
-use Rattle.model.specs.Properties.{Isolation, Noninterference, WindowStable, FifoOrder, BoundedWaiting, RefusalNoOp}
+use Rattle.model.specs.Properties.{Isolation, Noninterference, WindowStable, OfOpen, FifoOrder, BoundedWaiting, RefusalNoOp, Cutting}
 use Rattle.claims.specs.BatchSemantics.{semanticsFrom}
 
 -- the registers at reset by the rule of the set up (02, request 2)
@@ -23,9 +23,13 @@ pub record ModelPropertiesHold (setup : Setup) (ring : ℕ) : Type 0 where
       LowEquivalent (batchSemantics setup) setup ring client calls calls′ memory memory′ → Noninterference (batchSemantics setup) setup ring client calls calls′ memory memory′
   -- a client's window is the one that it opens in the list
   pub holds : (calls later : List Call) (memory : List ℕ) → WindowStable (batchSemantics setup) setup ring calls memory later
+  -- every waiting batch is of an open client, and so is the staged submission
+  pub of-open : (calls : List Call) (memory : List ℕ) → OfOpen (batchSemantics setup) setup ring calls memory
   -- batches are executed in the order of their tickets; at most eight wait
   pub in-order : (calls : List Call) (memory : List ℕ) → FifoOrder (batchSemantics setup) setup ring calls memory
   -- an accepted batch is taken at the latest by the eighth successful run after it
   pub in-time : (calls later : List Call) (memory : List ℕ) → BoundedWaiting (batchSemantics setup) setup ring calls memory later
   -- a refused call changes nothing
   pub harmless : (call : Call) (model : Model) → RefusalNoOp (batchSemantics setup) setup ring call model
+  -- every way to cut a batch into pieces comes to what a whole submit comes to
+  pub cutting : (client : ℕ) (pieces : List (List ℕ)) (last : List ℕ) (model : Model) → Cutting (batchSemantics setup) setup ring client pieces last model

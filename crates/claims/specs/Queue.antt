@@ -1,7 +1,7 @@
--- The queue (01, "Engine, desks, queue"), of the engine after any list of calls from an accepted set up: where a batch is put, which one run takes,
--- and that the others wait on with their bytes. proofs/Queue.antt proves `Promise`.
+-- The queue (01, "Engine, desks, queue"; 02, 6), of the engine after any list of calls from an accepted set up: where a batch is put, whole or by
+-- pieces, which one run takes, and that the others wait on with their bytes. proofs/Queue.antt proves `Promise`.
 use mathlib.Core.Path.{_≡_}
-use mathlib.Core.Bool.{true}
+use mathlib.Core.Bool.{true, false}
 use mathlib.Core.List.{List, [], _∷_, _++_}
 use Prim.Native.Nat.{ℕ, _+_, _-_}
 use lib.ListN.{length}
@@ -10,13 +10,14 @@ use Rattle.ring.specs.Segment.{segment, wrapOffset}
 use Rattle.record.specs.declared.Batch.{Batch}
 use Rattle.record.specs.Slots.{totalLength}
 use Rattle.record.specs.Clients.{openWindows}
+use Rattle.record.specs.Staged.{noStaged}
 use Rattle.record.specs.Queue.{freeBytes, writeOffset, waiting}
 use Rattle.record.specs.Rules.{valid}
 use Rattle.queue.specs.Refusals.{firstRefusal}
-use Rattle.queue.specs.Calls.{newBatch}
+use Rattle.queue.specs.Calls.{newBatch, begun, more, isLast}
 use Rattle.engine.specs.Run.{oldest, oldestWords}
 use Rattle.model.specs.Windows.{Window}
-use Rattle.model.specs.Calls.{Setup, Call, opens, submit, run}
+use Rattle.model.specs.Calls.{Setup, Call, opens, submit, run, begin, piece, cancel}
 use Rattle.claims.specs.Engine.{State, performCall, SetUpAccepted}
 use Rattle.claims.specs.Demand1.{refusalTableOf}
 use Rattle.claims.specs.Demand3.{finalState}
@@ -34,12 +35,45 @@ pub record Submitted (client : ℕ) (bytes : List ℕ) (s after : State) : Type 
   pub last : waiting (after .engine) ≡ waiting (s .engine) ++ newBatch (s .engine) client (length bytes) ∷ []
   pub copied : contents (after .ring) (waiting (after .engine)) ≡ contents (s .ring) (waiting (s .engine)) ++ bytes ∷ []
 
+-- 02, 6: the bytes of the open hand-over that have come, "right after the newest ready one (at the read offset if none is ready)"
+abbrev pub bytesSoFar : State → List ℕ
+bytesSoFar s = segment (s .ring) (writeOffset (s .engine)) (s .engine .staged .received)
+
+-- before and after an accepted begin: it "holds slot and room" and no byte has come; what waits stays, and so does the ring
+pub record Begun (client total : ℕ) (s after : State) : Type 0 where
+  pub held : after .engine .staged ≡ begun (s .engine) client total
+  pub waits : waiting (after .engine) ≡ waiting (s .engine)
+  pub ring : after .ring ≡ s .ring
+
+-- before and after an accepted piece that is not the last: it lies behind the bytes that had come, and what waits stays with its bytes
+pub record Continued (bytes : List ℕ) (s after : State) : Type 0 where
+  pub on : after .engine .staged ≡ more (s .engine .staged) (length bytes)
+  pub come : bytesSoFar after ≡ bytesSoFar s ++ bytes
+  pub waits : waiting (after .engine) ≡ waiting (s .engine)
+  pub kept : contents (after .ring) (waiting (after .engine)) ≡ contents (s .ring) (waiting (s .engine))
+
+-- before and after the last piece: none is open, and its batch, of all the bytes that have come, is the last to wait, "as submit does"
+pub record Finished (bytes : List ℕ) (s after : State) : Type 0 where
+  pub none : after .engine .staged ≡ noStaged
+  pub last : waiting (after .engine) ≡ waiting (s .engine) ++ newBatch (s .engine) (s .engine .staged .client) (s .engine .staged .total) ∷ []
+  pub copied : contents (after .ring) (waiting (after .engine)) ≡ contents (s .ring) (waiting (s .engine)) ++ (bytesSoFar s ++ bytes) ∷ []
+
+-- before and after an accepted cancel: none is open, "bytes already copied stay", the read offset stays, and so does what waits
+pub record Cancelled (s after : State) : Type 0 where
+  pub none : after .engine .staged ≡ noStaged
+  pub waits : waiting (after .engine) ≡ waiting (s .engine)
+  pub read : after .engine .read ≡ s .engine .read
+  pub ring : after .ring ≡ s .ring
+
 -- before and after a run that is not refused: it took the first that waited, which lay at the read offset; the others wait on, with their bytes
 pub record Taken (s after : State) : Type 0 where
   pub first : waiting (s .engine) ≡ oldest (s .engine) ∷ waiting (after .engine)
   pub at-read : oldest (s .engine) .offset ≡ s .engine .read
   pub whole : oldestWords (s .engine) (s .ring) ≡ words (bytesIn (s .ring) (oldest (s .engine)))
   pub kept : contents (s .ring) (waiting (s .engine)) ≡ bytesIn (s .ring) (oldest (s .engine)) ∷ contents (after .ring) (waiting (after .engine))
+  -- 02, 6: "Runs go on meanwhile": the open hand-over lies where it lay, with its bytes
+  pub staged : after .engine .staged ≡ s .engine .staged
+  pub so-far : bytesSoFar after ≡ bytesSoFar s
 
 pub record Queue (s : State) : Type 0 where
   -- the record keeps its rules: 11 never comes
@@ -53,10 +87,17 @@ pub record Queue (s : State) : Type 0 where
   pub none-ready : waiting (s .engine) ≡ [] → writeOffset (s .engine) ≡ s .engine .read
   pub submitted : (client : ℕ) (bytes : List ℕ) → firstRefusal (refusalTableOf (submit client bytes) s) ≡ 0 →
       Submitted client bytes s (performCall (submit client bytes) s .after)
+  -- 02, 6: "begin a batch with its total length and then hand over pieces of any length, zero too"; "it can be cancelled"
+  pub begins : (client total : ℕ) → firstRefusal (refusalTableOf (begin client total) s) ≡ 0 → Begun client total s (performCall (begin client total) s .after)
+  pub continued : (client : ℕ) (bytes : List ℕ) → firstRefusal (refusalTableOf (piece client bytes) s) ≡ 0 → isLast (s .engine .staged) (length bytes) ≡ false →
+      Continued bytes s (performCall (piece client bytes) s .after)
+  pub finished : (client : ℕ) (bytes : List ℕ) → firstRefusal (refusalTableOf (piece client bytes) s) ≡ 0 → isLast (s .engine .staged) (length bytes) ≡ true →
+      Finished bytes s (performCall (piece client bytes) s .after)
+  pub cancelled : (client : ℕ) → firstRefusal (refusalTableOf (cancel client) s) ≡ 0 → Cancelled s (performCall (cancel client) s .after)
   -- "Run takes the oldest batch .. frees its slot and ring bytes"
   pub taken : firstRefusal (refusalTableOf run s) ≡ 0 → Taken s (performCall run s .after)
-  -- "free ring bytes are the ring less the waiting lengths"
-  pub free : freeBytes (s .engine) ≡ s .engine .setup .ring - totalLength (waiting (s .engine))
+  -- "free ring bytes are the ring less the waiting lengths", the staged total among them (02, 6)
+  pub free : freeBytes (s .engine) ≡ s .engine .setup .ring - (totalLength (waiting (s .engine)) + s .engine .staged .total)
 
 abbrev pub Promise : Type 0
 Promise = (setup : Setup) (ring : List ℕ) → SetUpAccepted setup → (calls : List Call) (memory : List ℕ) → Queue (finalState setup ring calls memory)

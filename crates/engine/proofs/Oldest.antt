@@ -18,7 +18,7 @@ use Rattle.record.specs.declared.Record.{Record}
 use Rattle.record.specs.Slots.{free, readyBatches, sumOver, countOf}
 use Rattle.record.specs.Tickets.{ticketBefore, slotOfTicket, batchOfTicket, ticketsConsecutive, inTicketOrder}
 use Rattle.record.specs.Clients.{isOpen, clientAt}
-use Rattle.record.specs.Queue.{takenSlots, waiting}
+use Rattle.record.specs.Queue.{readySlots, waiting}
 use Rattle.record.specs.Rules.{clientsOpen, valid}
 use Rattle.record.proofs.Slots.{ready-most}
 use Rattle.record.proofs.Order.{oldest as is-oldest}
@@ -29,26 +29,26 @@ use Rattle.queue.proofs.Room.{pending-right}
 use Rattle.engine.specs.Run.{oldestTicket, oldest, boundsOfClient, pendingLowered, withoutOldest}
 
 -- its client is open
-pub owner-open : (engine : Record) → valid engine ≡ true → 0 < takenSlots engine → isOpen engine (oldest engine .client) ≡ true
+pub owner-open : (engine : Record) → valid engine ≡ true → 0 < readySlots engine → isOpen engine (oldest engine .client) ≡ true
 unfolding inTicketOrder clientsOpen
-owner-open engine ok some = go (takenSlots engine) refl some
+owner-open engine ok some = go (readySlots engine) refl some
   where
-    go : (n : ℕ) → takenSlots engine ≡ n → 0 < n → isOpen engine (oldest engine .client) ≡ true
+    go : (n : ℕ) → readySlots engine ≡ n → 0 < n → isOpen engine (oldest engine .client) ≡ true
     go zero e h = absurd (omega arith)
     go (suc k) e h =
         let b : Batch = batchOfTicket (ticketBefore (engine .next) (suc k)) (engine .slots) in
         rw e (and-true (isOpen engine (b .client)) (clientsOpen engine (inTicketOrder k (engine .next) (engine .slots))) (rw e at (valid-facts engine ok .owners)) .0)
 
 -- it is one of the four
-pub owner-small : (engine : Record) → valid engine ≡ true → 0 < takenSlots engine → oldest engine .client < 4
+pub owner-small : (engine : Record) → valid engine ≡ true → 0 < readySlots engine → oldest engine .client < 4
 owner-small engine ok some =
     omega (arith, ltb-true (oldest engine .client) (engine .opened) (owner-open engine ok some), valid-facts engine ok .numbers .clients)
 
 -- its slot is one of the eight
-pub slot-below : (engine : Record) → valid engine ≡ true → 0 < takenSlots engine → length (engine .slots) ≡ 8 → slotOfTicket (oldestTicket engine) (engine .slots) < 8
+pub slot-below : (engine : Record) → valid engine ≡ true → 0 < readySlots engine → length (engine .slots) ≡ 8 → slotOfTicket (oldestTicket engine) (engine .slots) < 8
 slot-below engine ok some eight =
-    let k : ℕ = takenSlots engine - 1 in
-    let more : takenSlots engine ≡ suc k = omega arith in
+    let k : ℕ = readySlots engine - 1 in
+    let more : readySlots engine ≡ suc k = omega arith in
     let few = ready-most (engine .slots) in
     let given : ticketsConsecutive (suc k) (engine .next) (engine .slots) ≡ true = ap (λ (n : ℕ). ticketsConsecutive n (engine .next) (engine .slots)) (sym more) ∙ valid-facts engine ok .given in
     let found = is-oldest (engine .next) k (engine .slots) (omega arith) given .found in
@@ -56,7 +56,7 @@ slot-below engine ok some eight =
     omega arith
 
 -- k batches are ready beside it
-module _ (engine : Record) (ok : valid engine ≡ true) (k : ℕ) (more : takenSlots engine ≡ suc k) (four : length (engine .clients) ≡ 4) (eight : length (engine .slots) ≡ 8) where
+module _ (engine : Record) (ok : valid engine ≡ true) (k : ℕ) (more : readySlots engine ≡ suc k) (four : length (engine .clients) ≡ 4) (eight : length (engine .slots) ≡ 8) where
   v : Valid engine
   v = valid-facts engine ok
 
@@ -91,10 +91,10 @@ pub record Takes (engine : Record) : Type 0 where
   pub counted : 1 ≤ clientAt engine (oldest engine .client) .pending
   pub offset : engine .read + oldest engine .length < 65536
 
-pub takes : (engine : Record) → valid engine ≡ true → 0 < takenSlots engine → length (engine .clients) ≡ 4 → length (engine .slots) ≡ 8 → Takes engine
+pub takes : (engine : Record) → valid engine ≡ true → 0 < readySlots engine → length (engine .clients) ≡ 4 → length (engine .slots) ≡ 8 → Takes engine
 takes engine ok some four eight =
-    let k : ℕ = takenSlots engine - 1 in
-    let more : takenSlots engine ≡ suc k = omega arith in
+    let k : ℕ = readySlots engine - 1 in
+    let more : readySlots engine ≡ suc k = omega arith in
     let v = valid-facts engine ok in
     record {
       slot = slot-below engine ok some eight;
@@ -107,12 +107,12 @@ takes engine ok some four eight =
 pub without-made : (engine : Record) (at : ℕ) → at ≡ slotOfTicket (oldestTicket engine) (engine .slots) → (b : Batch) → b ≡ oldest engine →
     (clients : List Client) → clients ≡ pendingLowered (engine .clients) (b .client) → (slots : List Slot) → slots ≡ set (engine .slots) at free →
     (read : ℕ) → read ≡ wrapOffset (engine .setup .ring) (engine .read + b .length) →
-    record { setup = engine .setup; clients = clients; opened = engine .opened; slots = slots; read = read; next = engine .next } ≡ withoutOldest engine
+    record { setup = engine .setup; clients = clients; opened = engine .opened; slots = slots; read = read; next = engine .next; staged = engine .staged } ≡ withoutOldest engine
 unfolding withoutOldest
 without-made engine at ea b eb clients ec slots es read er = rw (ec, es, er, ea, eb)
 
 -- its client's window and common lie in memory
-pub oldest-room : (engine : Record) → valid engine ≡ true → 0 < takenSlots engine → length (engine .clients) ≡ 4 →
+pub oldest-room : (engine : Record) → valid engine ≡ true → 0 < readySlots engine → length (engine .clients) ≡ 4 →
     (n : ℕ) → n ≡ engine .setup .memory → (b : Batch) → b ≡ oldest engine → (bounds : Bounds) → bounds ≡ boundsOfClient engine (b .client) → BoundsInMemory bounds n
 oldest-room engine ok some four n en b eb bounds is =
     let v = valid-facts engine ok in

@@ -7,7 +7,7 @@ use lib.Dec.{eqb}
 use borrow.Author.Tests.{eqb-true, eqb-false, not-false}
 use Rattle.word.proofs.Tests.{or-false}
 use Rattle.record.specs.declared.Record.{Record}
-use Rattle.record.specs.Queue.{takenSlots}
+use Rattle.record.specs.Queue.{readySlots}
 use Rattle.record.specs.Rules.{valid}
 use Rattle.queue.specs.Refusals.{firstRefusal}
 use Rattle.queue.proofs.Refusals.{clear}
@@ -17,7 +17,7 @@ pub record RunAllowed (engine : Record) (given lent : ℕ) : Type 0 where
   pub ok : valid engine ≡ true
   pub ring : given ≡ engine .setup .ring
   pub memory : lent ≡ engine .setup .memory
-  pub some : 0 < takenSlots engine
+  pub some : 0 < readySlots engine
 
 pub run-allowed : (engine : Record) (given lent : ℕ) → firstRefusal (runTable engine given lent) ≡ 0 → RunAllowed engine given lent
 run-allowed engine given lent e =
@@ -25,7 +25,7 @@ run-allowed engine given lent e =
     let ten = eleven .1 (omega arith) in
     let nine = ten .1 (omega arith) in
     let both = or-false (not (eqb given (engine .setup .ring))) (not (eqb lent (engine .setup .memory))) (ten .0) in
-    let none : takenSlots engine ≡ 0 → ⊥ = eqb-false (takenSlots engine) 0 (nine .0) in
+    let none : readySlots engine ≡ 0 → ⊥ = eqb-false (readySlots engine) 0 (nine .0) in
     record {
       ok = not-false (valid engine) (eleven .0);
       ring = eqb-true _ _ (not-false (eqb given (engine .setup .ring)) (both .0));

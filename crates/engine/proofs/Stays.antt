@@ -17,7 +17,7 @@ use Rattle.record.specs.declared.Record.{Record}
 use Rattle.record.specs.Slots.{free}
 use Rattle.record.specs.Tickets.{slotOfTicket}
 use Rattle.record.specs.Clients.{noClient, openClients, openWindows}
-use Rattle.record.specs.Queue.{takenSlots, waiting}
+use Rattle.record.specs.Queue.{readySlots, waiting}
 use Rattle.record.specs.Rules.{valid}
 use Rattle.record.proofs.Line.{held}
 use Rattle.record.proofs.Opened.{windows-set}
@@ -63,7 +63,7 @@ run-sized engine s = record {
 }
 
 -- k batches are ready beside it
-module _ (engine : Record) (s : Sized engine) (ok : valid engine ≡ true) (k : ℕ) (more : takenSlots engine ≡ suc k) where
+module _ (engine : Record) (s : Sized engine) (ok : valid engine ≡ true) (k : ℕ) (more : readySlots engine ≡ suc k) where
   less : k < 8
   less = few engine ok k more (s .clients) (s .slots)
 
@@ -83,16 +83,16 @@ module _ (engine : Record) (s : Sized engine) (ok : valid engine ≡ true) (k : 
   at-read : oldest engine .offset ≡ engine .read
   at-read = rw is (first-at engine ok k more less (s .clients))
 
--- set-up numbers, open clients and the next ticket are as they were
-pub run-kept : (engine : Record) → (withoutOldest engine .setup ≡ engine .setup) × (withoutOldest engine .opened ≡ engine .opened) × (withoutOldest engine .next ≡ engine .next)
+-- set-up numbers, open clients, the next ticket and the staged submission are as they were
+pub run-kept : (engine : Record) → (withoutOldest engine .setup ≡ engine .setup) × (withoutOldest engine .opened ≡ engine .opened) × (withoutOldest engine .next ≡ engine .next) × (withoutOldest engine .staged ≡ engine .staged)
 unfolding withoutOldest
-run-kept engine = (refl, refl, refl)
+run-kept engine = (refl, refl, refl, refl)
 
 module _ (engine : Record) (s : Sized engine) (given lent : ℕ) (a : RunAllowed engine given lent) where
   abbrev behind : ℕ
-  behind = takenSlots engine - 1
+  behind = readySlots engine - 1
 
-  more : takenSlots engine ≡ suc behind
+  more : readySlots engine ≡ suc behind
   more = omega (arith, a .some)
 
   -- the record stays valid

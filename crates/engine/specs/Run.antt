@@ -19,7 +19,7 @@ use Rattle.record.specs.declared.Record.{Record}
 use Rattle.record.specs.Slots.{free}
 use Rattle.record.specs.Tickets.{ticketBefore, slotOfTicket, batchOfTicket}
 use Rattle.record.specs.Clients.{noClient, clientAt, windowRange}
-use Rattle.record.specs.Queue.{takenSlots}
+use Rattle.record.specs.Queue.{readySlots}
 use Rattle.record.specs.Rules.{valid}
 use Rattle.queue.specs.Refusals.{RefusalRow, _when_, firstRefusal}
 use Rattle.queue.specs.Calls.{unlessRefused}
@@ -32,7 +32,7 @@ abbrev pub runTable : Record → (ring memory : ℕ) → List RefusalRow
 runTable engine ring memory =
     11 when not (valid engine)
     ∷ 10 when (not (eqb ring (engine .setup .ring)) || not (eqb memory (engine .setup .memory)))
-    ∷ 9 when eqb (takenSlots engine) 0
+    ∷ 9 when eqb (readySlots engine) 0
     ∷ []
 
 -- what run is refused with, 0 if it takes a batch
@@ -43,7 +43,7 @@ runNumber engine ring memory = firstRefusal (runTable engine (length ring) (leng
 
 -- of n ready batches the oldest has the ticket n before the next to be given
 abbrev pub oldestTicket : Record → ℕ
-oldestTicket engine = ticketBefore (engine .next) (takenSlots engine)
+oldestTicket engine = ticketBefore (engine .next) (readySlots engine)
 
 abbrev pub oldest : Record → Batch
 oldest engine = batchOfTicket (oldestTicket engine) (engine .slots)
@@ -78,6 +78,7 @@ withoutOldest engine = record {
   slots = set (engine .slots) (slotOfTicket (oldestTicket engine) (engine .slots)) free;
   read = wrapOffset (engine .setup .ring) (engine .read + oldest engine .length);
   next = engine .next;
+  staged = engine .staged;
 }
 
 -- with a refusal number, 0 for none: the refusal, or else the outcome

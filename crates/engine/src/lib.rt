@@ -1,4 +1,4 @@
-// The engine's public face: set up, open, submit, run and pending. No call has a `requires`: any record, ring, memory and batch
+// The engine's public face: set up, open, submit, begin, piece, cancel, run and pending. No call has a `requires`: any record, ring, memory and batch
 // may be handed in.
 ghost use mathlib.Core.Path.{_≡_};
 ghost use mathlib.Core.Bool.{true};
@@ -7,10 +7,10 @@ ghost use lib.ListN.{length, getD, set};
 ghost use Rattle.record.specs.Slots.{free};
 ghost use Rattle.record.specs.Tickets.{slotOfTicket};
 ghost use Rattle.record.specs.Clients.{noClient, windowRange};
-ghost use Rattle.record.specs.Queue.{takenSlots};
+ghost use Rattle.record.specs.Queue.{readySlots};
 ghost use Rattle.record.specs.Rules.{valid};
 ghost use Rattle.queue.specs.Refusals.{firstRefusal};
-ghost use Rattle.queue.specs.Calls.{setUpResult, openResult, submitResult, submitRing, pendingAnswer};
+ghost use Rattle.queue.specs.Calls.{setUpResult, openResult, submitResult, submitRing, beginResult, pieceResult, pieceRing, cancelResult, pendingAnswer};
 ghost use Rattle.engine.specs.Run.{runTable, oldestTicket, oldest, boundsOfClient, resetOf, pendingLowered, withoutOldest, runResult, runMemory};
 use batch::Verdict;
 use queue::Answer;
@@ -65,6 +65,28 @@ pub fn submit(engine: Record, ring: &mut [u8], client: u32, batch: &[u8]) -> Rep
     queue::submit(engine, ring, client, batch)
 }
 
+// Begins a batch of a total length that is handed over by pieces. It holds its slot and its room.
+pub fn begin(engine: Record, ring: &[u8], client: u32, total: usize) -> Reply
+    ensures { λ r. ⌜ r ≡ beginResult engine (length (now (ring .entry))) client total ⌝ }
+{
+    queue::begin(engine, ring, client, total)
+}
+
+// Hands over a piece of the batch that was begun; the last one makes it ready.
+pub fn piece(engine: Record, ring: &mut [u8], client: u32, piece: &[u8]) -> Reply
+    ensures { λ r. ⌜ (r ≡ pieceResult engine (now (ring .entry)) client (now (piece .entry)))
+        × (now (ring .exit) ≡ pieceRing engine (now (ring .entry)) client (now (piece .entry))) ⌝ }
+{
+    queue::piece(engine, ring, client, piece)
+}
+
+// Drops the batch that was begun.
+pub fn cancel(engine: Record, client: u32) -> Reply
+    ensures { λ r. ⌜ r ≡ cancelResult engine client ⌝ }
+{
+    queue::cancel(engine, client)
+}
+
 // How many batches of a client are ready.
 pub fn pending(engine: Record, client: u32) -> Answer
     ensures { λ r. ⌜ r ≡ pendingAnswer engine client ⌝ }
@@ -79,7 +101,7 @@ fn run_refusal(engine: Record, ring: usize, memory: usize) -> u32
     let setup = engine.setup;
     let slots = engine.slots;
     let lent = !(ring == setup.ring) | !(memory == setup.memory);
-    let none = record::taken_slots(slots) == 0;
+    let none = record::ready_slots(slots) == 0;
     let no10 = queue::first_refusal(lent, 10, queue::first_refusal(none, 9, 0));
     queue::first_refusal(!record::is_valid(engine), 11, no10)
 }
@@ -137,7 +159,7 @@ fn oldest_slot(engine: Record) -> usize
     ensures { λ r. ⌜ (r ≡ slotOfTicket (oldestTicket engine) (engine .slots)) × (length (engine .slots) ≡ 8) ⌝ }
 {
     let slots = engine.slots;
-    record::slot_of_age(slots, engine.next, record::taken_slots(slots))
+    record::slot_of_age(slots, engine.next, record::ready_slots(slots))
 }
 
 // The slots with one of them free.
@@ -154,7 +176,7 @@ fn freed(slots: [Slot; 8], at: usize) -> [Slot; 8]
 
 // The record without the oldest batch, which is in the slot `at`: the slot and its ring bytes are free again.
 fn without_oldest(engine: Record, at: usize, batch: Batch) -> Record
-    requires { ⌜ (valid engine ≡ true) × (0 < takenSlots engine) × (length (engine .clients) ≡ 4) × (length (engine .slots) ≡ 8)
+    requires { ⌜ (valid engine ≡ true) × (0 < readySlots engine) × (length (engine .clients) ≡ 4) × (length (engine .slots) ≡ 8)
         × (at ≡ slotOfTicket (oldestTicket engine) (engine .slots)) × (batch ≡ oldest engine) ⌝ }
     ensures { λ r. ⌜ r ≡ withoutOldest engine ⌝ }
 {

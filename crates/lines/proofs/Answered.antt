@@ -15,9 +15,9 @@ use Rattle.queue.specs.Refusals.{firstRefusal as firstRow}
 use Rattle.queue.specs.Calls.{setUpResult}
 use Rattle.model.specs.Windows.{Window, window, overlapAny}
 use Rattle.model.specs.Calls.{submit, run, accepted, completed}
-use Rattle.model.specs.State.{Model, totalBytes, windowOf as windowIn}
+use Rattle.model.specs.State.{Model, idle, totalBytes, windowOf as windowIn}
 use Rattle.model.specs.Refusals.{refusalTable, firstHolding, refusal as refusalIn, badLength}
-use Rattle.model.specs.Model.{refuse, submitStep, runStep, refuseOr, effect, step, after, modelAfterAll}
+use Rattle.model.specs.Model.{refuse, enqueue, runStep, refuseOr, effect, step, after, modelAfterAll}
 use Rattle.claims.specs.ModelProperties.{batchSemantics}
 use Rattle.claims.specs.Engine.{State, CallResult, answerOrRefusal, performCall, SetUpAccepted}
 use Rattle.claims.proofs.Confined.{confined}
@@ -35,11 +35,11 @@ abbrev windows : List Window
 windows = window 16384 12288 ∷ window 28672 12288 ∷ window 40960 12288 ∷ window 53248 12288 ∷ []
 
 abbrev resting : ℕ → List ℕ → Model
-resting count memory = record { windows = windows; waiting = []; accepted = count; memory = memory }
+resting count memory = record { windows = windows; waiting = []; staged = idle; accepted = count; memory = memory }
 
 -- and with a record's batch
 abbrev holding : ℕ → List ℕ → Entry → Model
-holding count memory entry = submitStep (resting count memory) (entry .client) (entry .batch) .after
+holding count memory entry = enqueue (resting count memory) (entry .client) (entry .batch) .after
 
 -- the engine between two records, so many having been accepted
 record Stands (count : ℕ) (s : State) : Type 0 where
@@ -102,7 +102,7 @@ module _ (count : ℕ) (s : State) (S : Stands count s) (entry : Entry) where
   abbrev ran : CallResult
   ran = performCall run (submitted .after)
 
-  submit-alike : Alike setup 32768 submitted (refuseOr (recordRefusal entry) now (submitStep now (entry .client) (entry .batch)))
+  submit-alike : Alike setup 32768 submitted (refuseOr (recordRefusal entry) now (enqueue now (entry .client) (entry .batch)))
   unfolding effect
   submit-alike = rw (← refusal-is count (S .memory) entry) (together setup 32768 (submit (entry .client) (entry .batch)) now s (S .related))
 
@@ -118,7 +118,7 @@ module _ (count : ℕ) (s : State) (S : Stands count s) (entry : Entry) where
 
   -- accepted
   module _ (e : recordRefusal entry ≡ 0) where
-    told-yes : Alike setup 32768 submitted (submitStep now (entry .client) (entry .batch))
+    told-yes : Alike setup 32768 submitted (enqueue now (entry .client) (entry .batch))
     unfolding refuseOr
     told-yes = rw e at submit-alike
 

@@ -6,7 +6,7 @@ use lib.ListN.{replicate}
 use Rattle.reset.specs.declared.ResetRule.the-variants.{Unblended}
 use Rattle.register.specs.declared.bank.Bank.{Bank}
 use Rattle.register.specs.Bank.{resetBank}
-use Rattle.model.specs.Calls.{Setup, Call, opens, submit, run, CompletionStatus, Answer, opened, accepted, completed, ready, refused}
+use Rattle.model.specs.Calls.{Setup, Call, opens, submit, run, CompletionStatus, Answer, opened, accepted, completed, ready, missing, done, refused}
 use Rattle.claims.specs.Engine.{State, CallResult, performCall, stateAfter, initialState}
 use Rattle.text.specs.Hex.{hexWord}
 use Rattle.text.specs.Decimal.{decimal}
@@ -40,6 +40,8 @@ answerLine client (refused number) = refusalLine client number
 answerLine client (opened id) = []
 answerLine client (accepted ticket) = []
 answerLine client (ready count) = []
+answerLine client (missing bytes) = []
+answerLine client done = []
 
 -- what is reported of a file's end: nothing, `bad version`, `bad record`, `cut record`
 unfoldable pub endingLine : FileEnd → List ℕ
@@ -56,6 +58,8 @@ isAccepted (refused number) = false
 isAccepted (completed own ticket v) = false
 isAccepted (opened id) = false
 isAccepted (ready count) = false
+isAccepted (missing bytes) = false
+isAccepted done = false
 
 -- "submits each record and, if accepted, runs it": what is answered last, and what is left
 unfoldable pub submitAndRun : Entry → State → CallResult

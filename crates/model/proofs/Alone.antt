@@ -9,15 +9,15 @@ use lib.ListN.{length}
 use lib.Dec.{eqb}
 use borrow.Author.Tests.{eq-eqb, ne-eqb}
 use Rattle.model.specs.Windows.{Window, In, byte}
-use Rattle.model.specs.Calls.{Setup, Call, opens, submit, run, pending}
+use Rattle.model.specs.Calls.{Setup, Call}
 use Rattle.model.specs.BatchSemantics.{BatchSemantics, WindowInMemory, Confined}
 use Rattle.model.specs.State.{Batch, Model, initialModel, isOpen, windowOf, nextClient, Owns}
-use Rattle.model.specs.Refusals.{refusal}
-use Rattle.model.specs.Model.{Step, openStep, runStep, effect, step, after, executed}
+use Rattle.model.specs.Model.{Step, openStep, runStep, step, after, executed}
 use Rattle.model.specs.ReplayedAlone.{batchesOf, drawBatches}
 use Rattle.model.specs.Properties.{Isolation}
 use Rattle.model.proofs.Tests.{by-eq}
-use Rattle.model.proofs.Refusals.{unless-cases, open-allowed, run-allowed}
+use Rattle.model.proofs.Refusals.{OpenAllowed}
+use Rattle.model.proofs.Cases.{step-cases}
 use Rattle.model.proofs.Clients.{none-open, next-closed, stays-open, same-window, old-or-new, not-next}
 use Rattle.model.proofs.Sound.{Named, named-more, named-append, Good, good-open, Sound, fresh-sound, within, step-sound, after-sound}
 
@@ -70,11 +70,11 @@ module _ (way : BatchSemantics) (L : Confined way) (setup : Setup) (ring : ℕ) 
     pub logged : Named (isOpen model) log
 
   -- a new window's bytes were in no window
-  kept-open : (log : List Batch) (model : Model) (w : Window) → Sound setup model → Kept log model → refusal setup ring model (opens w) ≡ 0 → Kept log (openStep model w .after)
+  kept-open : (log : List Batch) (model : Model) (w : Window) → Sound setup model → Kept log model → OpenAllowed setup model w → Kept log (openStep model w .after)
   unfolding drawBatches
-  kept-open log model w S K e =
+  kept-open log model w S K A =
       let n : ℕ = nextClient model in
-      let G : Good setup (openStep model w .after) = good-open setup model w (S .good) (open-allowed setup ring model w e) in
+      let G : Good setup (openStep model w .after) = good-open setup model w (S .good) A in
       let old = same-window model w in
       let still = stays-open model w in
       record {
@@ -126,19 +126,12 @@ module _ (way : BatchSemantics) (L : Confined way) (setup : Setup) (ring : ℕ) 
   unchanged log model K = rw append-nil K
 
   step-kept : (log : List Batch) (c : Call) (model : Model) → Sound setup model → Kept log model → Goes log (step way setup ring c model)
-  unfolding effect
-  step-kept log (opens w) model S K = unless-cases (Goes log) (refusal setup ring model (opens w)) model _ (λ e. rw append-nil (kept-open log model w S K e)) (λ k. unchanged log model K)
-  step-kept log (submit k x) model S K = unless-cases (Goes log) (refusal setup ring model (submit k x)) model _
-      (λ e. rw append-nil (record { size = K .size; logged = K .logged; owned = K .owned; rest = K .rest }))
-      (λ k. unchanged log model K)
-  step-kept log run model S K = unless-cases (Goes log) (refusal setup ring model run) model _
-      (λ e. go (model .waiting) (S .named) (run-allowed setup ring model e))
-      (λ k. unchanged log model K)
-    where
-      go : (bs : List Batch) → Named (isOpen model) bs → length (model .memory) ≡ setup .memory → Goes log (runStep way (setup .common) model bs)
-      go [] n e = unchanged log model K
-      go (b ∷ bs) n e = kept-run log model b bs S K (n .0) e
-  step-kept log (pending k) model S K = unless-cases (Goes log) (refusal setup ring model (pending k)) model _ (λ e. unchanged log model K) (λ k. unchanged log model K)
+  step-kept log c model S K = step-cases way setup ring model (Goes log) c (record {
+    staging = λ a g _ _ _. rw append-nil (record { size = K .size; logged = K .logged; owned = K .owned; rest = K .rest });
+    entering = λ k x _ _ _. rw append-nil (record { size = K .size; logged = K .logged; owned = K .owned; rest = K .rest });
+    opening = λ w A. rw append-nil (kept-open log model w S K A);
+    running = λ b bs q e. kept-run log model b bs S K ((rw q at (S .named)) .0) e;
+  })
 
   pub all-kept : (cs : List Call) (log : List Batch) (model : Model) → Sound setup model → Kept log model → Kept (log ++ executed way setup ring cs model) (after way setup ring cs model)
   unfolding after executed

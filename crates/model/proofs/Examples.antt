@@ -11,14 +11,14 @@ use borrow.Author.Tests.{ne-eqb}
 use borrow.Rule.Slice.PartMut.{midOf, putMid}
 use Rattle.reset.specs.declared.ResetRule.the-variants.{SrcOver}
 use Rattle.model.specs.Windows.{window, byte, overlapAny}
-use Rattle.model.specs.Calls.{Setup, Call, opens, submit, run, pending, CompletionStatus, opened, accepted, completed, ready, refused}
+use Rattle.model.specs.Calls.{Setup, Call, opens, submit, run, pending, begin, piece, cancel, CompletionStatus, opened, accepted, completed, ready, missing, done, refused}
 use Rattle.model.specs.BatchSemantics.{BatchSemantics, Confined}
-use Rattle.model.specs.State.{Model, initialModel, Owns, totalBytes, countOf}
-use Rattle.model.specs.Refusals.{refusalTable, firstHolding}
+use Rattle.model.specs.State.{Model, idle, initialModel, Owns, takenSlots, totalBytes, countOf}
+use Rattle.model.specs.Refusals.{freeBytes, refusalTable, firstHolding}
 use Rattle.model.specs.Model.{refuseOr, effect, answers, after, executed, modelAfterAll}
 use Rattle.model.specs.ReplayedAlone.{batchesOf, drawBatches, replayedAlone}
 use Rattle.model.specs.Order.{SameSequences, submitted, SameOutcome}
-use Rattle.model.specs.Noninterference.{none, more, same, rewritten, LowEquivalent}
+use Rattle.model.specs.Noninterference.{none, more, same, rewritten, repieced, LowEquivalent}
 use Rattle.model.specs.Properties.{Noninterference}
 use Rattle.model.proofs.Locality.{local-if, local-window}
 use Rattle.model.proofs.Theorems.{claims}
@@ -110,30 +110,72 @@ alone-so = refl
 -- ---- 10: a lent ring or memory of another length, before all else
 
 abbrev few : List Call
-few = submit 0 (1 ∷ []) ∷ run ∷ opens (window 8 8) ∷ submit 0 (replicate 4 7) ∷ run ∷ pending 0 ∷ pending 1 ∷ []
+few =
+    submit 0 (1 ∷ []) ∷ run ∷ opens (window 8 8) ∷ submit 0 (replicate 4 7) ∷ run ∷ pending 0 ∷ pending 1 ∷
+    begin 0 4 ∷ piece 0 (1 ∷ 2 ∷ []) ∷ cancel 0 ∷ []
 
-ring-so : answers toy setup 127 few (initialModel memory) ≡ refused 10 ∷ refused 10 ∷ opened 0 ∷ refused 10 ∷ refused 10 ∷ ready 0 ∷ refused 5 ∷ []
+ring-so : answers toy setup 127 few (initialModel memory) ≡ refused 10 ∷ refused 10 ∷ opened 0 ∷ refused 10 ∷ refused 10 ∷ ready 0 ∷ refused 5 ∷ refused 10 ∷ refused 10 ∷ refused 14 ∷ []
 unfolding answers refuseOr effect refusalTable firstHolding overlapAny totalBytes countOf
 ring-so = refl
 
-memory-so : answers toy setup 128 few (initialModel (memory ++ (0 ∷ []))) ≡ refused 5 ∷ refused 10 ∷ opened 0 ∷ accepted 0 ∷ refused 10 ∷ ready 1 ∷ refused 5 ∷ []
+memory-so : answers toy setup 128 few (initialModel (memory ++ (0 ∷ []))) ≡ refused 5 ∷ refused 10 ∷ opened 0 ∷ accepted 0 ∷ refused 10 ∷ ready 1 ∷ refused 5 ∷ done ∷ missing 2 ∷ done ∷ []
 unfolding answers refuseOr effect refusalTable firstHolding overlapAny totalBytes countOf
 memory-so = refl
 
 -- ---- tickets go on from 4,294,967,295 to 0
 
 abbrev late : Model
-late = record { windows = window 8 8 ∷ []; waiting = []; accepted = 4294967295; memory = memory }
+late = record { windows = window 8 8 ∷ []; waiting = []; staged = idle; accepted = 4294967295; memory = memory }
 
 wraps-so : answers toy setup 128 (submit 0 (replicate 4 7) ∷ submit 0 (replicate 4 8) ∷ run ∷ run ∷ []) late ≡
     accepted 4294967295 ∷ accepted 0 ∷ completed 0 4294967295 good ∷ completed 0 0 good ∷ []
 unfolding answers refuseOr effect refusalTable firstHolding overlapAny totalBytes countOf
 wraps-so = refl
 
+-- ---- 13 and 14: a batch handed over by pieces
+
+abbrev staged : List Call
+staged =
+    opens (window 8 8) ∷ opens (window 16 8) ∷
+    begin 4 0 ∷ begin 0 0 ∷ begin 0 6 ∷ begin 0 132 ∷ piece 0 [] ∷ piece 4 [] ∷ cancel 0 ∷ cancel 4 ∷
+    begin 0 8 ∷ begin 1 8 ∷ begin 1 3 ∷ begin 4 8 ∷ submit 1 (replicate 4 7) ∷ submit 0 [] ∷ submit 4 [] ∷
+    piece 1 [] ∷ cancel 1 ∷ piece 0 [] ∷ piece 0 (replicate 9 1) ∷ piece 0 (5 ∷ 6 ∷ 7 ∷ []) ∷
+    run ∷ pending 0 ∷
+    piece 0 (replicate 5 8) ∷ piece 0 [] ∷ pending 0 ∷ run ∷ pending 0 ∷ []
+
+-- 5 before 6; 6 for 0, 6 and 132 bytes; 14 with none open, 5 before it; one is open: 13 for every client, before 6, and 5 before 13; 14 for another
+-- client; an empty piece; 14 for a piece that is too long; 9 and no batch ready till the last piece; the
+-- last piece, and none open then
+staged-so : answers toy setup 128 staged (initialModel memory) ≡
+    opened 0 ∷ opened 1 ∷
+    refused 5 ∷ refused 6 ∷ refused 6 ∷ refused 6 ∷ refused 14 ∷ refused 5 ∷ refused 14 ∷ refused 5 ∷
+    done ∷ refused 13 ∷ refused 13 ∷ refused 5 ∷ refused 13 ∷ refused 13 ∷ refused 5 ∷
+    refused 14 ∷ refused 14 ∷ missing 8 ∷ refused 14 ∷ missing 5 ∷
+    refused 9 ∷ ready 0 ∷
+    accepted 0 ∷ refused 14 ∷ ready 1 ∷ completed 0 0 good ∷ ready 0 ∷ []
+unfolding answers refuseOr effect refusalTable firstHolding overlapAny totalBytes countOf
+staged-so = refl
+
+-- while it is open it holds a slot and its whole length, beside what waits
+abbrev holding : Model
+holding = modelAfterAll toy setup 128 (opens (window 8 8) ∷ submit 0 (replicate 4 7) ∷ begin 0 8 ∷ piece 0 (5 ∷ []) ∷ []) memory
+
+held-so : (takenSlots holding ≡ 2) × (freeBytes setup holding ≡ 116)
+unfolding after refuseOr effect refusalTable firstHolding overlapAny totalBytes countOf
+held-so = (refl, refl)
+
+-- cancelling frees what was held: the whole ring is there again
+cancelled-so : answers toy setup 128 (opens (window 8 8) ∷ begin 0 128 ∷ piece 0 (1 ∷ []) ∷ cancel 0 ∷ submit 0 (replicate 128 7) ∷ begin 0 4 ∷ run ∷ []) (initialModel memory) ≡
+    opened 0 ∷ done ∷ missing 127 ∷ done ∷ accepted 0 ∷ refused 8 ∷ completed 0 0 good ∷ []
+unfolding answers refuseOr effect refusalTable firstHolding overlapAny totalBytes countOf
+cancelled-so = refl
+
 -- ---- two runs: other batches of client 0's, a refused one too, and another byte in the window that it opens
 
 abbrev few′ : List Call
-few′ = submit 0 (2 ∷ []) ∷ run ∷ opens (window 8 8) ∷ submit 0 (replicate 4 0) ∷ run ∷ pending 0 ∷ pending 1 ∷ []
+few′ =
+    submit 0 (2 ∷ []) ∷ run ∷ opens (window 8 8) ∷ submit 0 (replicate 4 0) ∷ run ∷ pending 0 ∷ pending 1 ∷
+    begin 0 4 ∷ piece 0 (3 ∷ 4 ∷ []) ∷ cancel 0 ∷ []
 
 abbrev memory′ : List ℕ
 memory′ = eight 100 ++ eight 50 ++ eight 2 ++ eight 3 ++ eight 4
@@ -154,7 +196,7 @@ other-bytes (suc (suc (suc (suc (suc (suc (suc (suc (suc i))))))))) n = refl
 twins : LowEquivalent toy setup 128 0 few few′ memory memory′
 twins = record {
   listed =
-      more (rewritten (1 ∷ []) (2 ∷ []) refl) (more (same _) (more (same _) (more (rewritten (replicate 4 7) (replicate 4 0) refl) (more (same _) (more (same _) (more (same _) none))))));
+      more (rewritten (1 ∷ []) (2 ∷ []) refl) (more (same _) (more (same _) (more (rewritten (replicate 4 7) (replicate 4 0) refl) (more (same _) (more (same _) (more (same _) (more (same _) (more (repieced (1 ∷ 2 ∷ []) (3 ∷ 4 ∷ []) refl) (more (same _) none)))))))));
   size = refl;
   bytes = other-bytes;
 }

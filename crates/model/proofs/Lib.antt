@@ -1,11 +1,13 @@
 pub mod Tests
+pub mod Locality
 pub mod Refusals
+pub mod Cases
 pub mod Clients
 pub mod Sound
 pub mod Alone
 pub mod TwoRuns
 pub mod Queue
 pub mod Order
+pub mod Cutting
 pub mod Theorems
-pub mod Locality
 pub mod Examples

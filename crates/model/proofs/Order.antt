@@ -11,16 +11,16 @@ use lib.ListN.{length, drop, getD}
 use lib.Seq.{ext-getD, drop-length, drop-append-seam}
 use borrow.Author.Tests.{eq-eqb, ne-eqb, ltb-true, lt-ltb}
 use Rattle.model.specs.Windows.{Window, window, In, byte}
-use Rattle.model.specs.Calls.{Setup, Call, opens, submit, run, pending, CompletionStatus, Answer, opened, accepted, completed, ready, refused}
+use Rattle.model.specs.Calls.{Setup, Call, run, CompletionStatus, Answer, opened, accepted, completed, ready, missing, done, refused}
 use Rattle.model.specs.BatchSemantics.{BatchSemantics, Confined}
 use Rattle.model.specs.State.{Batch, batch, Model, initialModel, isOpen, windowOf, Owns}
-use Rattle.model.specs.Refusals.{refusal, refusalTable, firstHolding}
-use Rattle.model.specs.Model.{Step, refuse, refuseOr, openStep, submitStep, runStep, effect, step, answers, after, executed, modelAfterAll}
+use Rattle.model.specs.Refusals.{refusalTable, firstHolding}
+use Rattle.model.specs.Model.{Step, refuse, refuseOr, runStep, effect, step, answers, after, executed, modelAfterAll}
 use Rattle.model.specs.Properties.{Exchange, AnyOrder, AnySubmissions, ReorderedByHand}
 use Rattle.model.specs.ReplayedAlone.{batchesOf, drawBatches}
 use Rattle.model.specs.Order.{SameSequences, verdictsOf, submitted, SameOutcome, Exchanged, ByHand, Lent, runEach, withWaiting}
 use Rattle.model.proofs.Tests.{by-eq, by-in}
-use Rattle.model.proofs.Refusals.{unless-cases}
+use Rattle.model.proofs.Cases.{Plain, step-cases}
 use Rattle.model.proofs.Alone.{own-none, all-kept}
 use Rattle.model.proofs.Sound.{Named, Sound, fresh-sound, within, step-sound, after-sound, after-stays}
 
@@ -41,38 +41,14 @@ holder (w ∷ ws) i =
     neither o n zero h = o (h .1)
     neither o n (suc k) h = n k (le-of-suc-le-suc (h .0), h .1)
 
--- ---- what one call may do
-
-abbrev Plain : Answer → Type 0
-Plain (opened k) = Unit {0}
-Plain (accepted t) = ⊥
-Plain (completed k t v) = ⊥
-Plain (ready n) = Unit {0}
-Plain (refused n) = Unit {0}
-
-record Cases (way : BatchSemantics) (setup : Setup) (model : Model) (P : Step → Type 0) : Type 0 where
-  still : (a : Answer) → Plain a → P (record { answer = a; after = model; executed = [] })
-  entering : (k : ℕ) (x : List ℕ) → P (submitStep model k x)
-  opening : (w : Window) → P (openStep model w)
-  running : (b : Batch) (rest : List Batch) → model .waiting ≡ b ∷ rest → P (runStep way (setup .common) model (b ∷ rest))
-
-step-cases : (way : BatchSemantics) (setup : Setup) (ring : ℕ) (model : Model) (P : Step → Type 0) (c : Call) → Cases way setup model P → P (step way setup ring c model)
-unfolding effect
-step-cases way setup ring model P (opens w) C = unless-cases P (refusal setup ring model (opens w)) model _ (λ e. C .opening w) (λ k. C .still (refused k) tt)
-step-cases way setup ring model P (submit k x) C = unless-cases P (refusal setup ring model (submit k x)) model _ (λ e. C .entering k x) (λ k. C .still (refused k) tt)
-step-cases way setup ring model P run C = unless-cases P (refusal setup ring model run) model _ (λ e. go (model .waiting) refl) (λ k. C .still (refused k) tt)
-  where
-    go : (bs : List Batch) → model .waiting ≡ bs → P (runStep way (setup .common) model bs)
-    go [] w = C .still (refused 9) tt
-    go (b ∷ bs) w = C .running b bs w
-step-cases way setup ring model P (pending k) C = unless-cases P (refusal setup ring model (pending k)) model _ (λ e. C .still _ tt) (λ k. C .still (refused k) tt)
-
 plain-told : (k : ℕ) (a : Answer) (rest : List Answer) → Plain a → verdictsOf k (a ∷ rest) ≡ verdictsOf k rest
 unfolding verdictsOf
 plain-told k (opened d) rest p = refl
 plain-told k (accepted t) rest p = absurd p
 plain-told k (completed d t v) rest p = absurd p
 plain-told k (ready n) rest p = refl
+plain-told k (missing n) rest p = refl
+plain-told k done rest p = refl
 plain-told k (refused n) rest p = refl
 
 -- ---- a client's verdicts, by its window and its own batches
@@ -88,10 +64,10 @@ module _ (way : BatchSemantics) (setup : Setup) (ring : ℕ) where
   tells : (k : ℕ) (v : Window) (c : Call) (model : Model) → Tells k v model (step way setup ring c model)
   unfolding verdictsOf batchesOf
   tells k v c model = step-cases way setup ring model (Tells k v model) c (record {
-    still = λ a p rest log _ _ e. plain-told k a rest p ∙ e;
-    entering = λ d x rest log _ _ e. e;
-    opening = λ w rest log _ _ e. e;
-    running = λ b bs q rest log f n e. ⊎-elim
+    staging = λ a g p _ _ rest log _ _ e. plain-told k a rest p ∙ e;
+    entering = λ d x _ _ _ rest log _ _ e. e;
+    opening = λ w _ rest log _ _ e. e;
+    running = λ b bs q _ rest log f n e. ⊎-elim
         (λ (z : b .client ≡ k).
         let h : isOpen model k ≡ true = rw z at ((rw q at n) .0) in
         rw (eq-eqb (b .client) k z) (ap₂ (λ v vs. v ∷ vs) (ap (λ u. way .verdict u (setup .common) (b .bytes)) (ap (windowOf model) z ∙ sym (f h))) e))
@@ -152,10 +128,10 @@ module _ (way : BatchSemantics) (setup : Setup) (ring : ℕ) where
 
   passes : (c : Call) (model : Model) → Passes model (step way setup ring c model)
   passes c model = step-cases way setup ring model (Passes model) c (record {
-    still = λ a p es fs e. rw (drop-length (model .waiting)) e;
-    entering = λ k x es fs e. rw (drop-append-seam (model .waiting) (batch k _ x ∷ [])) (sym (append-assoc (model .waiting) _ es) ∙ e);
-    opening = λ w es fs e. rw (drop-length (model .waiting)) e;
-    running = λ b bs q es fs e. rw (q, drop-more bs) (ap (λ l. b ∷ l) e);
+    staging = λ a g p _ _ es fs e. rw (drop-length (model .waiting)) e;
+    entering = λ k x _ _ _ es fs e. rw (drop-append-seam (model .waiting) (batch k _ x ∷ [])) (sym (append-assoc (model .waiting) _ es) ∙ e);
+    opening = λ w _ es fs e. rw (drop-length (model .waiting)) e;
+    running = λ b bs q _ es fs e. rw (q, drop-more bs) (ap (λ l. b ∷ l) e);
   })
 
   in-turn : (cs : List Call) (model : Model) → model .waiting ++ submitted way setup ring cs model ≡ executed way setup ring cs model ++ after way setup ring cs model .waiting
@@ -200,7 +176,7 @@ module _ (way : BatchSemantics) (L : Confined way) (setup : Setup) (ring : ℕ) 
   completion model b = completed (b .client) (b .ticket) (way .verdict (windowOf model (b .client)) (setup .common) (b .bytes))
 
   abbrev settled : Model → List Batch → List ℕ → Model
-  settled model rest memory = record { windows = model .windows; waiting = rest; accepted = model .accepted; memory = memory }
+  settled model rest memory = record { windows = model .windows; waiting = rest; staged = model .staged; accepted = model .accepted; memory = memory }
 
   record Ran (bs rest : List Batch) (model : Model) : Type 0 where
     log : executed way setup ring (runEach bs) model ≡ bs
@@ -256,7 +232,7 @@ module _ (way : BatchSemantics) (L : Confined way) (setup : Setup) (ring : ℕ) 
       (by-eq (a .client) k)
 
   other-sound : (model : Model) (bs : List Batch) → Sound setup model → SameSequences bs (model .waiting) → Sound setup (withWaiting model bs)
-  other-sound model bs S q = record { good = record { past = S .good .past; fits = S .good .fits; apart = S .good .apart }; named = named-own (isOpen model) bs (λ k e. q k ∙ own-none (isOpen model) k e (model .waiting) (S .named)) }
+  other-sound model bs S q = record { good = record { past = S .good .past; fits = S .good .fits; apart = S .good .apart }; named = named-own (isOpen model) bs (λ k e. q k ∙ own-none (isOpen model) k e (model .waiting) (S .named)); proper = S .proper }
 
   lent-run : (model : Model) (k t : ℕ) (v : CompletionStatus) (rest : List Answer) → answers way setup ring (run ∷ run ∷ []) model ≡ completed k t v ∷ rest → Lent setup ring model
   unfolding answers
@@ -271,7 +247,7 @@ module _ (way : BatchSemantics) (L : Confined way) (setup : Setup) (ring : ℕ) 
   exchanged model a b first second rest S e n t =
       let l : Lent setup ring model = lent-run model _ _ _ _ t in
       let other : Model = withWaiting model (b ∷ a ∷ rest) in
-      let S′ : Sound setup other = record { good = record { past = S .good .past; fits = S .good .fits; apart = S .good .apart }; named = (let h = rw e at (S .named) in (h .1 .0, (h .0, h .1 .1))) } in
+      let S′ : Sound setup other = record { good = record { past = S .good .past; fits = S .good .fits; apart = S .good .apart }; named = (let h = rw e at (S .named) in (h .1 .0, (h .0, h .1 .1))); proper = S .proper } in
       let r = ran (a ∷ b ∷ []) rest model S l e in
       let r′ = ran (b ∷ a ∷ []) rest other S′ l refl in
       let same = same-outcome way L setup ring (run ∷ run ∷ []) (run ∷ run ∷ []) model other S S′ refl

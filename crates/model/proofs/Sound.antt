@@ -1,21 +1,22 @@
 -- Windows lie past the common area, inside memory and apart; every waiting batch is of an open client. Each call keeps this, and an open
 -- client keeps its window.
 use mathlib.Core.Path.{_≡_, refl, sym, _∙_}
-use mathlib.Core.List.{List, [], _∷_, _++_}
+use mathlib.Core.List.{List, [], _∷_, _++_, List·Memᴰ, List·Memᴰ·head, List·Memᴰ·tail}
 use mathlib.Core.Bool.{Bool, true}
 use mathlib.Core.Logic.{⊎-elim}
 use Prim.Native.Nat.{ℕ, _+_, _≤_}
 use native.Mathlib.Omega.{arith}
 use lib.ListN.{length}
 use Rattle.model.specs.Windows.{Window, In}
-use Rattle.model.specs.Calls.{Setup, Call, opens, submit, run, pending, opened}
+use Rattle.model.specs.Calls.{Setup, Call, opens, opened}
 use Rattle.model.specs.BatchSemantics.{BatchSemantics, WindowInMemory}
-use Rattle.model.specs.State.{Batch, Model, initialModel, isOpen, windowOf, nextClient}
+use Rattle.model.specs.State.{Batch, Staging, idle, staging, Model, initialModel, isOpen, windowOf, nextClient}
 use Rattle.model.specs.Refusals.{refusal}
-use Rattle.model.specs.Model.{Step, modelAfterAll, openStep, runStep, effect, step, after}
-use Rattle.model.specs.Properties.{WindowStable}
+use Rattle.model.specs.Model.{Step, modelAfterAll, openStep, effect, step, after}
+use Rattle.model.specs.Properties.{Proper, OfOpen, WindowStable}
 use Rattle.model.proofs.Tests.{apart-of}
-use Rattle.model.proofs.Refusals.{unless-cases, OpenAllowed, open-allowed, submit-allowed}
+use Rattle.model.proofs.Refusals.{unless-cases, OpenAllowed}
+use Rattle.model.proofs.Cases.{step-cases}
 use Rattle.model.proofs.Clients.{none-open, open-apart, stays-open, same-window, new-open, new-window, old-or-new}
 
 -- ---- batches of open clients
@@ -31,6 +32,10 @@ named-more p q f (b ∷ bs) r = (f (b .client) (r .0), named-more p q f bs (r .1
 pub named-append : (p : ℕ → Bool) (xs ys : List Batch) → Named p xs → Named p ys → Named p (xs ++ ys)
 named-append p [] ys r q = q
 named-append p (x ∷ xs) ys r q = (r .0, named-append p xs ys (r .1) q)
+
+proper-more : (setup : Setup) (p q : ℕ → Bool) → ((k : ℕ) → p k ≡ true → q k ≡ true) → (g : Staging) → Proper setup p g → Proper setup q g
+proper-more setup p q f idle r = tt
+proper-more setup p q f (staging k n x) r = (f k (r .0), r .1, r .2)
 
 -- ---- windows
 
@@ -69,6 +74,7 @@ module _ (setup : Setup) (model : Model) (w : Window) (G : Good setup model) (A 
 pub record Sound (setup : Setup) (model : Model) : Type 0 where
   pub good : Good setup model
   pub named : Named (isOpen model) (model .waiting)
+  pub proper : Proper setup (isOpen model) (model .staged)
 
 pub fresh-sound : (setup : Setup) (memory : List ℕ) → Sound setup (initialModel memory)
 fresh-sound setup memory = record {
@@ -78,6 +84,7 @@ fresh-sound setup memory = record {
     apart = λ j k i h _ _ _ _. none-open memory j h;
   };
   named = tt;
+  proper = tt;
 }
 
 -- an open client's window, in a memory of the set-up length
@@ -90,38 +97,28 @@ Stays model model′ = (k : ℕ) → isOpen model k ≡ true → (isOpen model�
 
 module _ (way : BatchSemantics) (setup : Setup) (ring : ℕ) where
   pub step-sound : (c : Call) (model : Model) → Sound setup model → Sound setup (step way setup ring c model .after)
-  unfolding effect
-  step-sound (opens w) model S = unless-cases (λ s. Sound setup (s .after)) (refusal setup ring model (opens w)) model _
-      (λ e. record {
-        good = good-open setup model w (S .good) (open-allowed setup ring model w e);
-        named = named-more (isOpen model) _ (stays-open model w) (model .waiting) (S .named);
-      })
-      (λ k. S)
-  step-sound (submit k x) model S = unless-cases (λ s. Sound setup (s .after)) (refusal setup ring model (submit k x)) model _
-      (λ e. record {
-        good = record { past = S .good .past; fits = S .good .fits; apart = S .good .apart };
-        named = named-append (isOpen model) (model .waiting) _ (S .named) (submit-allowed setup ring model k x e .client-open, tt);
-      })
-      (λ k. S)
-  step-sound run model S = unless-cases (λ s. Sound setup (s .after)) (refusal setup ring model run) model _ (λ e. go (model .waiting) (S .named)) (λ k. S)
-    where
-      go : (bs : List Batch) → Named (isOpen model) bs → Sound setup (runStep way (setup .common) model bs .after)
-      go [] n = S
-      go (b ∷ bs) n = record { good = record { past = S .good .past; fits = S .good .fits; apart = S .good .apart }; named = n .1 }
-  step-sound (pending k) model S = unless-cases (λ s. Sound setup (s .after)) (refusal setup ring model (pending k)) model _ (λ e. S) (λ k. S)
+  step-sound c model S = step-cases way setup ring model (λ s. Sound setup (s .after)) c (record {
+    staging = λ a g _ _ f. record { good = record { past = S .good .past; fits = S .good .fits; apart = S .good .apart }; named = S .named; proper = f (S .proper) };
+    entering = λ k x _ h _. record {
+      good = record { past = S .good .past; fits = S .good .fits; apart = S .good .apart };
+      named = named-append (isOpen model) (model .waiting) _ (S .named) (h, tt);
+      proper = tt;
+    };
+    opening = λ w A. record {
+      good = good-open setup model w (S .good) A;
+      named = named-more (isOpen model) _ (stays-open model w) (model .waiting) (S .named);
+      proper = proper-more setup (isOpen model) _ (stays-open model w) (model .staged) (S .proper);
+    };
+    running = λ b bs e _. record { good = record { past = S .good .past; fits = S .good .fits; apart = S .good .apart }; named = (rw e at (S .named)) .1; proper = S .proper };
+  })
 
   step-stays : (c : Call) (model : Model) → Stays model (step way setup ring c model .after)
-  unfolding effect
-  step-stays (opens w) model = unless-cases (λ s. Stays model (s .after)) (refusal setup ring model (opens w)) model _
-      (λ e k h. (stays-open model w k h, same-window model w k h))
-      (λ n k h. (h, refl))
-  step-stays (submit j x) model = unless-cases (λ s. Stays model (s .after)) (refusal setup ring model (submit j x)) model _ (λ e k h. (h, refl)) (λ n k h. (h, refl))
-  step-stays run model = unless-cases (λ s. Stays model (s .after)) (refusal setup ring model run) model _ (λ e. go (model .waiting)) (λ n k h. (h, refl))
-    where
-      go : (bs : List Batch) → Stays model (runStep way (setup .common) model bs .after)
-      go [] k h = (h, refl)
-      go (b ∷ bs) k h = (h, refl)
-  step-stays (pending j) model = unless-cases (λ s. Stays model (s .after)) (refusal setup ring model (pending j)) model _ (λ e k h. (h, refl)) (λ n k h. (h, refl))
+  step-stays c model = step-cases way setup ring model (λ s. Stays model (s .after)) c (record {
+    staging = λ a g _ _ _ k h. (h, refl);
+    entering = λ j x _ _ _ k h. (h, refl);
+    opening = λ w _ k h. (stays-open model w k h, same-window model w k h);
+    running = λ b bs _ _ k h. (h, refl);
+  })
 
   pub after-sound : (cs : List Call) (model : Model) → Sound setup model → Sound setup (after way setup ring cs model)
   unfolding after
@@ -151,3 +148,14 @@ module _ (way : BatchSemantics) (setup : Setup) (ring : ℕ) where
       let o = opening model w client a in
       let s = after-stays later (step way setup ring (opens w) model .after) client (o .0) in
       (s .0, s .1 ∙ o .1)
+
+  -- ---- every batch is of an open client
+
+  named-all : (p : ℕ → Bool) (bs : List Batch) → Named p bs → (b : Batch) → List·Memᴰ b bs → p (b .client) ≡ true
+  named-all p (x ∷ bs) r b (List·Memᴰ·head e) = rw e (r .0)
+  named-all p (x ∷ bs) r b (List·Memᴰ·tail m) = named-all p bs (r .1) b m
+
+  pub of-open : (calls : List Call) (memory : List ℕ) → OfOpen way setup ring calls memory
+  of-open calls memory =
+      let S = after-sound calls (initialModel memory) (fresh-sound setup memory) in
+      record { waiting = named-all _ _ (S .named); staged = S .proper }

@@ -9,6 +9,7 @@ use Rattle.model.proofs.TwoRuns as two-runs
 use Rattle.model.proofs.Order as order
 use Rattle.model.proofs.Queue as queue
 use Rattle.model.proofs.Refusals as refusals
+use Rattle.model.proofs.Cutting as pieces
 
 pub claims : (way : BatchSemantics) (setup : Setup) (ring : ℕ) → ModelProperties way setup ring
 claims way setup ring = record {
@@ -19,7 +20,9 @@ claims way setup ring = record {
   any-submissions = λ confined. order.any-submissions way confined setup ring;
   by-hand = λ confined. order.by-hand way confined setup ring;
   holds = sound.holds way setup ring;
+  of-open = sound.of-open way setup ring;
   in-order = queue.in-order way setup ring;
   in-time = queue.in-time way setup ring;
   harmless = refusals.harmless way setup ring;
+  cutting = pieces.cutting way setup ring;
 }

@@ -13,12 +13,15 @@ pub record Setup : Type 0 where
   pub reset : ResetRule
 
 -- The calls after set up, with what the model is fed of them (01, "The book of demand 3": "the calls with their arguments (not record,
--- ring or memory)").
+-- ring or memory)"; 02, 6: "Demand 3's list gains begin, pieces and cancelling").
 pub data Call : Type 0 where
   opens : Window → Call
   submit : (client : ℕ) (bytes : List ℕ) → Call
   run : Call
   pending : (client : ℕ) → Call
+  begin : (client total : ℕ) → Call
+  piece : (client : ℕ) (bytes : List ℕ) → Call
+  cancel : (client : ℕ) → Call
 
 -- What validating a batch gives (01, "Faults of a taken batch"): the status word, the fault's number and its offset in the batch
 -- (01: place), the last two 0 without a fault.
@@ -28,12 +31,15 @@ pub record CompletionStatus : Type 0 where
   pub offset : ℕ
 
 -- What is answered (01, "Engine, desks, queue"): by open the client's id, by submit the ticket, by run its completion, by pending the
--- number of the client's ready batches. "A refusal gives only its number."
+-- number of the client's ready batches. 02, 6: "A piece answers the bytes still to come, the last its ticket." Begin and cancelling
+-- have nothing to tell. "A refusal gives only its number."
 pub data Answer : Type 0 where
   opened : (client : ℕ) → Answer
   accepted : (ticket : ℕ) → Answer
   completed : (client ticket : ℕ) → CompletionStatus → Answer
   ready : (count : ℕ) → Answer
+  missing : (bytes : ℕ) → Answer
+  done : Answer
   refused : (number : ℕ) → Answer
 
 -- How many of the answers are completions: the successful runs of 01, "Engine, desks, queue".
@@ -43,4 +49,6 @@ completions (completed c t v ∷ rest) = suc (completions rest)
 completions (opened c ∷ rest) = completions rest
 completions (accepted t ∷ rest) = completions rest
 completions (ready n ∷ rest) = completions rest
+completions (missing n ∷ rest) = completions rest
+completions (done ∷ rest) = completions rest
 completions (refused n ∷ rest) = completions rest

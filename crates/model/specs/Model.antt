@@ -1,46 +1,58 @@
--- The reference model's calls, one at a time and in a list. What is quoted is of 01, "The book of demand 3".
+-- The reference model's calls, one at a time and in a list. What is quoted is of 01, "The book of demand 3", if no other place is named.
 use mathlib.Core.List.{List, [], _∷_, _++_}
-use Prim.Native.Nat.{ℕ, zero, suc, _%_}
+use mathlib.Core.Bool.{cond}
+use Prim.Native.Nat.{ℕ, zero, suc, _-_, _%_}
+use lib.ListN.{length}
+use lib.Dec.{eqb}
 use Rattle.model.specs.Windows.{Window}
-use Rattle.model.specs.Calls.{Setup, Call, opens, submit, run, pending, Answer, opened, accepted, completed, ready, refused}
+use Rattle.model.specs.Calls.{Setup, Call, opens, submit, run, pending, begin, piece, cancel, Answer, opened, accepted, completed, ready, missing, done, refused}
 use Rattle.model.specs.BatchSemantics.{BatchSemantics}
-use Rattle.model.specs.State.{Batch, batch, Model, initialModel, windowOf, nextClient, countOf}
+use Rattle.model.specs.State.{Batch, batch, Staging, idle, staging, Model, initialModel, windowOf, nextClient, countOf}
 use Rattle.model.specs.Refusals.{refusal}
 
--- What one call answers, the model after it, and the batch that it executed, if any (01, the book: "that batch is executed").
+-- What one call answers, the model after it, the batch that it executed, if any ("that batch is executed").
 pub record Step : Type 0 where
   pub answer : Answer
   pub after : Model
   pub executed : List Batch
 
--- 01, the book: "It refuses by the table and then changes nothing."
+-- Nothing is executed.
+abbrev pub plain : Answer → Model → Step
+plain answer model = record { answer = answer; after = model; executed = [] }
+
+-- "It refuses by the table and then changes nothing."
 abbrev pub refuse : ℕ → Model → Step
-refuse number model = record { answer = refused number; after = model; executed = [] }
+refuse number model = plain (refused number) model
 
--- 01, the book: "Open adds the window; its id is the number of windows before it."
+-- The model with another staged submission, or none.
+abbrev pub withStaged : Model → Staging → Model
+withStaged model staged =
+    record { windows = model .windows; waiting = model .waiting; staged = staged; accepted = model .accepted; memory = model .memory }
+
+-- "Open adds the window; its id is the number of windows before it."
 abbrev pub openStep : Model → Window → Step
-openStep model w = record {
-  answer = opened (nextClient model);
-  after = record { windows = model .windows ++ (w ∷ []); waiting = model .waiting; accepted = model .accepted; memory = model .memory };
-  executed = [];
-}
+openStep model w = plain (opened (nextClient model)) (record {
+  windows = model .windows ++ (w ∷ []);
+  waiting = model .waiting;
+  staged = model .staged;
+  accepted = model .accepted;
+  memory = model .memory;
+})
 
--- 01, the book: "Submit puts the batch last; its ticket is the number accepted before it, modulo 4,294,967,296."
-abbrev pub submitStep : Model → ℕ → List ℕ → Step
-submitStep model client bytes =
+-- "Submit puts the batch last; its ticket is the number accepted before it, modulo 4,294,967,296." 02, 6: "the last piece puts it last among the
+-- waiting as submit does". No submission is staged then: a submit with one is refused (13), and the last piece ends it.
+abbrev pub enqueue : Model → ℕ → List ℕ → Step
+enqueue model client bytes =
     let ticket : ℕ = model .accepted % 4294967296 in
-    record {
-      answer = accepted ticket;
-      after = record {
-        windows = model .windows;
-        waiting = model .waiting ++ (batch client ticket bytes ∷ []);
-        accepted = suc (model .accepted);
-        memory = model .memory;
-      };
-      executed = [];
-    }
+    plain (accepted ticket) (record {
+      windows = model .windows;
+      waiting = model .waiting ++ (batch client ticket bytes ∷ []);
+      staged = idle;
+      accepted = suc (model .accepted);
+      memory = model .memory;
+    })
 
--- 01, the book: "Run takes the first waiting batch, judges and draws it in memory with its desk's window". Its answer is that of
+-- "Run takes the first waiting batch, judges and draws it in memory with its desk's window". Its answer is that of
 -- 01, "Engine, desks, queue": client, ticket, status, fault and offset. With no batch the table has refused it already.
 abbrev pub runStep : BatchSemantics → ℕ → Model → List Batch → Step
 runStep way common model [] = refuse 9 model
@@ -49,15 +61,31 @@ runStep way common model (b ∷ rest) = record {
   after = record {
     windows = model .windows;
     waiting = rest;
+    staged = model .staged;
     accepted = model .accepted;
     memory = way .draw (windowOf model (b .client)) common (b .bytes) (model .memory);
   };
   executed = b ∷ [];
 }
 
--- 01, the book: "Pending counts the desk's waiting batches."
+-- "Pending counts the desk's waiting batches."
 abbrev pub pendingStep : Model → ℕ → Step
-pendingStep model client = record { answer = ready (countOf client (model .waiting)); after = model; executed = [] }
+pendingStep model client = plain (ready (countOf client (model .waiting))) model
+
+-- 02, 6: "begin a batch with its total length"; no byte has come yet.
+abbrev pub beginStep : Model → ℕ → ℕ → Step
+beginStep model client total = plain done (withStaged model (staging client total []))
+
+-- 02, 6: "A piece answers the bytes still to come, the last its ticket." With none open the table has refused it already.
+abbrev pub pieceStep : Model → Staging → List ℕ → Step
+pieceStep model idle bytes = refuse 14 model
+pieceStep model (staging client total before) bytes =
+    let all : List ℕ = before ++ bytes in
+    cond (eqb (length all) total) (enqueue model client all) (plain (missing (total - length all)) (withStaged model (staging client total all)))
+
+-- 02, 6: "cancelling drops it".
+abbrev pub cancelStep : Model → Step
+cancelStep model = plain done (withStaged model idle)
 
 -- A refusal number, 0 for none: the refusal, or else the step.
 unfoldable pub refuseOr : ℕ → Model → Step → Step
@@ -69,15 +97,18 @@ module _ (way : BatchSemantics) (setup : Setup) (ring : ℕ) where
   -- A call that is not refused.
   unfoldable pub effect : Call → Model → Step
   effect (opens w) model = openStep model w
-  effect (submit client bytes) model = submitStep model client bytes
+  effect (submit client bytes) model = enqueue model client bytes
   effect run model = runStep way (setup .common) model (model .waiting)
   effect (pending client) model = pendingStep model client
+  effect (begin client total) model = beginStep model client total
+  effect (piece client bytes) model = pieceStep model (model .staged) bytes
+  effect (cancel client) model = cancelStep model
 
   -- One call: by the table, or else its effect.
   abbrev pub step : Call → Model → Step
   step call model = refuseOr (refusal setup ring model call) model (effect call model)
 
-  -- ---- a list of calls: each finds the model as the last one left it (01, the book: the claim is "of the list as a whole")
+  -- ---- a list of calls: each finds the model as the last one left it (the claim is "of the list as a whole")
 
   -- Every answer, in order.
   unfoldable pub answers : List Call → Model → List Answer

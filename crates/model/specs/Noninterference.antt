@@ -5,7 +5,7 @@ use mathlib.Core.List.{List, [], _∷_}
 use Prim.Native.Nat.{ℕ}
 use lib.ListN.{length}
 use Rattle.model.specs.Windows.{byte}
-use Rattle.model.specs.Calls.{Setup, Call, submit, CompletionStatus, Answer, completed}
+use Rattle.model.specs.Calls.{Setup, Call, submit, piece, CompletionStatus, Answer, completed}
 use Rattle.model.specs.BatchSemantics.{BatchSemantics}
 use Rattle.model.specs.State.{Owns}
 use Rattle.model.specs.Model.{modelAfterAll}
@@ -15,11 +15,12 @@ pub data Pointwise {A : Type 0} (R : A → A → Type 0) : List A → List A →
   none : Pointwise R [] []
   more : {x y : A} {xs ys : List A} → R x y → Pointwise R xs ys → Pointwise R (x ∷ xs) (y ∷ ys)
 
--- The same call, or two submits that name the client, of the same length; whether they are accepted is not asked (01, the book: "refused
--- ones too").
+-- The same call, or two submits or two pieces that name the client, of the same length; whether they are accepted is not asked
+-- (02, 6: "its runs agree on piece lengths, and a desk's pieces count as bytes of its batches").
 pub data LowEqualCall (client : ℕ) : Call → Call → Type 0 where
   same : (call : Call) → LowEqualCall client call call
   rewritten : (bytes bytes′ : List ℕ) → length bytes ≡ length bytes′ → LowEqualCall client (submit client bytes) (submit client bytes′)
+  repieced : (bytes bytes′ : List ℕ) → length bytes ≡ length bytes′ → LowEqualCall client (piece client bytes) (piece client bytes′)
 
 -- The same answer, or two completions of the client's that differ in nothing but status, fault and offset.
 pub data LowEqualAnswer (client : ℕ) : Answer → Answer → Type 0 where

@@ -5,7 +5,7 @@ use mathlib.Core.Bool.{cond}
 use Prim.Native.Nat.{ℕ}
 use lib.ListN.{length, drop}
 use lib.Dec.{eqb}
-use Rattle.model.specs.Calls.{Setup, Call, run, CompletionStatus, Answer, opened, accepted, completed, ready, refused}
+use Rattle.model.specs.Calls.{Setup, Call, run, CompletionStatus, Answer, opened, accepted, completed, ready, missing, done, refused}
 use Rattle.model.specs.BatchSemantics.{BatchSemantics}
 use Rattle.model.specs.State.{Batch, Model}
 use Rattle.model.specs.Model.{step, answers, after}
@@ -23,12 +23,14 @@ verdictsOf client (completed k t v ∷ rest) = cond (eqb k client) (v ∷ verdic
 verdictsOf client (opened k ∷ rest) = verdictsOf client rest
 verdictsOf client (accepted t ∷ rest) = verdictsOf client rest
 verdictsOf client (ready n ∷ rest) = verdictsOf client rest
+verdictsOf client (missing n ∷ rest) = verdictsOf client rest
+verdictsOf client (done ∷ rest) = verdictsOf client rest
 verdictsOf client (refused n ∷ rest) = verdictsOf client rest
 
 -- The model with another queue: "Night staff reorder the queue by hand" (02, 9).
 abbrev pub withWaiting : Model → List Batch → Model
 withWaiting model waiting =
-    record { windows = model .windows; waiting = waiting; accepted = model .accepted; memory = model .memory }
+    record { windows = model .windows; waiting = waiting; staged = model .staged; accepted = model .accepted; memory = model .memory }
 
 -- One run for each batch.
 abbrev pub runEach : List Batch → List Call
@@ -39,7 +41,8 @@ abbrev pub Lent : Setup → (ring : ℕ) → Model → Type 0
 Lent setup ring model = (ring ≡ setup .ring) × (length (model .memory) ≡ setup .memory)
 
 module _ (way : BatchSemantics) (setup : Setup) (ring : ℕ) where
-  -- The accepted batches, in order: a submit that is not refused puts its batch behind those that wait.
+  -- The accepted batches, in order: a submit or a last piece that is not refused puts its batch behind those that wait. A batch that is handed over by
+  -- pieces counts where its last piece is (02, 6), one that is refused or cancelled nowhere.
   unfoldable pub submitted : List Call → Model → List Batch
   submitted [] model = []
   submitted (c ∷ cs) model = drop (length (model .waiting)) (step way setup ring c model .after .waiting) ++ submitted cs (step way setup ring c model .after)

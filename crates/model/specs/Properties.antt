@@ -1,14 +1,16 @@
--- What is claimed of the model (01, "The book of demand 3": "of the list as a whole"), for any way to draw, any set up, any lent ring
+-- What is claimed of the model (01, "The book of demand 3": "of the list as a whole"; 02, 6), for any way to draw, any set up, any lent ring
 -- length, any starting memory and any list of calls, refused ones included. proofs/Theorems.antt proves `ModelProperties`.
 use mathlib.Core.Path.{_≡_}
-use mathlib.Core.Bool.{true}
-use mathlib.Core.List.{List, [], _∷_, _++_, List·Memᴰ}
+use mathlib.Core.Bool.{true, false, Bool, _&&_, _||_}
+use mathlib.Core.List.{List, [], _∷_, _++_, map, flatten, List·Memᴰ}
 use Prim.Native.Nat.{ℕ, suc, _%_, _≤_, _<_}
 use lib.ListN.{length, take}
+use lib.Dec.{leb, eqb}
 use Rattle.model.specs.Windows.{Window, byte}
-use Rattle.model.specs.Calls.{Setup, Call, opens, submit, run, CompletionStatus, opened, accepted, completed, refused, completions}
+use Rattle.model.specs.Calls.{Setup, Call, opens, submit, run, begin, piece, CompletionStatus, opened, accepted, completed, refused, completions}
 use Rattle.model.specs.BatchSemantics.{BatchSemantics, Confined}
-use Rattle.model.specs.State.{Batch, batch, Model, initialModel, isOpen, windowOf, Owns, takenSlots, takenBytes}
+use Rattle.model.specs.State.{Batch, batch, Staging, idle, staging, Model, initialModel, isOpen, windowOf, Owns, takenSlots, takenBytes}
+use Rattle.model.specs.Refusals.{badLength, refusal}
 use Rattle.model.specs.Model.{Step, step, answers, after, executed, modelAfterAll}
 use Rattle.model.specs.ReplayedAlone.{replayedAlone}
 use Rattle.model.specs.Order.{SameSequences, submitted, SameOutcome, Exchanged, ByHand}
@@ -18,6 +20,28 @@ use Rattle.model.specs.Noninterference.{Pointwise, LowEqualAnswer, LowEq
 abbrev pub ConsecutiveTickets : ℕ → List Batch → Type 0
 ConsecutiveTickets n [] = Unit {0}
 ConsecutiveTickets n (b ∷ bs) = (b .ticket ≡ n % 4294967296) × ConsecutiveTickets (suc n) bs
+
+-- The unfinished batch, if there is one, is "of an open desk", "its length allowed by 6", "its bytes so far fewer than that length" (02, 6: what
+-- the record rules gain).
+abbrev pub Proper : Setup → (open? : ℕ → Bool) → Staging → Type 0
+Proper setup open? idle = Unit {0}
+Proper setup open? (staging client total bytes) = (open? client ≡ true) × (badLength setup total ≡ false) × (length bytes < total)
+
+-- The numbers that refuse a call after set up: 1 and 2 are set up's, 11 never comes.
+abbrev pub refuses : ℕ → Bool
+refuses n = leb 3 n && leb n 10 || eqb n 13 || eqb n 14
+
+-- The batch is what the submit hands in, or what the staged bytes and this piece make.
+pub data HandedIn (model : Model) : Call → Batch → Type 0 where
+  whole : (client ticket : ℕ) (bytes : List ℕ) → HandedIn model (submit client bytes) (batch client ticket bytes)
+  pieces : (client ticket total : ℕ) (before bytes : List ℕ) → model .staged ≡ staging client total before →
+      HandedIn model (piece client bytes) (batch client ticket (before ++ bytes))
+
+-- A refused call leaves the whole model as it was, and executes nothing.
+pub record Quiet (number : ℕ) (model : Model) (s : Step) : Type 0 where
+  pub kept : s .after ≡ model
+  pub executed : s .executed ≡ []
+  pub listed : refuses number ≡ true
 
 -- ring: the length of the lent ring; memory: the lent memory at the start.
 module _ (way : BatchSemantics) (setup : Setup) (ring : ℕ) where
@@ -37,21 +61,33 @@ module _ (way : BatchSemantics) (setup : Setup) (ring : ℕ) where
       pub common : (i : ℕ) → i < setup .common → byte (finalModel .memory) i ≡ byte memory i
       pub size : length (finalModel .memory) ≡ length memory
 
-    -- What was executed and then what waits is all that was ever accepted, in the order of the tickets. At most eight wait, in the ring's room.
+    -- Every waiting batch is of an open client (01, record rules: "each of an open desk"), and so is the staged one.
+    pub record OfOpen : Type 0 where
+      pub waiting : (b : Batch) → List·Memᴰ b (finalModel .waiting) → isOpen finalModel (b .client) ≡ true
+      pub staged : Proper setup (isOpen finalModel) (finalModel .staged)
+
+    -- What was executed and then what waits is all that was ever accepted, in the order of the tickets. At most eight slots are taken, the staged
+    -- submission's among them, in the ring's room.
     pub record FifoOrder : Type 0 where
       pub all : length (executedBatches ++ finalModel .waiting) ≡ finalModel .accepted
       pub tickets : ConsecutiveTickets 0 (executedBatches ++ finalModel .waiting)
       pub slots : takenSlots finalModel ≤ 8
       pub room : takenBytes finalModel ≤ setup .ring
 
-    -- A batch that is accepted now is among the first eight that later calls execute, once eight of their runs have succeeded
-    -- (01, "Engine, desks, queue": "taken at the latest by the eighth successful run after it"). `List·Memᴰ x xs`: x stands in the list.
+    -- A batch that is made ready now, by a submit or by the last piece, is put last among the waiting, and it is among the first eight that later
+    -- calls execute, once eight of their runs have succeeded (01, "Engine, desks, queue": "taken at the latest by the eighth successful run
+    -- after it"). `List·Memᴰ x xs`: x stands in the list.
+    pub record Executed (call : Call) (later : List Call) (ticket : ℕ) : Type 0 where
+      pub batch : Batch
+      pub own : HandedIn finalModel call batch
+      pub numbered : batch .ticket ≡ ticket
+      pub last : step way setup ring call finalModel .after .waiting ≡ finalModel .waiting ++ (batch ∷ [])
+      pub soon : List·Memᴰ batch (take 8 (executed way setup ring later (step way setup ring call finalModel .after)))
+
+    -- Whatever call makes it ready.
     abbrev pub BoundedWaiting : (later : List Call) → Type 0
-    BoundedWaiting later = (client ticket : ℕ) (bytes : List ℕ) →
-        let submitted : Step = step way setup ring (submit client bytes) finalModel in
-        submitted .answer ≡ accepted ticket →
-        8 ≤ completions (answers way setup ring later (submitted .after)) →
-        List·Memᴰ (batch client ticket bytes) (take 8 (executed way setup ring later (submitted .after)))
+    BoundedWaiting later = (call : Call) (ticket : ℕ) → step way setup ring call finalModel .answer ≡ accepted ticket →
+        8 ≤ completions (answers way setup ring later (step way setup ring call finalModel .after)) → Executed call later ticket
 
     -- 02, 9: "two faultless or faulty batches of different desks, taken one right after the other": the next two runs execute a and b.
     abbrev pub Exchange : Type 0
@@ -91,10 +127,17 @@ module _ (way : BatchSemantics) (setup : Setup) (ring : ℕ) where
         SameSequences (submitted way setup ring calls (initialModel memory)) (submitted way setup ring calls′ (initialModel memory)) →
         SameOutcome way setup ring calls calls′ (initialModel memory) (initialModel memory)
 
-  -- A refused call leaves the whole model as it was and executes nothing. Its number is 3 to 10: 1 and 2 are set up's, 11 never comes.
+  -- 01, "Engine, desks, queue": "A refusal gives only its number and changes nothing."
   abbrev pub RefusalNoOp : Call → Model → Type 0
-  RefusalNoOp call model = (number : ℕ) → step way setup ring call model .answer ≡ refused number →
-      (step way setup ring call model .after ≡ model) × (step way setup ring call model .executed ≡ []) × (3 ≤ number) × (number ≤ 10)
+  RefusalNoOp call model = (number : ℕ) → step way setup ring call model .answer ≡ refused number → Quiet number model (step way setup ring call model)
+
+  -- 02, 6: "With no other call between, every cutting gives the record, ring and ticket that a whole submit gives." Begin is refused as the
+  -- submit is; if it is not, then the last piece answers, leaves and executes just what the submit does. Pieces may be empty, but not the last.
+  pub record Cutting (client : ℕ) (pieces : List (List ℕ)) (last : List ℕ) (model : Model) : Type 0 where
+    pub checks : refusal setup ring model (begin client (length (flatten pieces ++ last))) ≡ refusal setup ring model (submit client (flatten pieces ++ last))
+    pub whole : 0 < length last → refusal setup ring model (submit client (flatten pieces ++ last)) ≡ 0 →
+        step way setup ring (piece client last) (after way setup ring (begin client (length (flatten pieces ++ last)) ∷ map (piece client) pieces) model)
+        ≡ step way setup ring (submit client (flatten pieces ++ last)) model
 
 -- The claims. The first six ask that a batch is drawn by its window and common alone; the others ask nothing.
 pub record ModelProperties (way : BatchSemantics) (setup : Setup) (ring : ℕ) : Type 0 where
@@ -106,6 +149,8 @@ pub record ModelProperties (way : BatchSemantics) (setup : Setup) (ring : ℕ) :
   pub any-submissions : Confined way → (calls calls′ : List Call) (memory : List ℕ) → AnySubmissions way setup ring calls calls′ memory
   pub by-hand : Confined way → (calls : List Call) (memory : List ℕ) → ReorderedByHand way setup ring calls memory
   pub holds : (calls later : List Call) (memory : List ℕ) → WindowStable way setup ring calls memory later
+  pub of-open : (calls : List Call) (memory : List ℕ) → OfOpen way setup ring calls memory
   pub in-order : (calls : List Call) (memory : List ℕ) → FifoOrder way setup ring calls memory
   pub in-time : (calls later : List Call) (memory : List ℕ) → BoundedWaiting way setup ring calls memory later
   pub harmless : (call : Call) (model : Model) → RefusalNoOp way setup ring call model
+  pub cutting : (client : ℕ) (pieces : List (List ℕ)) (last : List ℕ) (model : Model) → Cutting way setup ring client pieces last model

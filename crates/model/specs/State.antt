@@ -1,8 +1,9 @@
--- What the model keeps (01, "The book of demand 3": "It keeps windows, waiting batches in order .., the number accepted, and memory").
+-- What the model keeps (01, "The book of demand 3": "It keeps windows, waiting batches in order .., the number accepted, and memory"; 02, 6:
+-- "The book keeps the open hand-over").
 use mathlib.Core.Path.{_≡_}
 use mathlib.Core.List.{List, [], _∷_}
-use mathlib.Core.Bool.{Bool, true, cond}
-use Prim.Native.Nat.{ℕ, _+_}
+use mathlib.Core.Bool.{Bool, true, false, cond}
+use Prim.Native.Nat.{ℕ, _+_, _-_}
 use lib.ListN.{length, getD}
 use lib.Dec.{ltb, eqb}
 use Rattle.model.specs.Windows.{Window, window, In}
@@ -17,16 +18,23 @@ pub record Batch : Type 0 where
 abbrev pub batch : ℕ → ℕ → List ℕ → Batch
 batch client ticket bytes = record { client = client; ticket = ticket; bytes = bytes }
 
--- 01, "The book of demand 3". Client k's window is at place k; waiting batches stand in the order in which run takes them.
+-- A staged submission (02, 6: hand-over): none, or the one that is open (02, 6: "One hand-over at a time"), "with its desk, total length and
+-- bytes so far".
+pub data Staging : Type 0 where
+  idle : Staging
+  staging : (client total : ℕ) (bytes : List ℕ) → Staging
+
+-- 01, "The book of demand 3"; 02, 6. Client k's window is at place k; waiting batches stand in the order in which run takes them.
 pub record Model : Type 0 where
   pub windows : List Window
   pub waiting : List Batch
+  pub staged : Staging
   pub accepted : ℕ
   pub memory : List ℕ
 
 -- 01, "The book of demand 3": "at first no window, nothing waiting, 0", and the memory that is lent.
 abbrev pub initialModel : List ℕ → Model
-initialModel memory = record { windows = []; waiting = []; accepted = 0; memory = memory }
+initialModel memory = record { windows = []; waiting = []; staged = idle; accepted = 0; memory = memory }
 
 -- ---- clients: nothing but these looks one up, so that another way to keep them changes these alone
 
@@ -50,20 +58,47 @@ openWindows model = model .windows
 abbrev pub Owns : Model → ℕ → ℕ → Type 0
 Owns model client i = (isOpen model client ≡ true) × In (windowOf model client) i
 
+-- ---- the staged submission
+
+-- None is open (02, 6, 13: "a hand-over is open").
+abbrev pub isIdle : Staging → Bool
+isIdle idle = true
+isIdle (staging client total bytes) = false
+
+-- It is open, and this client's (02, 6, 14: "none open for this desk").
+abbrev pub stagedBy : Staging → ℕ → Bool
+stagedBy idle client = false
+stagedBy (staging owner total bytes) client = eqb owner client
+
+-- 02, 6: "the bytes still to come".
+abbrev pub missingBytes : Staging → ℕ
+missingBytes idle = 0
+missingBytes (staging client total bytes) = total - length bytes
+
+-- 02, 6: the book "counts it as a waiting batch of that length for slots and room". Its slot.
+abbrev pub stagedSlots : Staging → ℕ
+stagedSlots idle = 0
+stagedSlots (staging client total bytes) = 1
+
+-- Its room: the whole length from the beginning on.
+abbrev pub stagedBytes : Staging → ℕ
+stagedBytes idle = 0
+stagedBytes (staging client total bytes) = total
+
 -- ---- waiting batches
 
--- A slot is taken by each batch that waits (01, "The book of demand 3": "no slot is free when eight batches wait").
+-- A slot is taken by each batch that waits (01, "The book of demand 3": "no slot is free when eight batches wait") and by the staged one.
 abbrev pub takenSlots : Model → ℕ
-takenSlots model = length (model .waiting)
+takenSlots model = length (model .waiting) + stagedSlots (model .staged)
 
 -- The batches' lengths, summed.
 unfoldable pub totalBytes : List Batch → ℕ
 totalBytes [] = 0
 totalBytes (b ∷ bs) = length (b .bytes) + totalBytes bs
 
--- The waiting lengths (01, "The book of demand 3": "free ring bytes are the ring less the waiting lengths").
+-- The waiting lengths (01, "The book of demand 3": "free ring bytes are the ring less the waiting lengths"), the staged total among them.
 abbrev pub takenBytes : Model → ℕ
-takenBytes model = totalBytes (model .waiting)
+takenBytes model = totalBytes (model .waiting) + stagedBytes (model .staged)
 
 -- How many of the batches are the client's (01, "The book of demand 3": "Pending counts the desk's waiting batches").
 unfoldable pub countOf : ℕ → List Batch → ℕ

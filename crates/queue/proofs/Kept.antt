@@ -14,15 +14,17 @@ use Rattle.record.specs.declared.Setup.{Setup}
 use Rattle.record.specs.declared.Window.{Window}
 use Rattle.record.specs.declared.Client.{Client}
 use Rattle.record.specs.declared.Record.{Record}
+use Rattle.record.specs.declared.Staged.{Staged}
 use Rattle.record.specs.Slots.{readyBatches, sumOver, totalLength, countOf}
 use Rattle.record.specs.Tickets.{ticketsConsecutive, inTicketOrder}
 use Rattle.record.specs.Clients.{openClients, openWindows, windowsOf, windowsValid, pendingCountsMatch}
-use Rattle.record.specs.Queue.{takenSlots, waiting}
-use Rattle.record.specs.Rules.{ringRule, memoryRule, clientsRule, readRule, numberRules, windowsRule, ticketsRule, endToEnd, endToEndRule, lengthsAllowed, lengthsRule, clientsOpen, ownersRule, pendingRule, valid}
+use Rattle.record.specs.Queue.{readySlots, waiting}
+use Rattle.record.specs.Rules.{ringRule, memoryRule, clientsRule, readRule, numberRules, windowsRule, ticketsRule, endToEnd, endToEndRule, lengthsAllowed, lengthsRule, clientsOpen, ownersRule, pendingRule, stagedRule, valid}
 use Rattle.record.proofs.Slots.{ready-most}
 use Rattle.record.proofs.Opened.{windows-snoc, none-snoc, open-more, open-none, counts-snoc}
+use Rattle.record.proofs.Unfinished.{staged-stays}
 use Rattle.record.proofs.Rules.{ring-good, Valid, valid-facts, valid-made, numbers-kept, sum-waiting}
-use Rattle.queue.specs.Calls.{initialRecord, noSetup, withClient}
+use Rattle.queue.specs.Calls.{initialRecord, noSetup, withClient, withStaged}
 use Rattle.queue.proofs.Refusals.{SetUpAllowed, OpenAllowed}
 
 -- what every record of the code has
@@ -31,7 +33,7 @@ pub record Sized (engine : Record) : Type 0 where
   pub slots : length (engine .slots) ≡ 8
   pub next : engine .next < 4294967296
 
-pub few-taken : (engine : Record) → Sized engine → takenSlots engine ≤ 8
+pub few-taken : (engine : Record) → Sized engine → readySlots engine ≤ 8
 few-taken engine s = omega (arith, ready-most (engine .slots), s .slots)
 
 -- ---- set up
@@ -99,6 +101,10 @@ module _ (engine : Record) (w : Window) (s : Sized engine) where
   unfolding withClient
   count-rule e = e
 
+  staged-rule : stagedRule engine ≡ true → stagedRule (withClient engine w) ≡ true
+  unfolding withClient
+  staged-rule e = staged-stays engine (withClient engine w) refl refl (omega arith) (omega arith) (λ i h. h) e
+
   batch-rules : Valid engine → (ticketsRule (withClient engine w) ≡ true) × (endToEndRule (withClient engine w) ≡ true) × (lengthsRule (withClient engine w) ≡ true)
       × (totalLength (waiting (withClient engine w)) ≤ withClient engine w .setup .ring)
   unfolding withClient
@@ -123,3 +129,35 @@ module _ (engine : Record) (w : Window) (s : Sized engine) where
       (b .3)
       (owner-rule (v .owners))
       (count-rule (rw (clients-more (a .few)) counts))
+      (staged-rule (v .staged))
+
+-- ---- another staged submission, or none
+
+module _ (engine : Record) (g : Staged) where
+  pub staged-sized : Sized engine → Sized (withStaged engine g)
+  unfolding withStaged
+  staged-sized s = record { clients = s .clients; slots = s .slots; next = s .next }
+
+  -- the batches are as they were
+  pub staged-waiting : waiting (withStaged engine g) ≡ waiting engine
+  unfolding withStaged
+  staged-waiting = refl
+
+  rules : Valid engine → (windowsRule (withStaged engine g) ≡ true) × (ticketsRule (withStaged engine g) ≡ true) × (endToEndRule (withStaged engine g) ≡ true) × (lengthsRule (withStaged engine g) ≡ true)
+      × (totalLength (waiting (withStaged engine g)) ≤ withStaged engine g .setup .ring) × (pendingRule (withStaged engine g) ≡ true)
+  unfolding withStaged
+  rules v = (v .windows, v .given, v .ends, v .lengths, v .within, v .counts)
+
+  owners : Valid engine → ownersRule (withStaged engine g) ≡ true
+  unfolding withStaged
+  owners v = open-more engine (withStaged engine g) (waiting engine) (omega arith) (v .owners)
+
+  numbers-stay : valid engine ≡ true → numberRules (withStaged engine g) ≡ true
+  unfolding withStaged
+  numbers-stay ok = numbers-kept engine ok
+
+  pub staged-valid : valid engine ≡ true → stagedRule (withStaged engine g) ≡ true → valid (withStaged engine g) ≡ true
+  staged-valid ok e =
+      let v = valid-facts engine ok in
+      let r = rules v in
+      valid-made (withStaged engine g) (numbers-stay ok) (r .0) (r .1) (r .2) (r .3) (r .4) (owners v) (r .5) e

@@ -1,19 +1,23 @@
 -- What it says of a call that no row of its table holds.
 use mathlib.Core.Path.{_≡_, refl}
 use mathlib.Core.List.{List, [], _∷_}
-use mathlib.Core.Bool.{Bool, true, false, not}
-use Prim.Native.Nat.{ℕ, _≤_, _<_}
+use mathlib.Core.Bool.{Bool, true, false, not, cond}
+use Prim.Native.Nat.{ℕ, _+_, _≤_, _<_}
 use native.Mathlib.Omega.{arith}
-use lib.Dec.{eqb}
+use lib.Dec.{eqb, ltb}
 use borrow.Author.Tests.{ltb-false, leb-false, eqb-true, not-false}
 use Rattle.record.specs.declared.Setup.{Setup}
 use Rattle.record.specs.declared.Window.{Window}
 use Rattle.record.specs.declared.Record.{Record}
 use Rattle.record.specs.Setup.{badRing, badMemory, badLength}
 use Rattle.record.specs.Clients.{isOpen, openWindows, badWindow}
-use Rattle.record.specs.Queue.{takenSlots, freeBytes}
+use Rattle.record.specs.Staged.{noStaged, isIdle, stagedBy, missingBytes}
+use Rattle.record.specs.Queue.{readySlots, takenSlots, freeBytes}
 use Rattle.record.specs.Rules.{valid}
-use Rattle.queue.specs.Refusals.{RefusalRow, _when_, firstRefusal, setUpTable, openTable, submitTable, pendingTable}
+use Rattle.record.proofs.Rules.{valid-facts}
+use Rattle.record.proofs.Unfinished.{Unfinished, staged-idle, staged-open}
+use Rattle.word.proofs.Tests.{or-false}
+use Rattle.queue.specs.Refusals.{RefusalRow, _when_, firstRefusal, setUpTable, openTable, submitTable, pieceTable, cancelTable, pendingTable}
 
 -- a record that breaks a rule
 pub eleven : (rows : List RefusalRow) (v : Bool) → v ≡ false → 11 ≡ firstRefusal (11 when not v ∷ rows)
@@ -55,8 +59,9 @@ pub record SubmitAllowed (engine : Record) (given client size : ℕ) : Type 0 wh
   pub ok : valid engine ≡ true
   pub ring : given ≡ engine .setup .ring
   pub owner : isOpen engine client ≡ true
+  pub idle : engine .staged ≡ noStaged
   pub allowed : badLength (engine .setup .ring) size ≡ false
-  pub slot : takenSlots engine < 8
+  pub slot : readySlots engine < 8
   pub room : size ≤ freeBytes engine
 
 pub submit-allowed : (engine : Record) (given client size : ℕ) → firstRefusal (submitTable engine given client size) ≡ 0 → SubmitAllowed engine given client size
@@ -64,16 +69,59 @@ submit-allowed engine given client size e =
     let first = clear (submitTable engine given client size) e (omega arith) in
     let ten = first .1 (omega arith) in
     let five = ten .1 (omega arith) in
-    let six = five .1 (omega arith) in
+    let thirteen = five .1 (omega arith) in
+    let six = thirteen .1 (omega arith) in
     let seven = six .1 (omega arith) in
+    let ok : valid engine ≡ true = not-false (valid engine) (first .0) in
+    let few : takenSlots engine < 8 = leb-false _ _ (seven .0) in
     record {
-      ok = not-false (valid engine) (first .0);
+      ok = ok;
+      idle = staged-idle engine (valid-facts engine ok .staged) (not-false (isIdle (engine .staged)) (thirteen .0));
       ring = eqb-true _ _ (not-false (eqb given (engine .setup .ring)) (ten .0));
       owner = not-false (isOpen engine client) (five .0);
       allowed = six .0;
-      slot = leb-false _ _ (seven .0);
+      slot = omega arith;
       room = ltb-false _ _ (seven .1 (omega arith) .0);
     }
+
+-- the test behind `stagedBy`
+both-own : (idle own : Bool) → cond idle false own ≡ true → (idle ≡ false) × (own ≡ true)
+both-own true own e = absurd (let z : _≡_ {A = ℕ} 0 1 = cc in omega arith)
+both-own false own e = (refl, e)
+
+-- a staged submission of this client
+pub record Own (engine : Record) (client : ℕ) : Type 0 where
+  pub ok : valid engine ≡ true
+  pub owner : isOpen engine client ≡ true
+  pub some : isIdle (engine .staged) ≡ false
+  pub mine : engine .staged .client ≡ client
+  pub unfinished : Unfinished engine
+
+own : (engine : Record) (client : ℕ) → valid engine ≡ true → isOpen engine client ≡ true → stagedBy (engine .staged) client ≡ true → Own engine client
+own engine client ok owner e =
+    let both = both-own (isIdle (engine .staged)) (eqb (engine .staged .client) client) e in
+    record { ok = ok; owner = owner; some = both .0; mine = eqb-true _ _ (both .1); unfinished = staged-open engine (valid-facts engine ok .staged) (both .0) }
+
+pub record PieceAllowed (engine : Record) (given client size : ℕ) : Type 0 where
+  pub own : Own engine client
+  pub ring : given ≡ engine .setup .ring
+  pub fits : engine .staged .received + size ≤ engine .staged .total
+
+pub piece-allowed : (engine : Record) (given client size : ℕ) → firstRefusal (pieceTable engine given client size) ≡ 0 → PieceAllowed engine given client size
+piece-allowed engine given client size e =
+    let first = clear (pieceTable engine given client size) e (omega arith) in
+    let ten = first .1 (omega arith) in
+    let five = ten .1 (omega arith) in
+    let last = or-false (not (stagedBy (engine .staged) client)) (ltb (missingBytes (engine .staged)) size) (five .1 (omega arith) .0) in
+    let o : Own engine client = own engine client (not-false (valid engine) (first .0)) (not-false (isOpen engine client) (five .0)) (not-false (stagedBy (engine .staged) client) (last .0)) in
+    let room : size ≤ missingBytes (engine .staged) = ltb-false _ _ (last .1) in
+    record { own = o; ring = eqb-true _ _ (not-false (eqb given (engine .setup .ring)) (ten .0)); fits = omega (arith, o .unfinished .short) }
+
+pub cancel-allowed : (engine : Record) (client : ℕ) → firstRefusal (cancelTable engine client) ≡ 0 → Own engine client
+cancel-allowed engine client e =
+    let first = clear (cancelTable engine client) e (omega arith) in
+    let five = first .1 (omega arith) in
+    own engine client (not-false (valid engine) (first .0)) (not-false (isOpen engine client) (five .0)) (not-false (stagedBy (engine .staged) client) (five .1 (omega arith) .0))
 
 pub record PendingAllowed (engine : Record) (client : ℕ) : Type 0 where
   pub ok : valid engine ≡ true

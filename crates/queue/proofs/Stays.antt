@@ -1,22 +1,28 @@
 -- The calls as a whole: their numbers are the table's, a refusal changes nothing, and a valid record stays valid.
 use mathlib.Core.Path.{_≡_, refl, sym}
 use mathlib.Core.List.{List}
-use mathlib.Core.Bool.{true}
-use Prim.Native.Nat.{ℕ, zero, suc}
+use mathlib.Core.Bool.{Bool, true, false, cond}
+use Prim.Native.Nat.{ℕ, zero, suc, _+_}
+use native.Mathlib.Omega.{arith}
+use borrow.Author.Tests.{eqb-false}
 use lib.ListN.{length}
 use Rattle.record.specs.declared.Setup.{Setup}
 use Rattle.record.specs.declared.Window.{Window}
 use Rattle.record.specs.declared.Record.{Record}
-use Rattle.record.specs.Rules.{valid}
+use Rattle.record.specs.Slots.{lowestFree}
+use Rattle.record.specs.Staged.{noStaged, missingBytes}
+use Rattle.record.specs.Rules.{stagedRule, valid}
+use Rattle.record.proofs.Rules.{length-good}
+use Rattle.record.proofs.Unfinished.{unfinished-kept, idle-kept}
 use Rattle.queue.specs.declared.Answer.{Answer}
-use Rattle.queue.specs.declared.Answer.the-variants.{Refused, Set, Opened, Accepted, Ready}
+use Rattle.queue.specs.declared.Answer.the-variants.{Refused, Done, Opened, Accepted, Ready, Missing}
 use Rattle.queue.specs.Answers.{refusalNumberOf, valueOf, answerUnlessRefused}
-use Rattle.queue.specs.Refusals.{firstRefusal, setUpTable, openTable, pendingTable}
-use Rattle.queue.specs.Calls.{unlessRefused, setUpResult, withClient, openResult, newBatch, withBatch, submitNumber, submitResult, submitRing, pendingAnswer}
-use Rattle.queue.proofs.Refusals.{set-up-allowed, open-allowed, submit-allowed}
-use Rattle.queue.proofs.Calls.{open-refused, submit-refused}
-use Rattle.queue.proofs.Kept.{Sized, fresh-valid, open-sized, open-valid}
-use Rattle.queue.proofs.Submitted.{submit-sized, submit-valid}
+use Rattle.queue.specs.Refusals.{firstRefusal, setUpTable, openTable, submitTable, cancelTable, pendingTable}
+use Rattle.queue.specs.Calls.{unlessRefused, setUpResult, withClient, openResult, newBatch, withBatch, submitted, submitNumber, submitResult, submitRing, withStaged, begun, beginResult, more, isLast, pieceNumber, pieceAnswer, afterPiece, pieceResult, pieceRing, cancelResult, pendingAnswer}
+use Rattle.queue.proofs.Refusals.{set-up-allowed, open-allowed, SubmitAllowed, submit-allowed, PieceAllowed, piece-allowed}
+use Rattle.queue.proofs.Calls.{open-refused, submit-refused, begin-refused, piece-refused, cancel-refused}
+use Rattle.queue.proofs.Kept.{Sized, fresh-valid, open-sized, open-valid, staged-sized, staged-valid}
+use Rattle.queue.proofs.Submitted.{added-sized, added-valid, submit-addable, staged-addable}
 
 -- ---- the paper's numbers
 
@@ -32,7 +38,7 @@ value-answered n a e = rw e
 
 pub set-up-number : (setup : Setup) → refusalNumberOf (setUpResult (setup .ring) (setup .memory) (setup .common) (setup .reset) .answer) ≡ firstRefusal (setUpTable setup)
 unfolding setUpResult
-set-up-number setup = number-answered (firstRefusal (setUpTable setup)) Set refl
+set-up-number setup = number-answered (firstRefusal (setUpTable setup)) Done refl
 
 pub open-number : (engine : Record) (w : Window) → refusalNumberOf (openResult engine w .answer) ≡ firstRefusal (openTable engine w)
 unfolding openResult
@@ -41,6 +47,25 @@ open-number engine w = number-answered (firstRefusal (openTable engine w)) (Open
 pub submit-number : (engine : Record) (ring : List ℕ) (client : ℕ) (batch : List ℕ) → refusalNumberOf (submitResult engine ring client batch .answer) ≡ submitNumber engine ring client batch
 unfolding submitResult
 submit-number engine ring client batch = number-answered (submitNumber engine ring client batch) (Accepted (engine .next)) refl
+
+pub begin-number : (engine : Record) (ring client total : ℕ) → refusalNumberOf (beginResult engine ring client total .answer) ≡ firstRefusal (submitTable engine ring client total)
+unfolding beginResult
+begin-number engine ring client total = number-answered (firstRefusal (submitTable engine ring client total)) Done refl
+
+told-piece : (engine : Record) (size : ℕ) → refusalNumberOf (pieceAnswer engine size) ≡ 0
+told-piece engine size = go (isLast (engine .staged) size)
+  where
+    go : (b : Bool) → refusalNumberOf (cond b (Accepted (engine .next)) (Missing (missingBytes (more (engine .staged) size)))) ≡ 0
+    go true = refl
+    go false = refl
+
+pub piece-number : (engine : Record) (ring : List ℕ) (client : ℕ) (piece : List ℕ) → refusalNumberOf (pieceResult engine ring client piece .answer) ≡ pieceNumber engine ring client piece
+unfolding pieceResult
+piece-number engine ring client piece = number-answered (pieceNumber engine ring client piece) (pieceAnswer engine (length piece)) (told-piece engine (length piece))
+
+pub cancel-number : (engine : Record) (client : ℕ) → refusalNumberOf (cancelResult engine client .answer) ≡ firstRefusal (cancelTable engine client)
+unfolding cancelResult
+cancel-number engine client = number-answered (firstRefusal (cancelTable engine client)) Done refl
 
 pub pending-number : (engine : Record) (client : ℕ) → refusalNumberOf (pendingAnswer engine client) ≡ firstRefusal (pendingTable engine client)
 unfolding pendingAnswer
@@ -57,6 +82,20 @@ pub submit-same : (engine : Record) (ring : List ℕ) (client : ℕ) (batch : Li
 submit-same engine ring client batch z =
     let both = submit-refused engine ring client batch (submitNumber engine ring client batch) refl z in
     (sym (both .0), sym (both .1))
+
+pub begin-same : (engine : Record) (ring client total : ℕ) → (firstRefusal (submitTable engine ring client total) ≡ 0 → ⊥) →
+    beginResult engine ring client total ≡ record { answer = Refused (firstRefusal (submitTable engine ring client total)); engine = engine }
+begin-same engine ring client total z = sym (begin-refused engine ring client total (firstRefusal (submitTable engine ring client total)) refl z)
+
+pub piece-same : (engine : Record) (ring : List ℕ) (client : ℕ) (piece : List ℕ) → (pieceNumber engine ring client piece ≡ 0 → ⊥) →
+    (pieceResult engine ring client piece ≡ record { answer = Refused (pieceNumber engine ring client piece); engine = engine }) × (pieceRing engine ring client piece ≡ ring)
+piece-same engine ring client piece z =
+    let both = piece-refused engine ring client piece (pieceNumber engine ring client piece) refl z in
+    (sym (both .0), sym (both .1))
+
+pub cancel-same : (engine : Record) (client : ℕ) → (firstRefusal (cancelTable engine client) ≡ 0 → ⊥) →
+    cancelResult engine client ≡ record { answer = Refused (firstRefusal (cancelTable engine client)); engine = engine }
+cancel-same engine client z = sym (cancel-refused engine client (firstRefusal (cancelTable engine client)) refl z)
 
 -- ---- a valid record stays valid
 
@@ -82,8 +121,55 @@ module _ (engine : Record) (s : Sized engine) (ok : valid engine ≡ true) where
   pub submit-stays : (ring : List ℕ) (client : ℕ) (batch : List ℕ) → (valid (submitResult engine ring client batch .engine) ≡ true) × Sized (submitResult engine ring client batch .engine)
   unfolding submitResult
   submit-stays ring client batch =
-      unless-keeps (λ e. (valid e ≡ true) × Sized e) (submitNumber engine ring client batch) engine (withBatch engine (newBatch engine client (length batch))) (ok, s)
+      unless-keeps (λ e. (valid e ≡ true) × Sized e) (submitNumber engine ring client batch) engine (submitted engine client (length batch)) (ok, s)
       (λ z. (
-        submit-valid engine s (length ring) client (length batch) (submit-allowed engine (length ring) client (length batch) z),
-        submit-sized engine (newBatch engine client (length batch)) s,
+        added-valid engine s (lowestFree (engine .slots)) client (length batch) (submit-addable engine s (length ring) client (length batch) (submit-allowed engine (length ring) client (length batch) z)),
+        added-sized engine (lowestFree (engine .slots)) (newBatch engine client (length batch)) s,
       ))
+
+  -- a submission begun is unfinished, and holds a slot that was free
+  begun-rule : (given client total : ℕ) → SubmitAllowed engine given client total → stagedRule (withStaged engine (begun engine client total)) ≡ true
+  unfolding withStaged
+  begun-rule given client total a =
+      let d = submit-addable engine s given client total a in
+      unfinished-kept (withStaged engine (begun engine client total))
+      (record { owner = a .owner; allowed = a .allowed; room = d .room; short = length-good (engine .setup .ring) total (a .allowed) .some; slot = d .slot; held = d .unused })
+
+  -- and so it is with another piece that is not the last
+  more-rule : (given client size : ℕ) → PieceAllowed engine given client size → ¬ (engine .staged .received + size ≡ engine .staged .total) → stagedRule (withStaged engine (more (engine .staged) size)) ≡ true
+  unfolding withStaged
+  more-rule given client size a e =
+      let u = a .own .unfinished in
+      unfinished-kept (withStaged engine (more (engine .staged) size))
+      (record { owner = u .owner; allowed = u .allowed; room = u .room; short = omega (arith, a .fits); slot = u .slot; held = u .held })
+
+  none-rule : stagedRule (withStaged engine noStaged) ≡ true
+  unfolding withStaged
+  none-rule = idle-kept (withStaged engine noStaged) refl
+
+  pub begin-stays : (ring client total : ℕ) → (valid (beginResult engine ring client total .engine) ≡ true) × Sized (beginResult engine ring client total .engine)
+  unfolding beginResult
+  begin-stays ring client total =
+      unless-keeps (λ e. (valid e ≡ true) × Sized e) (firstRefusal (submitTable engine ring client total)) engine (withStaged engine (begun engine client total)) (ok, s)
+      (λ z. (staged-valid engine _ ok (begun-rule ring client total (submit-allowed engine ring client total z)), staged-sized engine _ s))
+
+  pub after-piece : (given client size : ℕ) → PieceAllowed engine given client size → (valid (afterPiece engine size) ≡ true) × Sized (afterPiece engine size)
+  after-piece given client size a = go (isLast (engine .staged) size) refl
+    where
+      go : (b : Bool) → isLast (engine .staged) size ≡ b →
+          let after : Record = cond b (withBatch engine (engine .staged .slot) (newBatch engine (engine .staged .client) (engine .staged .total))) (withStaged engine (more (engine .staged) size)) in
+          (valid after ≡ true) × Sized after
+      go true e = (added-valid engine s _ _ _ (staged-addable engine client (a .own)), added-sized engine _ _ s)
+      go false e = (staged-valid engine _ ok (more-rule given client size a (eqb-false _ _ e)), staged-sized engine _ s)
+
+  pub piece-stays : (ring : List ℕ) (client : ℕ) (piece : List ℕ) → (valid (pieceResult engine ring client piece .engine) ≡ true) × Sized (pieceResult engine ring client piece .engine)
+  unfolding pieceResult
+  piece-stays ring client piece =
+      unless-keeps (λ e. (valid e ≡ true) × Sized e) (pieceNumber engine ring client piece) engine (afterPiece engine (length piece)) (ok, s)
+      (λ z. after-piece (length ring) client (length piece) (piece-allowed engine (length ring) client (length piece) z))
+
+  pub cancel-stays : (client : ℕ) → (valid (cancelResult engine client .engine) ≡ true) × Sized (cancelResult engine client .engine)
+  unfolding cancelResult
+  cancel-stays client =
+      unless-keeps (λ e. (valid e ≡ true) × Sized e) (firstRefusal (cancelTable engine client)) engine (withStaged engine noStaged) (ok, s)
+      (λ z. (staged-valid engine noStaged ok none-rule, staged-sized engine noStaged s))

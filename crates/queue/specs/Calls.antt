@@ -1,8 +1,11 @@
 -- What each call answers, and record and ring after it, for every record, ring and batch (01, "Engine, desks, queue"). A refusal leaves
--- record and ring as they were.
+-- record and ring as they were. Batches handed over by pieces: 02, 6.
 use mathlib.Core.List.{List, [], _∷_}
+use mathlib.Core.Bool.{Bool, cond}
 use Prim.Native.Nat.{ℕ, zero, suc, _+_}
 use lib.ListN.{length, getD, set}
+use lib.Dec.{eqb}
+use Rattle.ring.specs.Segment.{wrapOffset}
 use Rattle.reset.specs.declared.ResetRule.{ResetRule}
 use Rattle.reset.specs.declared.ResetRule.the-variants.{Unblended}
 use Rattle.ring.specs.Copied.{copiedIn}
@@ -11,15 +14,17 @@ use Rattle.record.specs.declared.Window.{Window}
 use Rattle.record.specs.declared.Client.{Client}
 use Rattle.record.specs.declared.Batch.{Batch}
 use Rattle.record.specs.declared.Record.{Record}
+use Rattle.record.specs.declared.Staged.{Staged}
 use Rattle.record.specs.Slots.{free, readyWith, readyBatches, countOf, lowestFree}
 use Rattle.record.specs.Tickets.{ticketAfter}
 use Rattle.record.specs.Clients.{noClient}
+use Rattle.record.specs.Staged.{noStaged, missingBytes}
 use Rattle.record.specs.Queue.{writeOffset}
 use Rattle.queue.specs.declared.Answer.{Answer}
-use Rattle.queue.specs.declared.Answer.the-variants.{Set, Opened, Accepted, Ready}
+use Rattle.queue.specs.declared.Answer.the-variants.{Done, Opened, Accepted, Ready, Missing}
 use Rattle.queue.specs.declared.Reply.{Reply}
 use Rattle.queue.specs.Answers.{answerUnlessRefused}
-use Rattle.queue.specs.Refusals.{firstRefusal, setUpTable, openTable, submitTable, pendingTable}
+use Rattle.queue.specs.Refusals.{firstRefusal, setUpTable, openTable, submitTable, pieceTable, cancelTable, pendingTable}
 
 -- a refusal number, 0 for none: what was there, or else what comes of the call
 unfoldable pub unlessRefused : {A : Type 0} → (number : ℕ) → A → A → A
@@ -37,6 +42,7 @@ initialRecord setup = record {
   slots = free ∷ free ∷ free ∷ free ∷ free ∷ free ∷ free ∷ free ∷ [];
   read = 0;
   next = 0;
+  staged = noStaged;
 }
 
 -- what a refused set up is made of
@@ -48,7 +54,7 @@ unfoldable pub setUpResult : (ring memory common : ℕ) → ResetRule → Reply
 setUpResult ring memory common reset =
     let setup : Setup = record { ring = ring; memory = memory; common = common; reset = reset } in
     let number : ℕ = firstRefusal (setUpTable setup) in
-    record { answer = answerUnlessRefused number Set; engine = unlessRefused number (initialRecord noSetup) (initialRecord setup) }
+    record { answer = answerUnlessRefused number Done; engine = unlessRefused number (initialRecord noSetup) (initialRecord setup) }
 
 -- ---- open
 
@@ -61,6 +67,7 @@ withClient engine w = record {
   slots = engine .slots;
   read = engine .read;
   next = engine .next;
+  staged = engine .staged;
 }
 
 -- "ids are 0 to 3 in order of opening"
@@ -79,30 +86,105 @@ newBatch engine client size = record { client = client; ticket = engine .next; o
 abbrev pub pendingRaised : List Client → ℕ → List Client
 pendingRaised clients client = set clients client (record { window = getD clients client noClient .window; pending = getD clients client noClient .pending + 1 })
 
--- the record with the batch in the lowest free slot
-unfoldable pub withBatch : Record → Batch → Record
-withBatch engine batch = record {
+-- the record with the batch in the slot `at`. No submission is staged then: a submit with one is refused (13), and the last piece ends it
+unfoldable pub withBatch : Record → (at : ℕ) → Batch → Record
+withBatch engine at batch = record {
   setup = engine .setup;
   clients = pendingRaised (engine .clients) (batch .client);
   opened = engine .opened;
-  slots = set (engine .slots) (lowestFree (engine .slots)) (readyWith batch);
+  slots = set (engine .slots) at (readyWith batch);
   read = engine .read;
   next = ticketAfter (engine .next);
+  staged = noStaged;
 }
 
 -- what submit is refused with, 0 if it is accepted
 abbrev pub submitNumber : Record → (ring : List ℕ) → (client : ℕ) → (batch : List ℕ) → ℕ
 submitNumber engine ring client batch = firstRefusal (submitTable engine (length ring) client (length batch))
 
+-- "It takes the lowest free of eight slots"
+abbrev pub submitted : Record → (client size : ℕ) → Record
+submitted engine client size = withBatch engine (lowestFree (engine .slots)) (newBatch engine client size)
+
 -- the ticket is the one that was next
 unfoldable pub submitResult : Record → (ring : List ℕ) → (client : ℕ) → (batch : List ℕ) → Reply
 submitResult engine ring client batch =
     let number : ℕ = submitNumber engine ring client batch in
-    record { answer = answerUnlessRefused number (Accepted (engine .next)); engine = unlessRefused number engine (withBatch engine (newBatch engine client (length batch))) }
+    record { answer = answerUnlessRefused number (Accepted (engine .next)); engine = unlessRefused number engine (submitted engine client (length batch)) }
 
 -- the ring after it: the batch copied in, other bytes as they were
 unfoldable pub submitRing : Record → (ring : List ℕ) → (client : ℕ) → (batch : List ℕ) → List ℕ
 submitRing engine ring client batch = unlessRefused (submitNumber engine ring client batch) ring (copiedIn ring (writeOffset engine) batch)
+
+-- ---- begin, pieces, cancel (02, 6)
+
+-- the record with another staged submission, or none
+unfoldable pub withStaged : Record → Staged → Record
+withStaged engine staged = record {
+  setup = engine .setup;
+  clients = engine .clients;
+  opened = engine .opened;
+  slots = engine .slots;
+  read = engine .read;
+  next = engine .next;
+  staged = staged;
+}
+
+-- "begin a batch with its total length": it "holds slot and room", the lowest free slot as by submit; no byte has come
+abbrev pub begun : Record → (client total : ℕ) → Staged
+begun engine client total = record { client = client; slot = lowestFree (engine .slots); total = total; received = 0 }
+
+-- Begin answers nothing. `ring`: the length of the ring that is lent; it is not written
+unfoldable pub beginResult : Record → (ring client total : ℕ) → Reply
+beginResult engine ring client total =
+    let number : ℕ = firstRefusal (submitTable engine ring client total) in
+    record { answer = answerUnlessRefused number Done; engine = unlessRefused number engine (withStaged engine (begun engine client total)) }
+
+-- so many of its bytes have come
+abbrev pub withReceived : Staged → (received : ℕ) → Staged
+withReceived g received = record { client = g .client; slot = g .slot; total = g .total; received = received }
+
+-- with a piece of that length more
+abbrev pub more : Staged → (size : ℕ) → Staged
+more g size = withReceived g (g .received + size)
+
+-- what a piece is refused with, 0 if it is accepted
+abbrev pub pieceNumber : Record → (ring : List ℕ) → (client : ℕ) → (piece : List ℕ) → ℕ
+pieceNumber engine ring client piece = firstRefusal (pieceTable engine (length ring) client (length piece))
+
+-- with it the last byte comes
+abbrev pub isLast : Staged → (size : ℕ) → Bool
+isLast g size = eqb (g .received + size) (g .total)
+
+-- "the last piece makes the batch ready, gives it its ticket and raises pending", in the slot that was held
+abbrev pub afterPiece : Record → (size : ℕ) → Record
+afterPiece engine size =
+    cond (isLast (engine .staged) size)
+    (withBatch engine (engine .staged .slot) (newBatch engine (engine .staged .client) (engine .staged .total)))
+    (withStaged engine (more (engine .staged) size))
+
+-- "A piece answers the bytes still to come, the last its ticket."
+abbrev pub pieceAnswer : Record → (size : ℕ) → Answer
+pieceAnswer engine size = cond (isLast (engine .staged) size) (Accepted (engine .next)) (Missing (missingBytes (more (engine .staged) size)))
+
+unfoldable pub pieceResult : Record → (ring : List ℕ) → (client : ℕ) → (piece : List ℕ) → Reply
+pieceResult engine ring client piece =
+    let number : ℕ = pieceNumber engine ring client piece in
+    record { answer = answerUnlessRefused number (pieceAnswer engine (length piece)); engine = unlessRefused number engine (afterPiece engine (length piece)) }
+
+-- it goes on where the last one ended
+abbrev pub pieceOffset : Record → ℕ
+pieceOffset engine = wrapOffset (engine .setup .ring) (writeOffset engine + engine .staged .received)
+
+-- the ring after it: the piece copied in, other bytes as they were
+unfoldable pub pieceRing : Record → (ring : List ℕ) → (client : ℕ) → (piece : List ℕ) → List ℕ
+pieceRing engine ring client piece = unlessRefused (pieceNumber engine ring client piece) ring (copiedIn ring (pieceOffset engine) piece)
+
+-- "it can be cancelled, which frees what it held"; cancel answers nothing
+unfoldable pub cancelResult : Record → (client : ℕ) → Reply
+cancelResult engine client =
+    let number : ℕ = firstRefusal (cancelTable engine client) in
+    record { answer = answerUnlessRefused number Done; engine = unlessRefused number engine (withStaged engine noStaged) }
 
 -- ---- pending
 

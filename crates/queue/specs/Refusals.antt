@@ -1,6 +1,7 @@
--- When a call is refused (01, "Engine, desks, queue", the table and the order below it: "11 first, then 10, then as listed downward").
+-- When a call is refused (01, "Engine, desks, queue", the table and the order below it: "11 first, then 10, then as listed downward"; 02, 6: 13 and 14
+-- stand "after 5").
 use mathlib.Core.List.{List, [], _∷_}
-use mathlib.Core.Bool.{Bool, cond, not}
+use mathlib.Core.Bool.{Bool, cond, not, _||_}
 use Prim.Native.Nat.{ℕ}
 use lib.Dec.{ltb, eqb, leb}
 use Rattle.record.specs.declared.Setup.{Setup}
@@ -8,6 +9,7 @@ use Rattle.record.specs.declared.Window.{Window}
 use Rattle.record.specs.declared.Record.{Record}
 use Rattle.record.specs.Setup.{badRing, badMemory, badLength}
 use Rattle.record.specs.Clients.{isOpen, openWindows, badWindow}
+use Rattle.record.specs.Staged.{isIdle, stagedBy, missingBytes}
 use Rattle.record.specs.Queue.{takenSlots, freeBytes}
 use Rattle.record.specs.Rules.{valid}
 
@@ -36,15 +38,33 @@ openTable engine w =
     ∷ 4 when badWindow (engine .setup) (openWindows engine) w
     ∷ []
 
--- submit; lent: the length of the ring that is lent; size: the batch's length
+-- submit and begin ("Beginning makes the checks of submit"); lent: the length of the ring that is lent; size: the batch's length
 abbrev pub submitTable : Record → (lent client size : ℕ) → List RefusalRow
 submitTable engine lent client size =
     11 when not (valid engine)
     ∷ 10 when not (eqb lent (engine .setup .ring))
     ∷ 5 when not (isOpen engine client)
+    ∷ 13 when not (isIdle (engine .staged))
     ∷ 6 when badLength (engine .setup .ring) size
     ∷ 7 when leb 8 (takenSlots engine)
     ∷ 8 when ltb (freeBytes engine) size
+    ∷ []
+
+-- a piece; size: its length
+abbrev pub pieceTable : Record → (lent client size : ℕ) → List RefusalRow
+pieceTable engine lent client size =
+    11 when not (valid engine)
+    ∷ 10 when not (eqb lent (engine .setup .ring))
+    ∷ 5 when not (isOpen engine client)
+    ∷ 14 when (not (stagedBy (engine .staged) client) || ltb (missingBytes (engine .staged)) size)
+    ∷ []
+
+-- cancel; no ring is lent to it
+abbrev pub cancelTable : Record → (client : ℕ) → List RefusalRow
+cancelTable engine client =
+    11 when not (valid engine)
+    ∷ 5 when not (isOpen engine client)
+    ∷ 14 when not (stagedBy (engine .staged) client)
     ∷ []
 
 -- pending

@@ -5,7 +5,9 @@ pub mod Walk
 pub mod Order
 pub mod Added
 pub mod Line
+pub mod Pieces
 pub mod Opened
 pub mod Rules
+pub mod Unfinished
 pub mod Windows
 pub mod Taken

@@ -1,6 +1,6 @@
 -- What each rule says, as facts.
 use mathlib.Core.Path.{_≡_, refl, ap, _∙_}
-use mathlib.Core.Bool.{true, false, _&&_, _||_, not}
+use mathlib.Core.Bool.{Bool, true, false, _&&_, _||_, not}
 use Prim.Native.Nat.{ℕ, _+_, _-_, _%_, _≤_, _<_}
 use lib.ListN.{length}
 use native.Mathlib.Omega.{arith}
@@ -12,13 +12,14 @@ use Rattle.record.specs.declared.Record.{Record}
 use Rattle.record.specs.Setup.{badRing, badMemory, badLength}
 use Rattle.record.specs.declared.Batch.{Batch}
 use Rattle.record.specs.Slots.{readyBatches, sumOver, totalLength}
-use Rattle.record.specs.Queue.{takenSlots, takenBytes, freeBytes, writeOffset, waiting}
-use Rattle.record.specs.Rules.{ringRule, memoryRule, clientsRule, readRule, numberRules, windowsRule, ticketsRule, endToEndRule, lengthsRule, totalRule, ownersRule, batchRules, pendingRule, valid}
+use Rattle.record.specs.Queue.{readySlots, readyBytes, freeBytes, writeOffset, waiting}
+use Rattle.record.specs.Rules.{ringRule, memoryRule, clientsRule, readRule, numberRules, windowsRule, ticketsRule, endToEndRule, lengthsRule, totalRule, ownersRule, batchRules, pendingRule, stagedRule, valid}
 use Rattle.ring.specs.Segment.{wrapOffset}
 use Rattle.ring.proofs.Wrapped.{wrapped-in}
 use Rattle.record.proofs.Line.{after-last}
 use mathlib.Core.List.{List, [], _∷_, _++_}
 use native.Mathlib.Nat.{add-zero}
+use Rattle.record.proofs.Slots.{ready-most}
 use Rattle.record.proofs.Order.{sum-order, length-order}
 
 pub record RingGood (ring : ℕ) : Type 0 where
@@ -82,9 +83,25 @@ module _ (engine : Record) where
   unfolding valid
   valid-not e = rw e
 
-  pub valid-rest : numberRules engine ≡ true → (windowsRule engine && batchRules engine && pendingRule engine) ≡ valid engine
+  abbrev pub settled : Bool
+  settled = windowsRule engine && batchRules engine && pendingRule engine
+
+  pub valid-not-settled : numberRules engine ≡ true → settled ≡ false → false ≡ valid engine
   unfolding valid
-  valid-rest e = rw e
+  valid-not-settled e h = rw (e, h)
+
+  pub valid-rest : numberRules engine ≡ true → settled ≡ true → stagedRule engine ≡ valid engine
+  unfolding valid
+  valid-rest e h = rw (e, h)
+
+-- the ready batches of a record whose numbers and batches are right lie in the ring's room
+pub settled-bytes : (engine : Record) → batchRules engine ≡ true → length (engine .slots) ≡ 8 → readyBytes engine ≤ engine .setup .ring
+settled-bytes engine e eight =
+    let a = and-true (ticketsRule engine && endToEndRule engine && lengthsRule engine && totalRule engine) (ownersRule engine) e in
+    let b = and-true (ticketsRule engine && endToEndRule engine && lengthsRule engine) (totalRule engine) (a .0) in
+    let c = and-true (ticketsRule engine && endToEndRule engine) (lengthsRule engine) (b .0) in
+    let d = and-true (ticketsRule engine) (endToEndRule engine) (c .0) in
+    rw (sum-order (λ x. x .length) (readySlots engine) (engine .next) (engine .slots) refl (omega (arith, ready-most (engine .slots))) (d .0)) (leb-true (totalLength (waiting engine)) (engine .setup .ring) (b .1))
 
 -- ---- every rule of a valid record
 
@@ -97,11 +114,13 @@ pub record Valid (engine : Record) : Type 0 where
   pub within : totalLength (waiting engine) ≤ engine .setup .ring
   pub owners : ownersRule engine ≡ true
   pub counts : pendingRule engine ≡ true
+  pub staged : stagedRule engine ≡ true
 
 pub valid-facts : (engine : Record) → valid engine ≡ true → Valid engine
 unfolding valid
 valid-facts engine e =
-    let x = and-true (numberRules engine && windowsRule engine && batchRules engine) (pendingRule engine) e in
+    let u = and-true (numberRules engine && windowsRule engine && batchRules engine && pendingRule engine) (stagedRule engine) e in
+    let x = and-true (numberRules engine && windowsRule engine && batchRules engine) (pendingRule engine) (u .0) in
     let y = and-true (numberRules engine && windowsRule engine) (batchRules engine) (x .0) in
     let z = and-true (numberRules engine) (windowsRule engine) (y .0) in
     let a = and-true (ticketsRule engine && endToEndRule engine && lengthsRule engine && totalRule engine) (ownersRule engine) (y .1) in
@@ -117,35 +136,38 @@ valid-facts engine e =
       within = leb-true _ _ (b .1);
       owners = a .1;
       counts = x .1;
+      staged = u .1;
     }
 
 -- the number rules are kept, and every other one: the record is valid
 pub valid-made : (engine : Record) → numberRules engine ≡ true → windowsRule engine ≡ true → ticketsRule engine ≡ true → endToEndRule engine ≡ true →
-    lengthsRule engine ≡ true → totalLength (waiting engine) ≤ engine .setup .ring → ownersRule engine ≡ true → pendingRule engine ≡ true → valid engine ≡ true
+    lengthsRule engine ≡ true → totalLength (waiting engine) ≤ engine .setup .ring → ownersRule engine ≡ true → pendingRule engine ≡ true →
+    stagedRule engine ≡ true → valid engine ≡ true
 unfolding valid
-valid-made engine n w g e l t o c = rw (n, w, g, e, l, le-leb (totalLength (waiting engine)) (engine .setup .ring) t, o, c)
+valid-made engine n w g e l t o c u = rw (n, w, g, e, l, le-leb (totalLength (waiting engine)) (engine .setup .ring) t, o, c, u)
 
 pub numbers-kept : (engine : Record) → valid engine ≡ true → numberRules engine ≡ true
 unfolding valid
 numbers-kept engine e =
-    let x = and-true (numberRules engine && windowsRule engine && batchRules engine) (pendingRule engine) e in
+    let u = and-true (numberRules engine && windowsRule engine && batchRules engine && pendingRule engine) (stagedRule engine) e in
+    let x = and-true (numberRules engine && windowsRule engine && batchRules engine) (pendingRule engine) (u .0) in
     let y = and-true (numberRules engine && windowsRule engine) (batchRules engine) (x .0) in
     and-true (numberRules engine) (windowsRule engine) (y .0) .0
 
 -- the batches in order are all that are ready, so sums over the slots are sums over them
-module _ (engine : Record) (v : Valid engine) (few : takenSlots engine ≤ 8) where
+module _ (engine : Record) (v : Valid engine) (few : readySlots engine ≤ 8) where
   pub sum-waiting : (f : Batch → ℕ) → sumOver f (readyBatches (engine .slots)) ≡ sumOver f (waiting engine)
-  sum-waiting f = sum-order f (takenSlots engine) (engine .next) (engine .slots) refl (omega arith) (v .given)
+  sum-waiting f = sum-order f (readySlots engine) (engine .next) (engine .slots) refl (omega arith) (v .given)
 
-  -- free room is the ring less the waiting lengths
-  pub free-room : freeBytes engine ≡ engine .setup .ring - totalLength (waiting engine)
+  -- free room is the ring less the waiting lengths, the staged one among them
+  pub free-room : freeBytes engine ≡ engine .setup .ring - (totalLength (waiting engine) + engine .staged .total)
   free-room = rw (sum-waiting (λ b. b .length))
 
-  pub taken-within : takenBytes engine ≤ engine .setup .ring
-  taken-within = rw (sum-waiting (λ b. b .length)) (v .within)
+  pub ready-within : readyBytes engine ≤ engine .setup .ring
+  ready-within = rw (sum-waiting (λ b. b .length)) (v .within)
 
-  pub length-waiting : length (waiting engine) ≡ takenSlots engine
-  length-waiting = length-order (takenSlots engine) (engine .next) (engine .slots)
+  pub length-waiting : length (waiting engine) ≡ readySlots engine
+  length-waiting = length-order (readySlots engine) (engine .next) (engine .slots)
 
   -- the next batch goes after the newest one, and to the read offset if none is ready
   pub write-newest : (bs : List Batch) (b : Batch) → waiting engine ≡ bs ++ (b ∷ []) → writeOffset engine ≡ wrapOffset (engine .setup .ring) (b .offset + b .length)

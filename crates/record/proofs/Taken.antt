@@ -1,5 +1,5 @@
 -- Laws of the oldest batch when it is taken: it is the first in ticket order, the others stay, and the record stays valid.
-use mathlib.Core.Path.{_≡_, ap, _∙_}
+use mathlib.Core.Path.{_≡_, refl, ap, _∙_}
 use mathlib.Core.List.{List, [], _∷_}
 use mathlib.Core.Bool.{true, cond, _&&_, not}
 use mathlib.Core.Logic.{⊎-elim}
@@ -22,11 +22,12 @@ use Rattle.record.specs.Setup.{badLength}
 use Rattle.record.specs.Slots.{free, readyBatches, sumOver, totalLength, countOf}
 use Rattle.record.specs.Tickets.{ticketBefore, slotOfTicket, batchOfTicket, inTicketOrder}
 use Rattle.record.specs.Clients.{isOpen, noClient, openClients, pendingCountsMatch}
-use Rattle.record.specs.Queue.{takenSlots, waiting}
-use Rattle.record.specs.Rules.{ringRule, memoryRule, clientsRule, readRule, numberRules, windowsRule, ticketsRule, endToEndRule, lengthsAllowed, lengthsRule, clientsOpen, ownersRule, pendingRule, valid}
+use Rattle.record.specs.Queue.{readySlots, waiting}
+use Rattle.record.specs.Rules.{ringRule, memoryRule, clientsRule, readRule, numberRules, windowsRule, ticketsRule, endToEndRule, lengthsAllowed, lengthsRule, clientsOpen, ownersRule, pendingRule, stagedRule, valid}
 use Rattle.record.proofs.Order.{Oldest, oldest, order-freed, sum-split, sum-has}
 use Rattle.record.proofs.Line.{Headed, headed}
 use Rattle.record.proofs.Opened.{windows-set, open-more, counts-same}
+use Rattle.record.proofs.Unfinished.{staged-stays, freed-free}
 use Rattle.record.proofs.Rules.{LengthGood, length-good, Valid, valid-facts, valid-made, numbers-kept}
 
 -- one batch fewer of one client
@@ -49,7 +50,7 @@ counts-lowered id (suc k) (c ∷ cs) bs after w l h e =
     rw (like, both .0) (counts-lowered (suc id) k cs bs after w (omega arith) (rw z h) (both .1))
 
 -- k batches are ready beside the oldest one
-module _ (engine : Record) (ok : valid engine ≡ true) (k : ℕ) (some : takenSlots engine ≡ suc k) (few : k < 8) (four : length (engine .clients) ≡ 4) where
+module _ (engine : Record) (ok : valid engine ≡ true) (k : ℕ) (some : readySlots engine ≡ suc k) (few : k < 8) (four : length (engine .clients) ≡ 4) where
   v : Valid engine
   v = valid-facts engine ok
 
@@ -129,6 +130,7 @@ module _ (engine : Record) (ok : valid engine ≡ true) (k : ℕ) (some : takenS
     slots = left;
     read = wrapOffset (engine .setup .ring) (engine .read + first .length);
     next = engine .next;
+    staged = engine .staged;
   }
 
   taken-clients : openClients taken ≡ set (openClients engine) (first .client) lowered
@@ -181,9 +183,14 @@ module _ (engine : Record) (ok : valid engine ≡ true) (k : ℕ) (some : takenS
       rw (taken-clients, ← getD-take (engine .opened) (engine .clients) (first .client) noClient first-owner)
       (counts-lowered 0 (first .client) (openClients engine) (readyBatches (engine .slots)) (readyBatches left) _ (omega (arith, first-owner)) fewer (v .counts))
 
+  staged-taken : stagedRule taken ≡ true
+  staged-taken =
+      staged-stays engine taken refl refl (omega arith) (omega (arith, left-sum (λ b. b .length)))
+      (λ i. freed-free (engine .slots) (slotOfTicket ticket (engine .slots)) i) (v .staged)
+
   -- it stays valid, and the others wait in their order
   pub taken-valid : valid taken ≡ true
-  taken-valid = valid-made taken numbers-taken windows-taken tickets-taken ends-taken lengths-taken total-taken owners-taken counts-taken
+  taken-valid = valid-made taken numbers-taken windows-taken tickets-taken ends-taken lengths-taken total-taken owners-taken counts-taken staged-taken
 
   pub taken-waiting : waiting taken ≡ rest
   taken-waiting = left-order

@@ -1,6 +1,7 @@
 -- The engine record and its rules.
 pub mod Setup
 pub mod Slots
+pub mod Staged
 pub mod Tickets
 pub mod Clients
 pub mod Queue

@@ -1,6 +1,6 @@
--- The record rules, one by one (01, "Engine, desks, queue", below the table). A call on a record that breaks one is refused with 11.
+-- The record rules, one by one (01, "Engine, desks, queue", below the table; 02, 6). A call on a record that breaks one is refused with 11.
 use mathlib.Core.List.{List, [], _∷_}
-use mathlib.Core.Bool.{Bool, true, _&&_, not}
+use mathlib.Core.Bool.{Bool, true, _&&_, cond, not}
 use Prim.Native.Nat.{ℕ, _+_, _%_}
 use lib.Dec.{leb, ltb, eqb}
 use Rattle.ring.specs.Segment.{wrapOffset}
@@ -10,7 +10,8 @@ use Rattle.record.specs.Setup.{badRing, badMemory, badLength}
 use Rattle.record.specs.Slots.{readyBatches, totalLength}
 use Rattle.record.specs.Tickets.{ticketsConsecutive}
 use Rattle.record.specs.Clients.{isOpen, openClients, openWindows, windowsValid, pendingCountsMatch}
-use Rattle.record.specs.Queue.{takenSlots, waiting}
+use Rattle.record.specs.Staged.{isIdle, slotHeld}
+use Rattle.record.specs.Queue.{readySlots, takenBytes, waiting}
 
 -- "the conditions of 1, 2 and 4 don't occur": of 1
 abbrev pub ringRule : Record → Bool
@@ -35,7 +36,7 @@ readRule engine = eqb (engine .read % 4) 0 && ltb (engine .read) (engine .setup 
 -- "tickets are consecutive and the newest is the one before the next to be given": with n ready batches, each of the n tickets before the
 -- next one is that of some ready batch, so that each batch has one of them and no two have the same
 abbrev pub ticketsRule : Record → Bool
-ticketsRule engine = ticketsConsecutive (takenSlots engine) (engine .next) (engine .slots)
+ticketsRule engine = ticketsConsecutive (readySlots engine) (engine .next) (engine .slots)
 
 -- "ready batches, in ticket order, lie end to end from it"
 unfoldable pub endToEnd : (ring offset : ℕ) → List Batch → Bool
@@ -72,6 +73,21 @@ ownersRule engine = clientsOpen engine (waiting engine)
 abbrev pub pendingRule : Record → Bool
 pendingRule engine = pendingCountsMatch 0 (openClients engine) (readyBatches (engine .slots))
 
+-- while nothing is staged, no number of a staged submission is there
+abbrev pub idleRule : Record → Bool
+idleRule engine = eqb (engine .staged .client) 0 && eqb (engine .staged .slot) 0 && eqb (engine .staged .received) 0
+
+-- 02, 6, the unfinished batch: "of an open desk", "its length allowed by 6 and counted in the total, its bytes so far fewer than that length, one slot
+-- held". "Right after the newest ready one" it lies by `writeOffset`, which no number of the record says.
+abbrev pub unfinishedRule : Record → Bool
+unfinishedRule engine =
+    isOpen engine (engine .staged .client) && not (badLength (engine .setup .ring) (engine .staged .total)) && leb (takenBytes engine) (engine .setup .ring)
+    && ltb (engine .staged .received) (engine .staged .total) && slotHeld (engine .slots) (engine .staged .slot)
+
+-- "The record rules gain the unfinished batch"
+abbrev pub stagedRule : Record → Bool
+stagedRule engine = cond (isIdle (engine .staged)) (idleRule engine) (unfinishedRule engine)
+
 -- the rules of the numbers
 abbrev pub numberRules : Record → Bool
 numberRules engine = ringRule engine && memoryRule engine && clientsRule engine && readRule engine
@@ -82,4 +98,4 @@ batchRules engine = ticketsRule engine && endToEndRule engine && lengthsRule eng
 
 -- every rule is kept
 unfoldable pub valid : Record → Bool
-valid engine = numberRules engine && windowsRule engine && batchRules engine && pendingRule engine
+valid engine = numberRules engine && windowsRule engine && batchRules engine && pendingRule engine && stagedRule engine

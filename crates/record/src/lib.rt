@@ -1,6 +1,6 @@
 // The engine record: set-up numbers, clients, slots, read offset and next ticket, and the check of its rules.
 ghost use mathlib.Core.Path.{_≡_};
-ghost use mathlib.Core.Bool.{not, _&&_};
+ghost use mathlib.Core.Bool.{true, not, _&&_};
 ghost use mathlib.Core.List.{[]};
 ghost use Prim.Native.Nat.{_+_, _%_, _≤_, _<_};
 ghost use lib.ListN.{length, take, drop};
@@ -8,9 +8,10 @@ ghost use lib.Dec.{leb, eqb};
 ghost use Rattle.ring.specs.Segment.{wrapOffset};
 ghost use Rattle.record.specs.Setup.{badRing, badMemory, badLength};
 ghost use Rattle.record.specs.Slots.{consIfReady, readyBatches, totalLength, countOf, isFreeState, lowestFree};
+ghost use Rattle.record.specs.Staged.{noStaged, slotHeld};
 ghost use Rattle.record.specs.Tickets.{ticketBefore, hasTicket, slotOfTicket, batchInState};
 ghost use Rattle.record.specs.Clients.{isOpen, windowsOf, overlapsAny, badWindow, windowsValid, pendingCountsMatch};
-ghost use Rattle.record.specs.Rules.{numberRules, batchRules, valid};
+ghost use Rattle.record.specs.Rules.{numberRules, batchRules, stagedRule, valid};
 use range::Range;
 use reset::ResetRule;
 
@@ -51,6 +52,15 @@ pub struct Slot {
     pub state: SlotState,
 }
 
+// The staged submission (02, 6: hand-over): whose it is, the slot that it holds, its total length, and how many of its bytes have come. With none
+// all four are 0.
+pub struct Staged {
+    pub client: u32,
+    pub slot: usize,
+    pub total: usize,
+    pub received: usize,
+}
+
 // The engine record (01: record), handed in and out by value. `opened` clients are open, those at the first places.
 pub struct Record {
     pub setup: Setup,
@@ -59,6 +69,7 @@ pub struct Record {
     pub slots: [Slot; 8],
     pub read: usize,
     pub next: u32,
+    pub staged: Staged,
 }
 
 pub fn bad_ring(setup: Setup) -> bool
@@ -155,7 +166,7 @@ fn has_age(slot: Slot, next: u32, k: usize) -> bool
 }
 
 // How many slots are ready.
-pub fn taken_slots(slots: [Slot; 8]) -> usize
+pub fn ready_slots(slots: [Slot; 8]) -> usize
     ensures { λ r. ⌜ (r ≡ length (readyBatches slots)) × (r ≤ 8) × (length slots ≡ 8) ⌝ }
 {
     let mut n: usize = 0;
@@ -168,7 +179,7 @@ pub fn taken_slots(slots: [Slot; 8]) -> usize
 }
 
 // How many ring bytes the ready batches have.
-pub fn taken_bytes(slots: [Slot; 8]) -> usize
+pub fn ready_bytes(slots: [Slot; 8]) -> usize
     requires { ⌜ totalLength (readyBatches slots) ≤ 32768 ⌝ }
     ensures { λ r. ⌜ r ≡ totalLength (readyBatches slots) ⌝ }
 {
@@ -322,7 +333,7 @@ fn batches_valid(engine: Record) -> bool
     let next = engine.next;
     let setup = engine.setup;
     let ring = setup.ring;
-    let mut k = taken_slots(slots);
+    let mut k = ready_slots(slots);
     let mut offset = engine.read;
     let mut room = ring;
     while 0 < k {
@@ -352,6 +363,47 @@ fn numbers_valid(engine: Record) -> bool
     !bad_ring(setup) & !bad_memory(setup) & (engine.opened <= 4) & ((read % 4 == 0) & (read < ring))
 }
 
+// No staged submission.
+pub fn no_staged() -> Staged
+    ensures { λ r. ⌜ r ≡ noStaged ⌝ }
+{
+    Staged {
+        client: 0,
+        slot: 0,
+        total: 0,
+        received: 0,
+    }
+}
+
+// Whether there is such a slot, with no ready batch in it.
+fn slot_held(slots: [Slot; 8], at: usize) -> bool
+    ensures { λ r. ⌜ (r ≡ slotHeld slots at) × (length slots ≡ 8) ⌝ }
+{
+    if 8 <= at {
+        return false;
+    }
+    is_free(slots[at])
+}
+
+// Whether the unfinished batch keeps its rules, or there is none.
+fn staged_valid(engine: Record) -> bool
+    requires { ⌜ (numberRules engine ≡ true) × (batchRules engine ≡ true) ⌝ }
+    ensures { λ r. ⌜ r ≡ stagedRule engine ⌝ }
+{
+    let staged = engine.staged;
+    let total = staged.total;
+    if total == 0 {
+        return (staged.client == 0) & (staged.slot == 0) & (staged.received == 0);
+    }
+    let setup = engine.setup;
+    let slots = engine.slots;
+    let ring = setup.ring;
+    let held = slot_held(slots, staged.slot);
+    let owned = is_open(engine, staged.client);
+    let room = ring - ready_bytes(slots);
+    owned & !bad_length(ring, total) & (total <= room) & (staged.received < total) & held
+}
+
 // Whether the record keeps every rule.
 pub fn is_valid(engine: Record) -> bool
     ensures { λ r. ⌜ r ≡ valid engine ⌝ }
@@ -366,5 +418,8 @@ pub fn is_valid(engine: Record) -> bool
     let windows = windows_valid(setup, clients, opened);
     let batches = batches_valid(engine);
     let counts = pending_counts_match(clients, opened, slots);
-    windows & batches & counts
+    if !(windows & batches & counts) {
+        return false;
+    }
+    staged_valid(engine)
 }

@@ -90,18 +90,14 @@ zeros ws k h =
     (eqb-true (wordAt ws k) 0 (a1 .0), eqb-true (wordAt ws (k + 1)) 0 (a1 .1), eqb-true (wordAt ws (k + 2)) 0 (a2 .1), eqb-true (wordAt ws (k + 3)) 0 (a3 .1), eqb-true (wordAt ws (k + 4)) 0 (a4 .1))
 
 spares : (ws : List ℕ) → spareRight ws ≡ true →
-    (wordAt ws 7 ≡ 0) × (wordAt ws 11 ≡ 0) × (wordAt ws 15 ≡ 0) × (wordAt ws 19 ≡ 0) × (wordAt ws 23 ≡ 0) × (wordAt ws 64 ≡ 0) × (wordAt ws 65 ≡ 0) × (wordAt ws 66 ≡ 0) × (wordAt ws 67 ≡ 0)
+    (wordAt ws 7 ≡ 0) × (wordAt ws 11 ≡ 0) × (wordAt ws 15 ≡ 0) × (wordAt ws 19 ≡ 0) × (wordAt ws 23 ≡ 0)
 unfolding spareRight
 spares ws h =
-    let a9 = and-true (eqb (wordAt ws 7) 0 && eqb (wordAt ws 11) 0 && eqb (wordAt ws 15) 0 && eqb (wordAt ws 19) 0 && eqb (wordAt ws 23) 0 && eqb (wordAt ws 64) 0 && eqb (wordAt ws 65) 0 && eqb (wordAt ws 66) 0) (eqb (wordAt ws 67) 0) h in
-    let a8 = and-true (eqb (wordAt ws 7) 0 && eqb (wordAt ws 11) 0 && eqb (wordAt ws 15) 0 && eqb (wordAt ws 19) 0 && eqb (wordAt ws 23) 0 && eqb (wordAt ws 64) 0 && eqb (wordAt ws 65) 0) (eqb (wordAt ws 66) 0) (a9 .0) in
-    let a7 = and-true (eqb (wordAt ws 7) 0 && eqb (wordAt ws 11) 0 && eqb (wordAt ws 15) 0 && eqb (wordAt ws 19) 0 && eqb (wordAt ws 23) 0 && eqb (wordAt ws 64) 0) (eqb (wordAt ws 65) 0) (a8 .0) in
-    let a6 = and-true (eqb (wordAt ws 7) 0 && eqb (wordAt ws 11) 0 && eqb (wordAt ws 15) 0 && eqb (wordAt ws 19) 0 && eqb (wordAt ws 23) 0) (eqb (wordAt ws 64) 0) (a7 .0) in
-    let a5 = and-true (eqb (wordAt ws 7) 0 && eqb (wordAt ws 11) 0 && eqb (wordAt ws 15) 0 && eqb (wordAt ws 19) 0) (eqb (wordAt ws 23) 0) (a6 .0) in
+    let a5 = and-true (eqb (wordAt ws 7) 0 && eqb (wordAt ws 11) 0 && eqb (wordAt ws 15) 0 && eqb (wordAt ws 19) 0) (eqb (wordAt ws 23) 0) h in
     let a4 = and-true (eqb (wordAt ws 7) 0 && eqb (wordAt ws 11) 0 && eqb (wordAt ws 15) 0) (eqb (wordAt ws 19) 0) (a5 .0) in
     let a3 = and-true (eqb (wordAt ws 7) 0 && eqb (wordAt ws 11) 0) (eqb (wordAt ws 15) 0) (a4 .0) in
     let a2 = and-true (eqb (wordAt ws 7) 0) (eqb (wordAt ws 11) 0) (a3 .0) in
-    (eqb-true (wordAt ws 7) 0 (a2 .0), eqb-true (wordAt ws 11) 0 (a2 .1), eqb-true (wordAt ws 15) 0 (a3 .1), eqb-true (wordAt ws 19) 0 (a4 .1), eqb-true (wordAt ws 23) 0 (a5 .1), eqb-true (wordAt ws 64) 0 (a6 .1), eqb-true (wordAt ws 65) 0 (a7 .1), eqb-true (wordAt ws 66) 0 (a8 .1), eqb-true (wordAt ws 67) 0 (a9 .1))
+    (eqb-true (wordAt ws 7) 0 (a2 .0), eqb-true (wordAt ws 11) 0 (a2 .1), eqb-true (wordAt ws 15) 0 (a3 .1), eqb-true (wordAt ws 19) 0 (a4 .1), eqb-true (wordAt ws 23) 0 (a5 .1))
 
 slots : (ws : List ℕ) → slotsRight ws ≡ true →
     (slotRight ws 24 ≡ true) × (slotRight ws 29 ≡ true) × (slotRight ws 34 ≡ true) × (slotRight ws 39 ≡ true) × (slotRight ws 44 ≡ true) × (slotRight ws 49 ≡ true) × (slotRight ws 54 ≡ true) × (slotRight ws 59 ≡ true)
@@ -130,7 +126,7 @@ module _ (ws : List ℕ) (small : (i : ℕ) → getD ws i 0 < 2 ^ 32) where
           let z = zeros ws k (rw e at h) in
           rw (z .0, z .1, z .2, z .3, z .4)
 
-  plain : isRuleNumber (wordAt ws 3) ≡ true → (wordAt ws 7 ≡ 0) × (wordAt ws 11 ≡ 0) × (wordAt ws 15 ≡ 0) × (wordAt ws 19 ≡ 0) × (wordAt ws 23 ≡ 0) × (wordAt ws 64 ≡ 0) × (wordAt ws 65 ≡ 0) × (wordAt ws 66 ≡ 0) × (wordAt ws 67 ≡ 0) →
+  plain : isRuleNumber (wordAt ws 3) ≡ true → (wordAt ws 7 ≡ 0) × (wordAt ws 11 ≡ 0) × (wordAt ws 15 ≡ 0) × (wordAt ws 19 ≡ 0) × (wordAt ws 23 ≡ 0) →
       wordsWith (recordIn ws) (rowIn ws 24) (rowIn ws 29) (rowIn ws 34) (rowIn ws 39) (rowIn ws 44) (rowIn ws 49) (rowIn ws 54) (rowIn ws 59) ≡ table 68 (λ i. getD ws i 0)
   unfolding wordsWith recordIn clientsIn table
   plain rule z =
@@ -145,10 +141,9 @@ module _ (ws : List ℕ) (small : (i : ℕ) → getD ws i 0 < 2 ^ 32) where
         z .2,
         z .3,
         z .4,
-        z .5,
-        z .6,
-        z .7,
-        z .8,
+        low-is (wordAt ws 65) (small 65),
+        low-is (wordAt ws 66) (small 66),
+        low-is (wordAt ws 67) (small 67),
         number-back (wordAt ws 3) rule,
       )
 

@@ -17,9 +17,12 @@ use Rattle.record.specs.declared.SlotState.the-variants.{Free, Ready}
 use Rattle.record.specs.declared.Record.{Record}
 use Rattle.record.specs.Setup.{badLength}
 use Rattle.record.specs.Slots.{consIfReady, readyBatches, sumOver}
-use Rattle.record.specs.Queue.{takenSlots, waiting}
-use Rattle.record.specs.Rules.{endToEnd, lengthsAllowed, valid}
+use Rattle.record.specs.Queue.{readySlots, waiting}
+use Rattle.record.specs.Staged.{noStaged, isIdle}
+use Rattle.record.specs.Rules.{endToEnd, lengthsAllowed, stagedRule, valid}
 use Rattle.record.proofs.Slots.{ready-most}
+use Rattle.record.proofs.Unfinished.{Unfinished, staged-cases}
+use mathlib.Core.Logic.{⊎-elim}
 use Rattle.record.proofs.Rules.{length-good, valid-facts, sum-waiting}
 use Rattle.record_bytes.specs.RoundTrip.{AllSlots, StateSmall, Typed, Small, RoundTrip}
 use Rattle.record_bytes.proofs.RoundTrip.{back}
@@ -60,13 +63,20 @@ all-small (s ∷ ss) e = go (s .state) refl (all-small ss) e
     go Free p others q = (rw p tt, others q)
     go (Ready b) p others q = (rw p (not-big b (sumOver big (readyBatches ss)) q), others (omega arith))
 
+staged-fits : (r : Record) → stagedRule r ≡ true → r .setup .ring ≤ 32768 → (r .staged .slot < 2 ^ 32) × (r .staged .total < 2 ^ 32) × (r .staged .received < 2 ^ 32)
+staged-fits r e small =
+    ⊎-elim
+    (λ (n : r .staged ≡ noStaged). rw n (omega arith, omega arith, omega arith))
+    (λ (u : (isIdle (r .staged) ≡ false) × Unfinished r). (omega (arith, u .1 .slot), omega (arith, u .1 .room), omega (arith, u .1 .room, u .1 .short)))
+    (staged-cases r e)
+
 pub fits : (r : Record) → Typed r → valid r ≡ true → Small r
 fits r t ok =
     let v = valid-facts r ok in
     let ring = v .numbers .ring .small in
     let memory = v .numbers .memory .small in
     let shared = v .numbers .memory .shared in
-    let few : takenSlots r ≤ 8 = omega (arith, ready-most (r .slots), t .eight) in
+    let few : readySlots r ≤ 8 = omega (arith, ready-most (r .slots), t .eight) in
     let none : sumOver big (readyBatches (r .slots)) ≡ 0 =
     sum-waiting r v few big ∙ none-big (r .setup .ring) (r .read) (waiting r) ring (v .numbers .below) (v .ends) (v .lengths)
     in
@@ -77,6 +87,7 @@ fits r t ok =
       opened = omega (arith, v .numbers .clients);
       read = omega (arith, v .numbers .below);
       slots = all-small (r .slots) none;
+      staged = staged-fits r (v .staged) ring;
     }
 
 pub round-trip : (r : Record) → RoundTrip r

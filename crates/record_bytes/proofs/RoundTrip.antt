@@ -20,7 +20,7 @@ use Rattle.record.specs.Clients.{noClient}
 use Rattle.record_bytes.specs.declared.write.Row.{Row}
 use Rattle.record_bytes.specs.Layout.{wordAt, low}
 use Rattle.record_bytes.specs.Written.{tagOf, rowOf, rowAt, wordsWith, wordsOf, bytesOf}
-use Rattle.record_bytes.specs.Read.{slotRight, slotsRight, spareRight, isRecord, setupIn, clientIn, slotIn, clientsIn, slotsIn, recordIn, noRecord, recordOf}
+use Rattle.record_bytes.specs.Read.{slotRight, slotsRight, spareRight, isRecord, setupIn, clientIn, slotIn, clientsIn, slotsIn, stagedIn, recordIn, noRecord, recordOf}
 use Rattle.record_bytes.specs.RoundTrip.{AllSlots, StateSmall, Typed, Small}
 use Rattle.record_bytes.proofs.Cases.{length-record}
 use Rattle.record_bytes.proofs.Words.{low-is, slot-at, record-words}
@@ -151,7 +151,7 @@ module _ (r : Record) where
   clients-back n = four-are (r .clients) n
 
   numbers-back : Small r →
-      record { setup = setupIn (wordsOf r); clients = r .clients; opened = wordAt (wordsOf r) 4; slots = r .slots; read = wordAt (wordsOf r) 5; next = wordAt (wordsOf r) 6 } ≡ r
+      record { setup = setupIn (wordsOf r); clients = r .clients; opened = wordAt (wordsOf r) 4; slots = r .slots; read = wordAt (wordsOf r) 5; next = wordAt (wordsOf r) 6; staged = stagedIn (wordsOf r) } ≡ r
   unfolding wordsOf wordsWith
   numbers-back s =
       rw (
@@ -161,6 +161,9 @@ module _ (r : Record) where
         low-is (r .opened) (s .opened),
         low-is (r .read) (s .read),
         rule-back (r .setup .reset),
+        low-is (r .staged .slot) (s .staged .0),
+        low-is (r .staged .total) (s .staged .1),
+        low-is (r .staged .received) (s .staged .2),
       )
 
   words-stand : Typed r → Small r → recordIn (wordsOf r) ≡ r

@@ -90,7 +90,7 @@ module _ (r : Record) (t : Typed r) where
   all-below =
       head-below r (t .next) then (client 0 then client 1 then client 2 then client 3)
       then row 0 then row 1 then row 2 then row 3 then row 4 then row 5 then row 6 then row 7
-      then (zero-below also zero-below also zero-below also zero-below also none)
+      then (t .staged also low-below (r .staged .slot) also low-below (r .staged .total) also low-below (r .staged .received) also none)
 
   pub record-words : words (bytesOf r) ≡ wordsOf r
   unfolding bytesOf

@@ -2,7 +2,7 @@
 --    0 ring, 1 memory, 2 common, 3 the reset rule's number, 4 opened, 5 read, 6 next, 7 zero
 --    8, 12, 16, 20 a client: start, length, pending, zero
 --    24, 29, 34, 39, 44, 49, 54, 59 a slot: 0 if it is free and 1 if it is ready, client, ticket, offset, length; of a free one all five are zero
---    64 to 67 zero
+--    64 the staged submission: client, slot, total length, bytes so far; with none all four are zero
 use Prim.Native.Nat.{ℕ, _%_}
 use mathlib.Core.List.{List}
 use lib.ListN.{getD}

@@ -12,6 +12,8 @@ use Rattle.record.specs.declared.Client.{Client}
 use Rattle.record.specs.declared.Batch.{Batch}
 use Rattle.record.specs.declared.Slot.{Slot}
 use Rattle.record.specs.declared.Record.{Record}
+use Rattle.record.specs.declared.Staged.{Staged}
+use Rattle.record.specs.Staged.{noStaged}
 use Rattle.record.specs.Slots.{free, readyWith}
 use Rattle.record.specs.Clients.{noClient}
 use Rattle.record_bytes.specs.Layout.{wordAt}
@@ -34,7 +36,6 @@ unfoldable pub spareRight : List ℕ → Bool
 spareRight ws =
     eqb (wordAt ws 7) 0
     && eqb (wordAt ws 11) 0 && eqb (wordAt ws 15) 0 && eqb (wordAt ws 19) 0 && eqb (wordAt ws 23) 0
-    && eqb (wordAt ws 64) 0 && eqb (wordAt ws 65) 0 && eqb (wordAt ws 66) 0 && eqb (wordAt ws 67) 0
 
 -- a third reset rule is none
 unfoldable pub isRecord : (bytes : List ℕ) → Bool
@@ -62,6 +63,10 @@ slotsIn ws =
     slotIn ws 24 ∷ slotIn ws 29 ∷ slotIn ws 34 ∷ slotIn ws 39
     ∷ slotIn ws 44 ∷ slotIn ws 49 ∷ slotIn ws 54 ∷ slotIn ws 59 ∷ []
 
+-- what breaks a rule of its own is refused with 11 by the record rules
+abbrev pub stagedIn : List ℕ → Staged
+stagedIn ws = record { client = wordAt ws 64; slot = wordAt ws 65; total = wordAt ws 66; received = wordAt ws 67 }
+
 unfoldable pub recordIn : List ℕ → Record
 recordIn ws = record {
   setup = setupIn ws;
@@ -70,6 +75,7 @@ recordIn ws = record {
   slots = slotsIn ws;
   read = wordAt ws 5;
   next = wordAt ws 6;
+  staged = stagedIn ws;
 }
 
 -- a record of no engine
@@ -81,6 +87,7 @@ noRecord = record {
   slots = free ∷ free ∷ free ∷ free ∷ free ∷ free ∷ free ∷ free ∷ [];
   read = 0;
   next = 0;
+  staged = noStaged;
 }
 
 unfoldable pub recordOf : (bytes : List ℕ) → Record

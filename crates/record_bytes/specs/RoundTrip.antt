@@ -37,6 +37,7 @@ pub record Typed (r : Record) : Type 0 where
   pub clients : AllClients ClientTyped (r .clients)
   pub slots : AllSlots StateTyped (r .slots)
   pub next : r .next < 2 ^ 32
+  pub staged : r .staged .client < 2 ^ 32
 
 -- ---- the other numbers fit in words too
 
@@ -51,6 +52,7 @@ pub record Small (r : Record) : Type 0 where
   pub opened : r .opened < 2 ^ 32
   pub read : r .read < 2 ^ 32
   pub slots : AllSlots StateSmall (r .slots)
+  pub staged : (r .staged .slot < 2 ^ 32) × (r .staged .total < 2 ^ 32) × (r .staged .received < 2 ^ 32)
 
 -- ---- the promises
 

@@ -12,6 +12,7 @@ use Rattle.record.specs.declared.Slot.{Slot}
 use Rattle.record.specs.declared.SlotState.{SlotState}
 use Rattle.record.specs.declared.SlotState.the-variants.{Free, Ready}
 use Rattle.record.specs.declared.Record.{Record}
+use Rattle.record.specs.declared.Staged.{Staged}
 use Rattle.record.specs.Slots.{free}
 use Rattle.record.specs.Tickets.{batchInState}
 use Rattle.record.specs.Clients.{noClient}
@@ -23,6 +24,9 @@ headWords r = low (r .setup .ring) ∷ low (r .setup .memory) ∷ low (r .setup 
 
 abbrev pub clientWords : Client → List ℕ
 clientWords c = c .window .start ∷ c .window .length ∷ c .pending ∷ 0 ∷ []
+
+abbrev pub stagedWords : Staged → List ℕ
+stagedWords g = g .client ∷ low (g .slot) ∷ low (g .total) ∷ low (g .received) ∷ []
 
 abbrev pub tagOf : SlotState → ℕ
 tagOf Free = 0
@@ -46,7 +50,7 @@ unfoldable pub wordsWith : Record → (s0 s1 s2 s3 s4 s5 s6 s7 : Row) → List �
 wordsWith r s0 s1 s2 s3 s4 s5 s6 s7 =
     headWords r ++ (clientsWords (r .clients)
     ++ (rowWords s0 ++ (rowWords s1 ++ (rowWords s2 ++ (rowWords s3 ++ (rowWords s4 ++ (rowWords s5 ++ (rowWords s6 ++ (rowWords s7
-    ++ (0 ∷ 0 ∷ 0 ∷ 0 ∷ []))))))))))
+    ++ stagedWords (r .staged))))))))))
 
 abbrev pub rowAt : Record → ℕ → Row
 rowAt r i = rowOf (getD (r .slots) i free)

@@ -4,13 +4,14 @@ ghost use Prim.Native.Nat.{_+_, _<_};
 ghost use lib.ListN.{length};
 ghost use Rattle.word.specs.Word.{words};
 ghost use Rattle.record_bytes.specs.Layout.{wordAt};
-ghost use Rattle.record_bytes.specs.Read.{slotRight, slotsRight, spareRight, isRecord, setupIn, clientIn, batchIn, slotIn, clientsIn, slotsIn, recordIn, noRecord, recordOf};
+ghost use Rattle.record_bytes.specs.Read.{slotRight, slotsRight, spareRight, isRecord, setupIn, clientIn, batchIn, slotIn, clientsIn, slotsIn, stagedIn, recordIn, noRecord, recordOf};
 use record::Batch;
 use record::Client;
 use record::Record;
 use record::Setup;
 use record::Slot;
 use record::SlotState;
+use record::Staged;
 use record::Window;
 use reset::ResetRule;
 
@@ -108,6 +109,18 @@ fn slots_in(bytes: &[u8]) -> [Slot; 8]
     ]
 }
 
+fn staged_in(bytes: &[u8]) -> Staged
+    requires { ⌜ length (now bytes) ≡ 272 ⌝ }
+    ensures { λ r. ⌜ r ≡ stagedIn (words (now (bytes .entry))) ⌝ }
+{
+    Staged {
+        client: word_at(bytes, 64),
+        slot: size_at(bytes, 65),
+        total: size_at(bytes, 66),
+        received: size_at(bytes, 67),
+    }
+}
+
 fn record_in(bytes: &[u8]) -> Record
     requires { ⌜ length (now bytes) ≡ 272 ⌝ }
     ensures { λ r. ⌜ r ≡ recordIn (words (now (bytes .entry))) ⌝ }
@@ -119,6 +132,7 @@ fn record_in(bytes: &[u8]) -> Record
         slots: slots_in(bytes),
         read: size_at(bytes, 5),
         next: word_at(bytes, 6),
+        staged: staged_in(bytes),
     }
 }
 
@@ -159,10 +173,6 @@ fn spare_right(bytes: &[u8]) -> bool
         & (word_at(bytes, 15) == 0)
         & (word_at(bytes, 19) == 0)
         & (word_at(bytes, 23) == 0)
-        & (word_at(bytes, 64) == 0)
-        & (word_at(bytes, 65) == 0)
-        & (word_at(bytes, 66) == 0)
-        & (word_at(bytes, 67) == 0)
 }
 
 fn no_record() -> Record
@@ -190,6 +200,7 @@ fn no_record() -> Record
         slots: slots,
         read: 0,
         next: 0,
+        staged: record::no_staged(),
     }
 }
 

@@ -48,6 +48,10 @@ fn words_of(engine: Record) -> [u32; 68]
     let reset = rule.number();
     let clients = engine.clients;
     let slots = engine.slots;
+    let staged = engine.staged;
+    let slot = (staged.slot % 4294967296) as u32;
+    let total = (staged.total % 4294967296) as u32;
+    let received = (staged.received % 4294967296) as u32;
     let c0 = clients[0];
     let c1 = clients[1];
     let c2 = clients[2];
@@ -129,10 +133,10 @@ fn words_of(engine: Record) -> [u32; 68]
         s7.ticket,
         s7.offset,
         s7.length,
-        0,
-        0,
-        0,
-        0,
+        staged.client,
+        slot,
+        total,
+        received,
     ]
 }
 

@@ -116,10 +116,11 @@ fn number_of(answer: Answer) -> u32
 {
     match answer {
         Answer::Refused(number) => number,
-        Answer::Set => 0,
+        Answer::Done => 0,
         Answer::Opened(_) => 0,
         Answer::Accepted(_) => 0,
         Answer::Ready(_) => 0,
+        Answer::Missing(_) => 0,
     }
 }
 

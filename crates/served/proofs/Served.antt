@@ -9,29 +9,32 @@ use lib.Dec.{eqb}
 use Rattle.record.specs.declared.Setup.{Setup as Numbers}
 use Rattle.record.specs.declared.Window.{Window as Place}
 use Rattle.record.specs.declared.Record.{Record}
+use Rattle.record.specs.Staged.{noStaged, missingBytes}
 use Rattle.record.specs.Rules.{valid}
+use Rattle.queue.specs.declared.Answer.the-variants.{Accepted, Missing}
 use Rattle.queue.specs.declared.Reply.{Reply}
-use Rattle.queue.specs.Answers.{refusalNumberOf, valueOf}
-use Rattle.queue.specs.Refusals.{firstRefusal, openTable, setUpTable}
-use Rattle.queue.specs.Calls.{unlessRefused, initialRecord, noSetup, withClient, newBatch, withBatch, setUpResult, openResult, submitResult, submitNumber, submitRing, pendingAnswer}
-use Rattle.queue.proofs.Stays.{unless-keeps, set-up-number, open-number, submit-number, set-up-stays, open-stays, submit-stays}
+use Rattle.queue.specs.Answers.{refusalNumberOf, valueOf, answerUnlessRefused}
+use Rattle.queue.specs.Refusals.{firstRefusal, openTable, submitTable, cancelTable, setUpTable}
+use Rattle.queue.specs.Calls.{unlessRefused, initialRecord, noSetup, withClient, submitted, setUpResult, openResult, submitResult, submitNumber, submitRing, withStaged, begun, beginResult, more, isLast, pieceNumber, afterPiece, pieceResult, pieceRing, cancelResult, pendingAnswer}
+use Rattle.queue.proofs.Stays.{unless-keeps, set-up-number, open-number, submit-number, begin-number, piece-number, cancel-number, set-up-stays, open-stays, submit-stays, begin-stays, piece-stays, cancel-stays}
 use Rattle.engine.specs.declared.Ran.{Ran}
 use Rattle.engine.specs.Outcome.{runRefusalOf as refusalOf, valuesOf}
 use Rattle.engine.specs.Run.{runNumber, withoutOldest, runResult, runMemory}
 use Rattle.engine.proofs.Stays.{run-number, run-stays}
+use Rattle.answers.specs.Answers.{lastOf}
 use Rattle.model.specs.Windows.{Window}
-use Rattle.model.specs.Calls.{Setup, Call, opens, submit, run, pending, Answer}
-use Rattle.claims.specs.Engine.{State, mkState, performCall, answersOf, stateAfter, answerOrRefusal, initialState, SetUpAccepted}
+use Rattle.model.specs.Calls.{Setup, Call, opens, submit, run, pending, begin, piece, cancel, Answer}
+use Rattle.claims.specs.Engine.{State, mkState, pieceTold, performCall, answersOf, stateAfter, answerOrRefusal, initialState, SetUpAccepted}
 use Rattle.claims.proofs.Follows.{like-model}
 use Rattle.record_bytes.specs.Read.{recordOf}
 use Rattle.record_bytes.specs.Written.{bytesOf}
 use Rattle.record_bytes.specs.RoundTrip.{Typed}
 use Rattle.record_bytes.proofs.RoundTrip.{back}
 use Rattle.record_bytes.proofs.Fitting.{fits}
-use Rattle.calls.specs.Calls.{setUpNumber, SetsUp, Told, Opens, Submits, Reports, Runs}
+use Rattle.calls.specs.Calls.{setUpNumber, SetsUp, Told, Opens, Submits, Done as Silent, Begins, ToldTwo, HandsOver, Cancels, Reports, Runs}
 use Rattle.calls.proofs.Telling.{unless-zero}
-use Rattle.served.specs.Served.{Lent, ServesOpen, ServesSubmit, ServesRun, ServesPending, Serves, ServesAll, none, first, Plain, AllPlain, Promise}
-use Rattle.served.proofs.Typed.{sized, fresh-typed, open-typed, submit-typed, run-typed}
+use Rattle.served.specs.Served.{Lent, ServesOpen, ServesSubmit, ServesRun, ServesPending, ServesBegin, ofPiece, ServesPiece, ServesCancel, Serves, ServesAll, none, first, Plain, AllPlain, Promise}
+use Rattle.served.proofs.Typed.{sized, fresh-typed, open-typed, submit-typed, begin-typed, piece-typed, cancel-typed, run-typed}
 
 -- the bytes are those of a record that keeps its rules
 record Holds (bytes : List ℕ) (e : Record) : Type 0 where
@@ -57,6 +60,16 @@ record Agrees (s : Lent) (x : State) : Type 0 where
 record Steps (c : Call) (x : State) (a : Answer) (t : Lent) : Type 0 where
   says : a ≡ performCall c x .answer
   after : Agrees t (performCall c x .after)
+
+-- a piece's two numbers say what it answers
+two-told : (n : ℕ) (b : Bool) (ticket left : ℕ) →
+    answerOrRefusal (refusalNumberOf (answerUnlessRefused n (cond b (Accepted ticket) (Missing left))))
+    (ofPiece (lastOf (answerUnlessRefused n (cond b (Accepted ticket) (Missing left)))) (valueOf (answerUnlessRefused n (cond b (Accepted ticket) (Missing left)))))
+    ≡ answerOrRefusal (refusalNumberOf (answerUnlessRefused n (cond b (Accepted ticket) (Missing left)))) (pieceTold (answerUnlessRefused n (cond b (Accepted ticket) (Missing left))))
+unfolding answerUnlessRefused answerOrRefusal
+two-told zero true ticket left = refl
+two-told zero false ticket left = refl
+two-told (suc n) b ticket left = refl
 
 -- ---- each call
 
@@ -106,7 +119,7 @@ module _ (s : Lent) (x : State) (g : Agrees s x) where
             are =
                 k .record-is
                 ∙ ap (λ (n : ℕ). unlessRefused n (s .bytes) (bytesOf (submitResult e (x .ring) client batch .engine))) (submit-number e (x .ring) client batch)
-                ∙ keeps (submitNumber e (x .ring) client batch) (s .bytes) e (withBatch e (newBatch e client (length batch))) (g .holds .are);
+                ∙ keeps (submitNumber e (x .ring) client batch) (s .bytes) e (submitted e client (length batch)) (g .holds .are);
             ok = submit-stays e (sized (g .holds .right)) (g .holds .ok) (x .ring) client batch .0;
             right = submit-typed e (g .holds .right) (x .ring) client batch p;
           };
@@ -147,6 +160,84 @@ module _ (s : Lent) (x : State) (g : Agrees s x) where
         };
       }
 
+  begin-step : (client total : ℕ) (a : Answer) (t : Lent) → client < 2 ^ 32 → ServesBegin client total s a t → Steps (begin client total) x a t
+  unfolding performCall Begins beginResult
+  begin-step client total a t p q =
+      let n : ℕ = length (x .ring) in
+      let b : Begins (s .bytes) (x .ring) client total (q .number) (t .bytes) =
+      subst (λ (l : List ℕ). Begins (s .bytes) l client total (q .number) (t .bytes)) (g .rings) (q .says)
+      in
+      let k : Silent (s .bytes) (bytesOf (beginResult e n client total .engine)) (beginResult e n client total .answer) (q .number) (t .bytes) =
+      subst (λ (y : Record). Silent (s .bytes) (bytesOf (beginResult y n client total .engine)) (beginResult y n client total .answer) (q .number) (t .bytes)) z b
+      in
+      record {
+        says = q .answer ∙ rw (k .number-is);
+        after = record {
+          holds = record {
+            are =
+                k .record-is
+                ∙ ap (λ (m : ℕ). unlessRefused m (s .bytes) (bytesOf (beginResult e n client total .engine))) (begin-number e n client total)
+                ∙ keeps (firstRefusal (submitTable e n client total)) (s .bytes) e (withStaged e (begun e client total)) (g .holds .are);
+            ok = begin-stays e (sized (g .holds .right)) (g .holds .ok) n client total .0;
+            right = begin-typed e (g .holds .right) n client total p;
+          };
+          rings = q .ring ∙ g .rings;
+          memories = q .memory ∙ g .memories;
+        };
+      }
+
+  piece-step : (client : ℕ) (bytes : List ℕ) (a : Answer) (t : Lent) → ServesPiece client bytes s a t → Steps (piece client bytes) x a t
+  unfolding performCall pieceResult
+  piece-step client bytes a t q =
+      let two : List ℕ = q .last ∷ q .value ∷ [] in
+      let b : HandsOver (s .bytes) (x .ring) client bytes (q .number) two (t .bytes) (t .ring) =
+      subst (λ (l : List ℕ). HandsOver (s .bytes) l client bytes (q .number) two (t .bytes) (t .ring)) (g .rings) (q .says)
+      in
+      let k : ToldTwo (s .bytes) (bytesOf (pieceResult e (x .ring) client bytes .engine)) (pieceResult e (x .ring) client bytes .answer) (q .number) two (t .bytes) =
+      subst (λ (y : Record). ToldTwo (s .bytes) (bytesOf (pieceResult y (x .ring) client bytes .engine)) (pieceResult y (x .ring) client bytes .answer) (q .number) two (t .bytes)) z (b .told)
+      in
+      let e0 = ap (λ (l : List ℕ). getD l 0 0) (k .two-are) in
+      let e1 = ap (λ (l : List ℕ). getD l 1 0) (k .two-are) in
+      record {
+        says =
+            q .answer ∙ rw (k .number-is, e0, e1)
+            (two-told (pieceNumber e (x .ring) client bytes) (isLast (e .staged) (length bytes)) (e .next) (missingBytes (more (e .staged) (length bytes))));
+        after = record {
+          holds = record {
+            are =
+                k .record-is
+                ∙ ap (λ (m : ℕ). unlessRefused m (s .bytes) (bytesOf (pieceResult e (x .ring) client bytes .engine))) (piece-number e (x .ring) client bytes)
+                ∙ keeps (pieceNumber e (x .ring) client bytes) (s .bytes) e (afterPiece e (length bytes)) (g .holds .are);
+            ok = piece-stays e (sized (g .holds .right)) (g .holds .ok) (x .ring) client bytes .0;
+            right = piece-typed e (g .holds .right) (x .ring) client bytes;
+          };
+          rings = b .ring-is ∙ ap (λ (y : Record). pieceRing y (x .ring) client bytes) z;
+          memories = q .memory ∙ g .memories;
+        };
+      }
+
+  cancel-step : (client : ℕ) (a : Answer) (t : Lent) → ServesCancel client s a t → Steps (cancel client) x a t
+  unfolding performCall Cancels cancelResult
+  cancel-step client a t q =
+      let k : Silent (s .bytes) (bytesOf (cancelResult e client .engine)) (cancelResult e client .answer) (q .number) (t .bytes) =
+      subst (λ (y : Record). Silent (s .bytes) (bytesOf (cancelResult y client .engine)) (cancelResult y client .answer) (q .number) (t .bytes)) z (q .says)
+      in
+      record {
+        says = q .answer ∙ rw (k .number-is);
+        after = record {
+          holds = record {
+            are =
+                k .record-is
+                ∙ ap (λ (m : ℕ). unlessRefused m (s .bytes) (bytesOf (cancelResult e client .engine))) (cancel-number e client)
+                ∙ keeps (firstRefusal (cancelTable e client)) (s .bytes) e (withStaged e noStaged) (g .holds .are);
+            ok = cancel-stays e (sized (g .holds .right)) (g .holds .ok) client .0;
+            right = cancel-typed e (g .holds .right) client;
+          };
+          rings = q .ring ∙ g .rings;
+          memories = q .memory ∙ g .memories;
+        };
+      }
+
   pending-step : (client : ℕ) (a : Answer) (t : Lent) → ServesPending client s a t → Steps (pending client) x a t
   unfolding performCall
   pending-step client a t q = record {
@@ -159,6 +250,9 @@ module _ (s : Lent) (x : State) (g : Agrees s x) where
   step (submit client batch) a t p q = submit-step client batch a t p q
   step run a t p q = run-step a t q
   step (pending client) a t p q = pending-step client a t q
+  step (begin client total) a t p q = begin-step client total a t p q
+  step (piece client bytes) a t p q = piece-step client bytes a t q
+  step (cancel client) a t p q = cancel-step client a t q
 
 -- ---- a list of calls
 

@@ -1,6 +1,6 @@
 -- The calls keep what the types say of a record.
 use mathlib.Core.Path.{_≡_, refl}
-use mathlib.Core.Bool.{true}
+use mathlib.Core.Bool.{Bool, true, false, cond}
 use mathlib.Core.List.{List, [], _∷_}
 use Prim.Native.Nat.{ℕ, zero, suc, _+_, _-_, _%_, _≤_, _<_, _^_}
 use native.Mathlib.Omega.{arith}
@@ -12,17 +12,19 @@ use Rattle.record.specs.declared.Batch.{Batch}
 use Rattle.record.specs.declared.Slot.{Slot}
 use Rattle.record.specs.declared.SlotState.{SlotState}
 use Rattle.record.specs.declared.SlotState.the-variants.{Free, Ready}
+use Rattle.record.specs.declared.Staged.{Staged}
 use Rattle.record.specs.declared.Record.{Record}
-use Rattle.record.specs.Slots.{free}
-use Rattle.record.specs.Clients.{noClient, clientAt}
-use Rattle.record.specs.Queue.{takenSlots}
+use Rattle.record.specs.Slots.{free, lowestFree}
+use Rattle.record.specs.Clients.{isOpen, noClient, clientAt}
+use Rattle.record.specs.Staged.{noStaged}
+use Rattle.record.specs.Queue.{readySlots}
 use Rattle.record.specs.Rules.{valid}
-use Rattle.queue.specs.Refusals.{firstRefusal, openTable}
-use Rattle.queue.specs.Calls.{initialRecord, withClient, openResult, newBatch, withBatch, submitNumber, submitResult}
-use Rattle.queue.proofs.Refusals.{SubmitAllowed, submit-allowed}
-use Rattle.queue.proofs.Kept.{Sized, few-taken, fresh-sized, open-sized}
+use Rattle.queue.specs.Refusals.{firstRefusal, openTable, submitTable, cancelTable}
+use Rattle.queue.specs.Calls.{initialRecord, withClient, openResult, newBatch, withBatch, submitted, submitNumber, submitResult, withStaged, begun, beginResult, more, isLast, pieceNumber, afterPiece, pieceResult, cancelResult}
+use Rattle.queue.proofs.Refusals.{submit-allowed, piece-allowed}
+use Rattle.queue.proofs.Kept.{Sized, few-taken, fresh-sized, open-sized, staged-sized}
 use Rattle.queue.proofs.Room.{pending-small}
-use Rattle.queue.proofs.Submitted.{submit-sized}
+use Rattle.queue.proofs.Submitted.{added-sized}
 use Rattle.queue.proofs.Stays.{unless-keeps}
 use Rattle.engine.specs.Run.{runNumber, oldest, withoutOldest, runResult}
 use Rattle.engine.proofs.Stays.{run-sized}
@@ -32,8 +34,8 @@ use Rattle.record_bytes.proofs.Words.{client-at}
 pub sized : {e : Record} → Typed e → Sized e
 sized t = record { clients = t .four; slots = t .eight; next = t .next }
 
-typed : (e : Record) → Sized e → AllClients ClientTyped (e .clients) → AllSlots StateTyped (e .slots) → Typed e
-typed e s cs ss = record { four = s .clients; eight = s .slots; clients = cs; slots = ss; next = s .next }
+typed : (e : Record) → Sized e → AllClients ClientTyped (e .clients) → AllSlots StateTyped (e .slots) → e .staged .client < 2 ^ 32 → Typed e
+typed e s cs ss g = record { four = s .clients; eight = s .slots; clients = cs; slots = ss; next = s .next; staged = g }
 
 clients-set : (P : Client → Type 0) (cs : List Client) (i : ℕ) (c : Client) → AllClients P cs → P c → AllClients P (set cs i c)
 clients-set P [] i c h p = tt
@@ -56,26 +58,60 @@ counted e t client n h =
 
 pub fresh-typed : (setup : Setup) → Typed (initialRecord setup)
 unfolding initialRecord
-fresh-typed setup = typed (initialRecord setup) (fresh-sized setup) (none-typed, (none-typed, (none-typed, (none-typed, tt)))) (tt, (tt, (tt, (tt, (tt, (tt, (tt, (tt, tt))))))))
+fresh-typed setup = typed (initialRecord setup) (fresh-sized setup) (none-typed, (none-typed, (none-typed, (none-typed, tt)))) (tt, (tt, (tt, (tt, (tt, (tt, (tt, (tt, tt)))))))) (omega arith)
 
 module _ (e : Record) (t : Typed e) where
   pub open-typed : (w : Window) → (w .start < 2 ^ 32) × (w .length < 2 ^ 32) → Typed (openResult e w .engine)
   unfolding openResult withClient
   open-typed w h =
       unless-keeps Typed (firstRefusal (openTable e w)) e (withClient e w) t
-      (λ z. typed (withClient e w) (open-sized e w (sized t)) (clients-set ClientTyped (e .clients) (e .opened) (record { window = w; pending = 0 }) (t .clients) (h .0, h .1, omega arith)) (t .slots))
+      (λ z. typed (withClient e w) (open-sized e w (sized t)) (clients-set ClientTyped (e .clients) (e .opened) (record { window = w; pending = 0 }) (t .clients) (h .0, h .1, omega arith)) (t .slots) (t .staged))
+
+  -- a batch more in the slot `at`
+  added-typed : (at client size : ℕ) → valid e ≡ true → isOpen e client ≡ true → client < 2 ^ 32 → Typed (withBatch e at (newBatch e client size))
+  unfolding withBatch
+  added-typed at client size ok owner h =
+      let few : getD (e .clients) client noClient .pending ≤ readySlots e = pending-small e ok client owner in
+      let eight = few-taken e (sized t) in
+      typed (withBatch e at (newBatch e client size)) (added-sized e at (newBatch e client size) (sized t))
+      (clients-set ClientTyped (e .clients) client _ (t .clients) (counted e t client (getD (e .clients) client noClient .pending + 1) (omega arith)))
+      (slots-set StateTyped (e .slots) at _ (t .slots) (h, t .next))
+      (omega arith)
+
+  -- another staged submission, or none
+  staged-typed : (g : Staged) → g .client < 2 ^ 32 → Typed (withStaged e g)
+  unfolding withStaged
+  staged-typed g h = typed (withStaged e g) (staged-sized e g (sized t)) (t .clients) (t .slots) h
 
   pub submit-typed : (ring : List ℕ) (client : ℕ) (batch : List ℕ) → client < 2 ^ 32 → Typed (submitResult e ring client batch .engine)
-  unfolding submitResult withBatch
+  unfolding submitResult
   submit-typed ring client batch h =
-      unless-keeps Typed (submitNumber e ring client batch) e (withBatch e (newBatch e client (length batch))) t
+      unless-keeps Typed (submitNumber e ring client batch) e (submitted e client (length batch)) t
       (λ z.
       let a = submit-allowed e (length ring) client (length batch) z in
-      let few : getD (e .clients) client noClient .pending ≤ takenSlots e = pending-small e (a .ok) client (a .owner) in
-      let eight = few-taken e (sized t) in
-      typed (withBatch e (newBatch e client (length batch))) (submit-sized e (newBatch e client (length batch)) (sized t))
-      (clients-set ClientTyped (e .clients) client _ (t .clients) (counted e t client (getD (e .clients) client noClient .pending + 1) (omega arith)))
-      (slots-set StateTyped (e .slots) _ _ (t .slots) (h, t .next)))
+      added-typed (lowestFree (e .slots)) client (length batch) (a .ok) (a .owner) h)
+
+  pub begin-typed : (ring client total : ℕ) → client < 2 ^ 32 → Typed (beginResult e ring client total .engine)
+  unfolding beginResult
+  begin-typed ring client total h =
+      unless-keeps Typed (firstRefusal (submitTable e ring client total)) e (withStaged e (begun e client total)) t (λ z. staged-typed (begun e client total) h)
+
+  pub piece-typed : (ring : List ℕ) (client : ℕ) (piece : List ℕ) → Typed (pieceResult e ring client piece .engine)
+  unfolding pieceResult
+  piece-typed ring client piece =
+      unless-keeps Typed (pieceNumber e ring client piece) e (afterPiece e (length piece)) t
+      (λ z.
+      let o = piece-allowed e (length ring) client (length piece) z .own in
+      go (o .ok) (o .unfinished .owner) (isLast (e .staged) (length piece)))
+    where
+      go : valid e ≡ true → isOpen e (e .staged .client) ≡ true → (b : Bool) →
+          Typed (cond b (withBatch e (e .staged .slot) (newBatch e (e .staged .client) (e .staged .total))) (withStaged e (more (e .staged) (length piece))))
+      go ok owner true = added-typed (e .staged .slot) (e .staged .client) (e .staged .total) ok owner (t .staged)
+      go ok owner false = staged-typed (more (e .staged) (length piece)) (t .staged)
+
+  pub cancel-typed : (client : ℕ) → Typed (cancelResult e client .engine)
+  unfolding cancelResult
+  cancel-typed client = unless-keeps Typed (firstRefusal (cancelTable e client)) e (withStaged e noStaged) t (λ z. staged-typed noStaged (omega arith))
 
   pub run-typed : (ring memory : List ℕ) → Typed (runResult e ring memory .engine)
   unfolding runResult withoutOldest
@@ -85,4 +121,5 @@ module _ (e : Record) (t : Typed e) where
       unless-keeps Typed (runNumber e ring memory) e (withoutOldest e) t
       (λ z. typed (withoutOldest e) (run-sized e (sized t))
       (clients-set ClientTyped (e .clients) client _ (t .clients) (counted e t client (getD (e .clients) client noClient .pending - 1) (omega (arith, before .2))))
-      (slots-set StateTyped (e .slots) _ free (t .slots) tt))
+      (slots-set StateTyped (e .slots) _ free (t .slots) tt)
+      (t .staged))

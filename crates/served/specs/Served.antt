@@ -2,15 +2,15 @@
 -- them, and each as its contract (crate calls) says. proofs/Served.antt proves the promise.
 use mathlib.Core.Path.{_≡_}
 use mathlib.Core.List.{List, [], _∷_}
-use Prim.Native.Nat.{ℕ, _<_, _^_}
+use Prim.Native.Nat.{ℕ, zero, suc, _<_, _^_}
 use lib.ListN.{length}
 use Rattle.model.specs.Windows.{Window}
-use Rattle.model.specs.Calls.{Setup, Call, opens, submit, run, pending, Answer, opened, accepted, completed, ready}
+use Rattle.model.specs.Calls.{Setup, Call, opens, submit, run, pending, begin, piece, cancel, Answer, opened, accepted, completed, ready, missing, done}
 use Rattle.model.specs.State.{initialModel}
 use Rattle.model.specs.Model.{answers, modelAfterAll}
 use Rattle.claims.specs.ModelProperties.{batchSemantics}
 use Rattle.claims.specs.Engine.{answerOrRefusal, stateAfter, initialState}
-use Rattle.calls.specs.Calls.{SetsUp, Opens, Submits, Pends, Runs}
+use Rattle.calls.specs.Calls.{SetsUp, Opens, Submits, Begins, HandsOver, Cancels, Pends, Runs}
 
 -- what the caller lends
 pub record Lent : Type 0 where
@@ -53,11 +53,41 @@ pub record ServesPending (client : ℕ) (s : Lent) (a : Answer) (t : Lent) : Typ
   pub answer : a ≡ answerOrRefusal number (ready value)
   pub same : t ≡ s
 
+pub record ServesBegin (client total : ℕ) (s : Lent) (a : Answer) (t : Lent) : Type 0 where
+  pub number : ℕ
+  pub says : Begins (s .bytes) (s .ring) client total number (t .bytes)
+  pub answer : a ≡ answerOrRefusal number done
+  pub ring : t .ring ≡ s .ring
+  pub memory : t .memory ≡ s .memory
+
+-- a piece's two numbers: with 0 the bytes still to come, with 1 the ticket
+abbrev pub ofPiece : (last value : ℕ) → Answer
+ofPiece zero value = missing value
+ofPiece (suc n) value = accepted value
+
+pub record ServesPiece (client : ℕ) (bytes : List ℕ) (s : Lent) (a : Answer) (t : Lent) : Type 0 where
+  pub number : ℕ
+  pub last : ℕ
+  pub value : ℕ
+  pub says : HandsOver (s .bytes) (s .ring) client bytes number (last ∷ value ∷ []) (t .bytes) (t .ring)
+  pub answer : a ≡ answerOrRefusal number (ofPiece last value)
+  pub memory : t .memory ≡ s .memory
+
+pub record ServesCancel (client : ℕ) (s : Lent) (a : Answer) (t : Lent) : Type 0 where
+  pub number : ℕ
+  pub says : Cancels (s .bytes) client number (t .bytes)
+  pub answer : a ≡ answerOrRefusal number done
+  pub ring : t .ring ≡ s .ring
+  pub memory : t .memory ≡ s .memory
+
 abbrev pub Serves : Call → Lent → Answer → Lent → Type 0
 Serves (opens w) = ServesOpen w
 Serves (submit client batch) = ServesSubmit client batch
 Serves run = ServesRun
 Serves (pending client) = ServesPending client
+Serves (begin client total) = ServesBegin client total
+Serves (piece client bytes) = ServesPiece client bytes
+Serves (cancel client) = ServesCancel client
 
 -- ---- a list of calls
 
@@ -71,6 +101,9 @@ Plain (opens w) = (w .start < 2 ^ 32) × (w .length < 2 ^ 32)
 Plain (submit client batch) = client < 2 ^ 32
 Plain run = Unit {0}
 Plain (pending client) = Unit {0}
+Plain (begin client total) = client < 2 ^ 32
+Plain (piece client bytes) = Unit {0}
+Plain (cancel client) = Unit {0}
 
 abbrev pub AllPlain : List Call → Type 0
 AllPlain [] = Unit {0}

@@ -7,9 +7,9 @@ use lib.ListN.{length, length-append}
 use lib.Seq.{drop-drop, take-append-seam, drop-append-seam}
 use Rattle.word.specs.Word.{byteOf, le32At, leBytes}
 use Rattle.word.proofs.Words.{le32-bytes}
-use Rattle.model.specs.Calls.{Call, opens, submit, run, pending}
+use Rattle.model.specs.Calls.{Call, opens, submit, run, pending, begin, piece, cancel}
 use Rattle.session.specs.Script.{parsed, parseCall, decode, encodeOne, encode, AllBytes, CallFits, CallsFit, EncodeDecodeRoundTrip}
-use Rattle.session.proofs.Parsing.{open-long, submit-long, pending-long, next-open, next-submit, next-pending}
+use Rattle.session.proofs.Parsing.{open-long, bytes-long, client-long, begin-long, next-open, next-submit, next-pending, next-begin, next-piece, next-cancel}
 
 -- bytes that begin with a call's
 next-encoded : (call : Call) (rest : List ℕ) → CallFits call → parseCall (encodeOne call ++ rest) ≡ parsed call rest
@@ -21,11 +21,22 @@ next-encoded (submit client batch) rest fits =
     let bytes : List ℕ = encodeOne (submit client batch) ++ rest in
     let size : le32At bytes 2 ≡ length batch = le32-bytes (length batch) (fits .1) in
     let long : 6 + length batch ≤ length bytes = simp length-append (omega arith) in
-    next-submit bytes (omega arith) refl ∙ submit-long bytes (rw size long) ∙ rw (size, take-append-seam batch rest, ← drop-drop (length batch) 6 bytes, drop-append-seam batch rest)
+    next-submit bytes (omega arith) refl ∙ bytes-long bytes submit (rw size long) ∙ rw (size, take-append-seam batch rest, ← drop-drop (length batch) 6 bytes, drop-append-seam batch rest)
 next-encoded run rest fits = refl
 next-encoded (pending client) rest fits =
     let bytes : List ℕ = encodeOne (pending client) ++ rest in
-    next-pending bytes (omega arith) refl ∙ pending-long bytes (omega arith)
+    next-pending bytes (omega arith) refl ∙ client-long bytes pending (omega arith)
+next-encoded (begin client total) rest fits =
+    let bytes : List ℕ = encodeOne (begin client total) ++ rest in
+    next-begin bytes (omega arith) refl ∙ begin-long bytes (omega arith) ∙ rw (le32-bytes total (fits .1))
+next-encoded (piece client batch) rest fits =
+    let bytes : List ℕ = encodeOne (piece client batch) ++ rest in
+    let size : le32At bytes 2 ≡ length batch = le32-bytes (length batch) (fits .1) in
+    let long : 6 + length batch ≤ length bytes = simp length-append (omega arith) in
+    next-piece bytes (omega arith) refl ∙ bytes-long bytes piece (rw size long) ∙ rw (size, take-append-seam batch rest, ← drop-drop (length batch) 6 bytes, drop-append-seam batch rest)
+next-encoded (cancel client) rest fits =
+    let bytes : List ℕ = encodeOne (cancel client) ++ rest in
+    next-cancel bytes (omega arith) refl ∙ client-long bytes cancel (omega arith)
 
 decode-encode : (calls : List Call) → CallsFit calls → (n : ℕ) → length calls ≤ n → decode n (encode calls) ≡ calls
 unfolding decode encode parseCall
@@ -50,6 +61,9 @@ call-bytes (opens w) fits = (omega arith, all-append (leBytes (w .start)) (leByt
 call-bytes (submit client batch) fits = (omega arith, (fits .0, all-append (leBytes (length batch)) batch (word-bytes (length batch)) (fits .2)))
 call-bytes run fits = (omega arith, tt)
 call-bytes (pending client) fits = (omega arith, (fits, tt))
+call-bytes (begin client total) fits = (omega arith, (fits .0, word-bytes total))
+call-bytes (piece client batch) fits = (omega arith, (fits .0, all-append (leBytes (length batch)) batch (word-bytes (length batch)) (fits .2)))
+call-bytes (cancel client) fits = (omega arith, (fits, tt))
 
 calls-bytes : (calls : List Call) → CallsFit calls → AllBytes (encode calls)
 unfolding encode

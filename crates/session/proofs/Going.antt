@@ -9,25 +9,46 @@ use Rattle.word.specs.Word.{wordsBytes}
 use Rattle.word.specs.Splice.{spliced}
 use Rattle.word.proofs.Splice.{take-spliced, drop-spliced}
 use Rattle.word.proofs.Written.{length-bytes}
-use Rattle.model.specs.Calls.{Call, Answer, opened, accepted, completed, ready, refused}
+use Rattle.model.specs.Calls.{Call, opens, submit, run, pending, begin, piece, cancel, Answer, opened, accepted, completed, ready, missing, done, refused}
 use Rattle.claims.specs.Engine.{State, performCall, answersOf, stateAfter}
 use Rattle.session.specs.declared.script.Found.{Found}
 use Rattle.session.specs.declared.script.Next.{Next}
 use Rattle.session.specs.declared.script.Next.the-variants.{End, Call as Begins}
 use Rattle.session.specs.Script.{parsed, parseCall, decode}
 use Rattle.session.specs.Parsing.{callOf, ParsesAs}
-use Rattle.session.specs.Answers.{answerWords, answerBytes}
+use Rattle.session.specs.Answers.{plainWords, pieceWords, answerWords, answerBytes}
 use Rattle.session.specs.Contracts.{CallMatches, CallsMatch}
 
 -- ---- an answer has six words
 
-pub six-words : (a : Answer) → length (answerWords a) ≡ 6
-unfolding answerWords
-six-words (opened c) = refl
-six-words (accepted t) = refl
-six-words (completed c t v) = refl
-six-words (ready n) = refl
-six-words (refused n) = refl
+plain-six : (a : Answer) → length (plainWords a) ≡ 6
+unfolding plainWords
+plain-six (opened c) = refl
+plain-six (accepted t) = refl
+plain-six (completed c t v) = refl
+plain-six (ready n) = refl
+plain-six (missing n) = refl
+plain-six done = refl
+plain-six (refused n) = refl
+
+piece-six : (a : Answer) → length (pieceWords a) ≡ 6
+unfolding pieceWords plainWords
+piece-six (opened c) = refl
+piece-six (accepted t) = refl
+piece-six (completed c t v) = refl
+piece-six (ready n) = refl
+piece-six (missing n) = refl
+piece-six done = refl
+piece-six (refused n) = refl
+
+pub six-words : (call : Call) (a : Answer) → length (answerWords call a) ≡ 6
+six-words (opens w) = plain-six
+six-words (submit client bytes) = plain-six
+six-words run = plain-six
+six-words (pending client) = plain-six
+six-words (begin client total) = plain-six
+six-words (piece client bytes) = piece-six
+six-words (cancel client) = plain-six
 
 -- the bytes of a script from a place on, as a part of it is lent
 pub rest-is : (l : List ℕ) (at : ℕ) → at ≤ length l → take (length l - at) (drop at l) ≡ drop at l
@@ -51,7 +72,7 @@ decode-none n bytes e = rw e
 
 module _ (n : ℕ) (script : List ℕ) (s₀ : State) (answers₀ : List ℕ) where
   pub record Going (at count left : ℕ) (s : State) (answers : List ℕ) : Type 0 where
-    pub told : answerBytes (answersOf (decode n script) s₀) ≡ take count answers ++ answerBytes (answersOf (decode left (drop at script)) s)
+    pub told : answerBytes (decode n script) (answersOf (decode n script) s₀) ≡ take count answers ++ answerBytes (decode left (drop at script)) (answersOf (decode left (drop at script)) s)
     pub end : stateAfter (decode n script) s₀ ≡ stateAfter (decode left (drop at script)) s
     pub rest : drop count answers ≡ drop count answers₀
 
@@ -67,7 +88,7 @@ module _ (n : ℕ) (script : List ℕ) (s₀ : State) (answers₀ : List ℕ) wh
       let calls : decode left (drop at script) ≡ call ∷ decode (left - 1) (drop (at + size) script) =
       decode-more left (drop at script) (drop size (drop at script)) call some e ∙ rw (drop-drop size at script)
       in
-      let long : length (wordsBytes words) ≡ 24 = length-bytes words ∙ ap (λ (ws : List ℕ). 4 * length ws) (P .says) ∙ ap (λ (k : ℕ). 4 * k) (six-words (performCall call s .answer)) in
+      let long : length (wordsBytes words) ≡ 24 = length-bytes words ∙ ap (λ (ws : List ℕ). 4 * length ws) (P .says) ∙ ap (λ (k : ℕ). 4 * k) (six-words call (performCall call s .answer)) in
       let front : take (count + 24) (spliced count (wordsBytes words) answers) ≡ take count answers ++ wordsBytes words =
       rw (← long) (take-spliced count (wordsBytes words) answers (omega arith))
       in
@@ -85,7 +106,7 @@ module _ (n : ℕ) (script : List ℕ) (s₀ : State) (answers₀ : List ℕ) wh
       CallsMatch (decode n script) s₀ answers₀ count (s .ring) (s .memory) answers
   unfolding answersOf stateAfter answerBytes
   going-end at count left s answers G fits e =
-      let bytes : answerBytes (answersOf (decode n script) s₀) ≡ take count answers = G .told ∙ rw e (append-nil (take count answers)) in
+      let bytes : answerBytes (decode n script) (answersOf (decode n script) s₀) ≡ take count answers = G .told ∙ rw e (append-nil (take count answers)) in
       let last : stateAfter (decode n script) s₀ ≡ s = G .end ∙ rw e in
       record {
         returned = sym (ap length bytes ∙ length-take-le count answers fits);

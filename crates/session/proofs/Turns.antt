@@ -2,38 +2,44 @@
 use mathlib.Core.Path.{_≡_, refl, sym, _∙_}
 use mathlib.Core.List.{List}
 use Prim.Native.Nat.{ℕ, _≤_}
+use lib.ListN.{length}
 use Rattle.record.specs.declared.Record.{Record}
+use Rattle.record.specs.Staged.{missingBytes}
 use Rattle.queue.specs.declared.Answer.{Answer as Told}
 use Rattle.queue.specs.declared.Reply.{Reply}
 use Rattle.queue.specs.Answers.{refusalNumberOf, valueOf}
-use Rattle.queue.specs.Calls.{openResult, submitResult, submitRing, pendingAnswer}
+use Rattle.queue.specs.Refusals.{firstRefusal, submitTable, cancelTable}
+use Rattle.queue.specs.Calls.{openResult, submitResult, submitRing, beginResult, more, isLast, pieceNumber, pieceResult, pieceRing, cancelResult, pendingAnswer}
 use Rattle.engine.specs.declared.Ran.{Ran}
 use Rattle.engine.specs.Run.{runResult, runMemory}
-use Rattle.answers.specs.Answers.{shortAnswer, outcomeWords}
-use Rattle.model.specs.Calls.{opens, submit, run, pending, opened, accepted, ready}
+use Rattle.answers.specs.Answers.{shortAnswer, pieceWords as twoWords, outcomeWords}
+use Rattle.model.specs.Calls.{opens, submit, run, pending, begin, piece, cancel, opened, accepted, ready}
 use Rattle.claims.specs.Engine.{mkState, performCall}
 use Rattle.session.specs.declared.script.Request.{Request}
-use Rattle.session.specs.declared.script.Request.the-variants.{Submit}
+use Rattle.session.specs.declared.script.Request.the-variants.{Submit, Piece}
 use Rattle.session.specs.Parsing.{BatchInBounds}
-use Rattle.session.specs.Answers.{answerWords}
+use Rattle.session.specs.Answers.{plainWords}
 use Rattle.session.specs.Contracts.{CallMatches}
-use Rattle.session.proofs.Numbers.{told-words, run-words}
+use Rattle.session.proofs.Numbers.{told-words, silent-words, two-words, run-words}
 
-opened-words : (v : ℕ) → answerWords (opened v) ≡ shortAnswer 0 v
-unfolding answerWords
+opened-words : (v : ℕ) → plainWords (opened v) ≡ shortAnswer 0 v
+unfolding plainWords
 opened-words v = refl
 
-accepted-words : (v : ℕ) → answerWords (accepted v) ≡ shortAnswer 0 v
-unfolding answerWords
+accepted-words : (v : ℕ) → plainWords (accepted v) ≡ shortAnswer 0 v
+unfolding plainWords
 accepted-words v = refl
 
-ready-words : (v : ℕ) → answerWords (ready v) ≡ shortAnswer 0 v
-unfolding answerWords
+ready-words : (v : ℕ) → plainWords (ready v) ≡ shortAnswer 0 v
+unfolding plainWords
 ready-words v = refl
 
 -- where a batch lies
 pub batch-lies : (size : ℕ) (q : Request) (client from to : ℕ) → q ≡ Submit client from to → BatchInBounds size q → (from ≤ to) × (to ≤ size)
 batch-lies size q client from to e l = rw e at l
+
+pub piece-lies : (size : ℕ) (q : Request) (client from to : ℕ) → q ≡ Piece client from to → BatchInBounds size q → (from ≤ to) × (to ≤ size)
+piece-lies size q client from to e l = rw e at l
 
 module _ (engine : Record) (ring memory : List ℕ) where
   pub open-plays : (start size : ℕ) (r : Reply) (words : List ℕ) (after : Record) → r ≡ openResult engine (record { start = start; length = size }) →
@@ -53,6 +59,27 @@ module _ (engine : Record) (ring memory : List ℕ) where
       CallMatches run (mkState engine ring memory) (mkState after ring memory′) words
   unfolding performCall
   run-plays r words memory′ after e q w g = record { says = rw (← e) (w ∙ sym (run-words (r .outcome))); leaves = rw (g, e, q) }
+
+  pub begin-plays : (client total : ℕ) (r : Reply) (words : List ℕ) (after : Record) → r ≡ beginResult engine (length ring) client total →
+      words ≡ shortAnswer (refusalNumberOf (r .answer)) (valueOf (r .answer)) → after ≡ r .engine →
+      CallMatches (begin client total) (mkState engine ring memory) (mkState after ring memory) words
+  unfolding performCall beginResult
+  begin-plays client total r words after e w g = record { says = w ∙ rw e (sym (silent-words (firstRefusal (submitTable engine (length ring) client total)))); leaves = rw (g, e) }
+
+  pub piece-plays : (client : ℕ) (bytes : List ℕ) (r : Reply) (words ring′ : List ℕ) (after : Record) → r ≡ pieceResult engine ring client bytes →
+      ring′ ≡ pieceRing engine ring client bytes → words ≡ twoWords (r .answer) → after ≡ r .engine →
+      CallMatches (piece client bytes) (mkState engine ring memory) (mkState after ring′ memory) words
+  unfolding performCall pieceResult
+  piece-plays client bytes r words ring′ after e q w g = record {
+    says = w ∙ rw e (sym (two-words (pieceNumber engine ring client bytes) (isLast (engine .staged) (length bytes)) (engine .next) (missingBytes (more (engine .staged) (length bytes)))));
+    leaves = rw (g, e, q);
+  }
+
+  pub cancel-plays : (client : ℕ) (r : Reply) (words : List ℕ) (after : Record) → r ≡ cancelResult engine client →
+      words ≡ shortAnswer (refusalNumberOf (r .answer)) (valueOf (r .answer)) → after ≡ r .engine →
+      CallMatches (cancel client) (mkState engine ring memory) (mkState after ring memory) words
+  unfolding performCall cancelResult
+  cancel-plays client r words after e w g = record { says = w ∙ rw e (sym (silent-words (firstRefusal (cancelTable engine client)))); leaves = rw (g, e) }
 
   pub pending-plays : (client : ℕ) (a : Told) (words : List ℕ) → a ≡ pendingAnswer engine client → words ≡ shortAnswer (refusalNumberOf a) (valueOf a) →
       CallMatches (pending client) (mkState engine ring memory) (mkState engine ring memory) words

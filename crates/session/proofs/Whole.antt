@@ -14,7 +14,7 @@ use Rattle.word.specs.Word.{wordsBytes}
 use Rattle.word.specs.Splice.{spliced}
 use Rattle.word.proofs.Splice.{length-spliced, take-spliced, drop-spliced}
 use Rattle.word.proofs.Written.{length-bytes}
-use Rattle.queue.specs.declared.Answer.the-variants.{Set}
+use Rattle.queue.specs.declared.Answer.the-variants.{Done}
 use Rattle.queue.specs.declared.Reply.{Reply}
 use Rattle.queue.specs.Answers.{refusalNumberOf, valueOf, answerUnlessRefused}
 use Rattle.queue.specs.Calls.{setUpResult}
@@ -33,7 +33,7 @@ use Rattle.session.proofs.Going.{rest-is, decode-none}
 
 -- ---- set up's own answer
 
-value-set : (number : ℕ) → valueOf (answerUnlessRefused number Set) ≡ 0
+value-set : (number : ℕ) → valueOf (answerUnlessRefused number Done) ≡ 0
 unfolding answerUnlessRefused
 value-set zero = refl
 value-set (suc n) = refl
@@ -106,7 +106,7 @@ module _ (setup : Setup) (ring memory script buffer : List ℕ) (room : 24 ≤ l
       rw (eq-eqb (setUpNumber setup) 0 ok, left)
 
   -- what is written, in the engine's answers
-  told : answerOutput setup ring memory script buffer ≡ wordsBytes (shortAnswer 0 0) ++ answerBytes (answersOf (decode (length (drop 24 buffer) / 24) script) (initialState setup ring memory))
+  told : answerOutput setup ring memory script buffer ≡ wordsBytes (shortAnswer 0 0) ++ answerBytes (decode (length (drop 24 buffer) / 24) script) (answersOf (decode (length (drop 24 buffer) / 24) script) (initialState setup ring memory))
   unfolding answerOutput
   told =
       let like = promise setup ring ok .like-model (decode (length (drop 24 buffer) / 24) script) memory in
@@ -118,7 +118,7 @@ module _ (setup : Setup) (ring memory script buffer : List ℕ) (room : 24 ≤ l
   played-on count ring′ memory′ rest′ P =
       let cs : List Call = decode (length (drop 24 buffer) / 24) script in
       let like = promise setup ring ok .like-model cs memory in
-      let said : List ℕ = answerBytes (answersOf cs (initialState setup ring memory)) in
+      let said : List ℕ = answerBytes cs (answersOf cs (initialState setup ring memory)) in
       let long : length (wordsBytes (shortAnswer 0 0)) ≡ 24 = length-bytes (shortAnswer 0 0) in
       let size : length (wordsBytes (shortAnswer 0 0) ++ said) ≡ 24 + count = length-append (wordsBytes (shortAnswer 0 0)) said ∙ rw (long, P .returned) in
       record {
@@ -150,7 +150,7 @@ pub count-small : (cs : List Call) (s : State) (answerUnlessRefused : List ℕ) 
     CallsMatch cs s (take (length answerUnlessRefused - 24) (drop 24 answerUnlessRefused)) count ring′ memory′ rest′ → length rest′ ≡ length (take (length answerUnlessRefused - 24) (drop 24 answerUnlessRefused)) → 24 + count ≤ length answerUnlessRefused
 count-small cs s answerUnlessRefused count ring′ memory′ rest′ room P kept =
     let part = rest-is answerUnlessRefused 24 room in
-    let said : List ℕ = answerBytes (answersOf cs s) in
+    let said : List ℕ = answerBytes cs (answersOf cs s) in
     let after : List ℕ = drop count (take (length answerUnlessRefused - 24) (drop 24 answerUnlessRefused)) in
     let size : length rest′ ≡ count + length after = ap length (P .bytes) ∙ length-append said after ∙ rw (P .returned) in
     let lent : length rest′ ≡ length answerUnlessRefused - 24 = kept ∙ rw (part, length-drop) in

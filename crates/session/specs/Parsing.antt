@@ -3,19 +3,22 @@ use mathlib.Core.Path.{_≡_}
 use mathlib.Core.List.{List}
 use Prim.Native.Nat.{ℕ, _-_, _≤_}
 use lib.ListN.{length, take, drop}
-use Rattle.model.specs.Calls.{Call, opens, submit, run, pending}
+use Rattle.model.specs.Calls.{Call, opens, submit, run, pending, begin, piece, cancel}
 use Rattle.session.specs.declared.script.Request.{Request}
-use Rattle.session.specs.declared.script.Request.the-variants.{Open, Submit, Run, Pending}
+use Rattle.session.specs.declared.script.Request.the-variants.{Open, Submit, Run, Pending, Begin, Piece, Cancel}
 use Rattle.session.specs.declared.script.Next.{Next}
 use Rattle.session.specs.declared.script.Next.the-variants.{End, Call as Begins}
 use Rattle.session.specs.Script.{Parsed, ended, parsed}
 
--- submit's batch is the bytes `from` to `to`
+-- a batch or a piece is the bytes `from` to `to`
 abbrev pub callOf : List ℕ → Request → Call
 callOf bytes (Open start length) = opens (record { start = start; length = length })
 callOf bytes (Submit client from to) = submit client (take (to - from) (drop from bytes))
 callOf bytes Run = run
 callOf bytes (Pending client) = pending client
+callOf bytes (Begin client total) = begin client total
+callOf bytes (Piece client from to) = piece client (take (to - from) (drop from bytes))
+callOf bytes (Cancel client) = cancel client
 
 -- these bytes lie inside the script
 abbrev pub BatchInBounds : (size : ℕ) → Request → Type 0
@@ -23,6 +26,9 @@ BatchInBounds size (Open start length) = Unit {0}
 BatchInBounds size (Submit client from to) = (from ≤ to) × (to ≤ size)
 BatchInBounds size Run = Unit {0}
 BatchInBounds size (Pending client) = Unit {0}
+BatchInBounds size (Begin client total) = Unit {0}
+BatchInBounds size (Piece client from to) = (from ≤ to) × (to ≤ size)
+BatchInBounds size (Cancel client) = Unit {0}
 
 abbrev pub parsedOf : List ℕ → Next → Parsed
 parsedOf bytes End = ended

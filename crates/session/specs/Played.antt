@@ -35,13 +35,13 @@ module _ (setup : Setup) (ring memory script buffer : List ℕ) where
   unfoldable pub answerOutput : List ℕ
   answerOutput =
       cond (ltb (length buffer) 24) []
-      (wordsBytes (shortAnswer (setUpNumber setup) 0) ++ answerBytes (answers (batchSemantics setup) setup (length ring) played (initialModel memory)))
+      (wordsBytes (shortAnswer (setUpNumber setup) 0) ++ answerBytes played (answers (batchSemantics setup) setup (length ring) played (initialModel memory)))
 
   -- memory after it is the model's
   unfoldable pub memoryAfter : List ℕ
   memoryAfter = modelAfterAll (batchSemantics setup) setup (length ring) played memory .memory
 
-  -- the ring after it: batches are copied in by submit alone
+  -- the ring after it: batches are copied in by submit and by pieces alone
   unfoldable pub ringAfter : List ℕ
   ringAfter = stateAfter played (initialState setup ring memory) .ring
 

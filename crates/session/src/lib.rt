@@ -6,7 +6,7 @@ ghost use mathlib.Core.Path.{_≡_};
 ghost use Prim.Native.Nat.{_/_};
 ghost use lib.ListN.{length};
 ghost use Rattle.queue.specs.Answers.{refusalNumberOf, valueOf};
-ghost use Rattle.answers.specs.Answers.{shortAnswer, outcomeWords, Small};
+ghost use Rattle.answers.specs.Answers.{shortAnswer, pieceWords, outcomeWords, Small};
 ghost use Rattle.claims.specs.Engine.{mkState};
 ghost use Rattle.session.specs.Script.{decode};
 ghost use Rattle.session.specs.Parsing.{callOf, BatchInBounds};
@@ -32,6 +32,17 @@ fn step_of(reply: Reply) -> Step
     let engine = reply.engine;
     Step {
         words: answers::answer_words(answer),
+        engine: engine,
+    }
+}
+
+fn step_of_piece(reply: Reply) -> Step
+    ensures { λ r. ⌜ (r .words ≡ pieceWords (reply .answer)) × (r .engine ≡ reply .engine) ⌝ }
+{
+    let answer = reply.answer;
+    let engine = reply.engine;
+    Step {
+        words: answers::piece_words(answer),
         engine: engine,
     }
 }
@@ -73,6 +84,14 @@ fn play_call(
             words: answers::answer_words(engine::pending(engine, client)),
             engine: engine,
         },
+        Request::Begin(client, total) => step_of(engine::begin(engine, ring, client, total)),
+        Request::Piece(client, from, to) => step_of_piece(engine::piece(
+            engine,
+            ring,
+            client,
+            &bytes[from..to],
+        )),
+        Request::Cancel(client) => step_of(engine::cancel(engine, client)),
     }
 }
 

@@ -1,13 +1,18 @@
 // The calls of a script, one at a time.
-ghost use Rattle.session.specs.Script.{parseOpen, parseSubmit, parsePending, parseCall};
+ghost use mathlib.Core.Bool.{cond};
+ghost use Rattle.model.specs.Calls.{submit, pending, piece, cancel};
+ghost use Rattle.session.specs.Script.{parseOpen, parseBytes, parseClient, parseBegin, parseCall};
 ghost use Rattle.session.specs.Parsing.{ParsesAs};
 
-// A call, taken from bytes that begin with it. A batch is the bytes `from` to `to` of them.
+// A call, taken from bytes that begin with it. A batch or a piece is the bytes `from` to `to` of them.
 pub enum Request {
     Open(u32, u32),
     Submit(u32, usize, usize),
     Run,
     Pending(u32),
+    Begin(u32, usize),
+    Piece(u32, usize, usize),
+    Cancel(u32),
 }
 
 // A call, and how many bytes it takes.
@@ -36,9 +41,9 @@ fn open_in(bytes: &[u8]) -> Next
     })
 }
 
-// Submit: client, length and batch after the opcode. The length is read only where it is there.
-fn submit_in(bytes: &[u8]) -> Next
-    ensures { λ r. ⌜ ParsesAs (now (bytes .entry)) (parseSubmit (now (bytes .entry))) r ⌝ }
+// Submit, if `whole`, or a piece: client, length and bytes after the opcode. The length is read only where it is there.
+fn bytes_in(bytes: &[u8], whole: bool) -> Next
+    ensures { λ r. ⌜ ParsesAs (now (bytes .entry)) (parseBytes (cond whole submit piece) (now (bytes .entry))) r ⌝ }
 {
     if bytes.len() < 6 {
         return Next::End;
@@ -49,15 +54,20 @@ fn submit_in(bytes: &[u8]) -> Next
     }
     let client = bytes[1] as u32;
     let end = 6 + size;
+    let request = if whole {
+        Request::Submit(client, 6, end)
+    } else {
+        Request::Piece(client, 6, end)
+    };
     Next::Call(Found {
-        request: Request::Submit(client, 6, end),
+        request: request,
         size: end,
     })
 }
 
 // Pending: the client after the opcode.
 fn pending_in(bytes: &[u8]) -> Next
-    ensures { λ r. ⌜ ParsesAs (now (bytes .entry)) (parsePending (now (bytes .entry))) r ⌝ }
+    ensures { λ r. ⌜ ParsesAs (now (bytes .entry)) (parseClient pending (now (bytes .entry))) r ⌝ }
 {
     if bytes.len() < 2 {
         return Next::End;
@@ -65,6 +75,35 @@ fn pending_in(bytes: &[u8]) -> Next
     let client = bytes[1] as u32;
     Next::Call(Found {
         request: Request::Pending(client),
+        size: 2,
+    })
+}
+
+// Begin: client and total length after the opcode.
+fn begin_in(bytes: &[u8]) -> Next
+    ensures { λ r. ⌜ ParsesAs (now (bytes .entry)) (parseBegin (now (bytes .entry))) r ⌝ }
+{
+    if bytes.len() < 6 {
+        return Next::End;
+    }
+    let total = word::read_le32(bytes, 2) as usize;
+    let client = bytes[1] as u32;
+    Next::Call(Found {
+        request: Request::Begin(client, total),
+        size: 6,
+    })
+}
+
+// Cancel: the client after the opcode.
+fn cancel_in(bytes: &[u8]) -> Next
+    ensures { λ r. ⌜ ParsesAs (now (bytes .entry)) (parseClient cancel (now (bytes .entry))) r ⌝ }
+{
+    if bytes.len() < 2 {
+        return Next::End;
+    }
+    let client = bytes[1] as u32;
+    Next::Call(Found {
+        request: Request::Cancel(client),
         size: 2,
     })
 }
@@ -78,12 +117,15 @@ pub fn next_call(bytes: &[u8]) -> Next
     }
     match bytes[0] {
         0 => open_in(bytes),
-        1 => submit_in(bytes),
+        1 => bytes_in(bytes, true),
         2 => Next::Call(Found {
             request: Request::Run,
             size: 1,
         }),
         3 => pending_in(bytes),
+        4 => begin_in(bytes),
+        5 => bytes_in(bytes, false),
+        6 => cancel_in(bytes),
         _ => Next::End,
     }
 }

@@ -44,17 +44,21 @@ extern "C" {
  * Every call but wenditsal_play returns the refusal's number, 0 if it was accepted. A refused call leaves every byte of record, ring, memory and
  * buffer as it was, and writes zeros to what it would have answered. Of several refusals that hold, the first in this table is returned:
  *   11  set up           engine_size is not WENDITSAL_ENGINE_SIZE
- *   11  open, submit, run, pending
+ *   11  open, submit, begin, piece, cancel, run, pending
  *                        the engine record is none, or breaks a rule (below)
- *   10  submit, run      the ring (run: or the memory) is not of the length that was set up
+ *   10  submit, begin, piece, run
+ *                        the ring (run: or the memory) is not of the length that was set up
  *    1  set up           ring length 0, over 32,768, or no multiple of 128
  *    2  set up           memory length over 16,777,216, or common length over memory length
  *    3  open             four clients are open
  *    4  open             window empty, past memory's end, or sharing a byte with common or another window
- *    5  submit, pending  no such client
- *    6  submit           batch length 0, no multiple of 4, or over the ring length
- *    7  submit           no free slot: eight batches are ready
- *    8  submit           fewer free bytes in the ring than the batch has
+ *    5  submit, begin, piece, cancel, pending
+ *                        no such client
+ *   13  submit, begin    a batch is being handed over by pieces
+ *   14  piece, cancel    none is being handed over by this client, or the piece is longer than what is left of it
+ *    6  submit, begin    batch length 0, no multiple of 4, or over the ring length
+ *    7  submit, begin    no free slot: eight batches are ready
+ *    8  submit, begin    fewer free bytes in the ring than the batch has
  *    9  run              no batch is ready
  *   15  encode tint      score NaN or outside 0 to 1
  *   24  encode, encode shaded, encode tint
@@ -75,6 +79,8 @@ extern "C" {
 #define WENDITSAL_OTHER_LENGTH 10
 #define WENDITSAL_BAD_ENGINE 11
 #define WENDITSAL_SHORT_BUFFER 12
+#define WENDITSAL_HAND_OVER_OPEN 13
+#define WENDITSAL_NO_HAND_OVER 14
 #define WENDITSAL_BAD_SCORE 15
 #define WENDITSAL_FORBIDDEN_FIELD 24
 
@@ -140,14 +146,16 @@ extern "C" {
  *    8  four clients of four words each: window start, window length, batches ready, zero
  *   24  eight slots of five words each: 1 if a batch is ready in it and 0 if it is free, client, ticket, offset in the ring, length; of a free
  *       slot all five are zero
- *   64  four words that are zero
+ *   64  the batch that is being handed over by pieces: client, slot, total length, bytes so far; with none all four are zero
  * The words that are zero are kept for later, and a record in which one is not, or with a third reset rule, is none. A record has this one form:
  * two records are the same exactly if their bytes are. The three words of a client that is not open may be any.
  *
  * Its rules: the lengths and the open windows are such as set up and open accept; the read offset is a multiple of 4 below the ring length; the
  * ready batches lie end to end from it in the order of their tickets, their lengths such as submit accepts, in all no more than the ring, each
- * of an open client; their tickets follow each other up to the one before the next; each open client counts its ready batches. Every call
- * checks all of them. There is no checksum: a damaged record that keeps the rules is taken as it is.
+ * of an open client; their tickets follow each other up to the one before the next; each open client counts its ready batches; the batch
+ * that is being handed over is of an open client, its length such as submit accepts and with the others no more than the ring, its bytes so far
+ * fewer than that length, and its slot one of the eight that no ready batch has. Every call checks all of them. There is no checksum: a damaged
+ * record that keeps the rules is taken as it is.
  */
 #define WENDITSAL_ENGINE_SIZE 272
 
@@ -184,7 +192,7 @@ uint32_t wenditsal_open(uint8_t *engine, size_t engine_size, uint32_t start, uin
 /*
  * Copies a client's batch into the ring behind the newest one and makes it ready. Answers its ticket in *ticket: 0, 1, 2, .. in the order of
  * submission, going on from 4,294,967,295 to 0. What the batch says is not looked at until it is run, and it may be changed or freed at once.
- * Refusals: 11, 10, 5, 6, 7, 8.
+ * Refusals: 11, 10, 5, 13, 6, 7, 8.
  */
 uint32_t wenditsal_submit(
     uint8_t *engine,
@@ -195,6 +203,51 @@ uint32_t wenditsal_submit(
     const uint8_t *batch,
     size_t batch_size,
     uint32_t *ticket);
+
+/*
+ * Batches handed over by pieces, for clients with little memory: begin with the total length, then pieces of any length, zero too. The batch
+ * holds its slot and its room in the ring from the beginning on; the last piece makes it ready. One such hand-over at a time, whichever client's:
+ * meanwhile runs go on, and another begin or a submit is refused with 13. With no other call between, every cutting gives the record, the ring
+ * and the ticket that a whole submit gives.
+ */
+
+/*
+ * Begins a batch of `total` bytes. The ring is only asked for its length. Answers nothing.
+ * Refusals: 11, 10, 5, 13, 6, 7, 8.
+ */
+uint32_t wenditsal_begin(
+    uint8_t *engine,
+    size_t engine_size,
+    const uint8_t *ring,
+    size_t ring_size,
+    uint32_t client,
+    size_t total);
+
+/* What a piece answers: with last 0 the bytes still to come, with last 1 the batch's ticket. Two words of 32 bits, one after the other. */
+struct wenditsal_progress {
+    uint32_t last;
+    uint32_t value;
+};
+
+/*
+ * Copies the next piece of the client's batch into the ring; the piece that brings the last byte makes the batch ready, as submit does.
+ * Refusals: 11, 10, 5, 14.
+ */
+uint32_t wenditsal_piece(
+    uint8_t *engine,
+    size_t engine_size,
+    uint8_t *ring,
+    size_t ring_size,
+    uint32_t client,
+    const uint8_t *piece,
+    size_t piece_size,
+    struct wenditsal_progress *progress);
+
+/*
+ * Drops the client's unfinished batch and frees its slot and its room; the bytes that were copied stay in the ring. Answers nothing.
+ * Refusals: 11, 5, 14.
+ */
+uint32_t wenditsal_cancel(uint8_t *engine, size_t engine_size, uint32_t client);
 
 /* What run answers; fault and place are 0 without a fault. Five words of 32 bits, one after the other. */
 struct wenditsal_completion {
@@ -356,11 +409,15 @@ uint32_t wenditsal_inverse(uint32_t setting);
  *   0x01 submit   client u8, length u32, that many bytes
  *   0x02 run
  *   0x03 pending  client u8
+ *   0x04 begin    client u8, total length u32
+ *   0x05 piece    client u8, length u32, that many bytes
+ *   0x06 cancel   client u8
  * An unknown opcode, or a call that is cut short, ends the list.
  *
  * Every answer is six u32, little-endian: the refusal's number, 0 without one; then, by open: id; by submit: ticket; by run: client, ticket,
- * status, fault, place; by pending: count. Unused words are zero. The first answer is set up's own: if it is refused nothing is played, and with no
- * room for it nothing is set up and 0 is returned. A call whose answer would not fit is not played. 11 never comes.
+ * status, fault, place; by pending: count; by a piece: 0 and the bytes still to come, or, of the last, 1 and the ticket. Unused words are zero.
+ * The first answer is set up's own: if it is refused nothing is played, and with no room for it nothing is set up and 0 is returned. A call whose
+ * answer would not fit is not played. 11 never comes.
  */
 size_t wenditsal_play(
     size_t ring_length,

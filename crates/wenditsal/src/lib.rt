@@ -7,7 +7,7 @@ ghost use Rattle.orientation.specs.Compose.{compose, inverse};
 ghost use Rattle.orientation.specs.Bits.{settingOf, bitsOf};
 ghost use Rattle.encoder.specs.Encoder.{encodeRefusalOf, answerOf, bufferAfter};
 ghost use Rattle.session.specs.Played.{ScriptResult};
-ghost use Rattle.calls.specs.Calls.{SetsUp, Opens, Submits, Pends, Runs};
+ghost use Rattle.calls.specs.Calls.{SetsUp, Opens, Submits, Begins, HandsOver, Cancels, Pends, Runs};
 ghost use Rattle.tint.specs.Tint.{numberOf as tintNumber, answerOf as tintAnswer, bufferAfter as tintBuffer};
 use encoder::Fields;
 use encoder::SurfaceFields;
@@ -87,6 +87,37 @@ pub extern "C" fn wenditsal_submit(
         r (now (ticket .exit)) (now (engine .exit)) (now (ring .exit)) ⌝ }
 {
     calls::submit(engine, ring, client, batch, ticket)
+}
+
+// Begins a batch of a total length that a client hands over by pieces.
+#[no_mangle]
+pub extern "C" fn wenditsal_begin(engine: &mut [u8], ring: &[u8], client: u32, total: usize) -> u32
+    ensures { λ r. ⌜ Begins (now (engine .entry)) (now (ring .entry)) client total r (now (engine .exit)) ⌝ }
+{
+    calls::begin(engine, ring, client, total)
+}
+
+// Hands over a piece of it; answers 0 and the bytes still to come, or, of the last, 1 and the ticket. The header has these two as a structure.
+#[no_mangle]
+pub extern "C" fn wenditsal_piece(
+    engine: &mut [u8],
+    ring: &mut [u8],
+    client: u32,
+    piece: &[u8],
+    progress: &mut [u32; 2],
+) -> u32
+    ensures { λ r. ⌜ HandsOver (now (engine .entry)) (now (ring .entry)) client (now (piece .entry))
+        r (now (progress .exit)) (now (engine .exit)) (now (ring .exit)) ⌝ }
+{
+    calls::piece(engine, ring, client, piece, progress)
+}
+
+// Drops it.
+#[no_mangle]
+pub extern "C" fn wenditsal_cancel(engine: &mut [u8], client: u32) -> u32
+    ensures { λ r. ⌜ Cancels (now (engine .entry)) client r (now (engine .exit)) ⌝ }
+{
+    calls::cancel(engine, client)
 }
 
 // Takes the oldest batch; answers client, ticket, status, fault and place. The header has these five as a structure.

@@ -99,11 +99,14 @@ fn noise(trials: &mut Trials, random: &mut Random, _: u64) -> Agreed {
             damage(random, &mut buffers.engine);
         }
         let small = |random: &mut Random| if random.one_in(3) { random.word() } else { random.below(5) };
-        let call = match random.below(8) {
+        let call = match random.below(12) {
             0 => Call::Open { start: random.below(700), length: random.below(300) },
             1 => Call::Pending { client: small(random) },
             2..=4 => Call::Submit { client: small(random), batch: &batch[..batch.len() / 4 * 4] },
             5 => Call::Submit { client: 0, batch: &batch },
+            6 => Call::Begin { client: small(random) % 2, total: u64::from(small(random)) * 4 },
+            7 | 8 => Call::Piece { client: 0, piece: &batch[..batch.len().min(random.below(24) as usize)] },
+            9 => Call::Cancel { client: small(random) % 2 },
             _ => Call::Run,
         };
         trials.call(&call, &mut buffers)?;

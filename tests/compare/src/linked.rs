@@ -78,6 +78,28 @@ mod library {
             ticket: *mut u32,
         ) -> u32;
 
+        pub fn wenditsal_begin(
+            engine: *mut u8,
+            engine_size: usize,
+            ring: *const u8,
+            ring_size: usize,
+            client: u32,
+            total: usize,
+        ) -> u32;
+
+        pub fn wenditsal_piece(
+            engine: *mut u8,
+            engine_size: usize,
+            ring: *mut u8,
+            ring_size: usize,
+            client: u32,
+            piece: *const u8,
+            piece_size: usize,
+            progress: *mut u32,
+        ) -> u32;
+
+        pub fn wenditsal_cancel(engine: *mut u8, size: usize, client: u32) -> u32;
+
         pub fn wenditsal_run(
             engine: *mut u8,
             engine_size: usize,
@@ -137,6 +159,9 @@ mod library {
         wenditsal_set_up(*mut u8, usize, usize, usize, usize, u32) -> u32;
         wenditsal_open(*mut u8, usize, u32, u32, *mut u32) -> u32;
         wenditsal_submit(*mut u8, usize, *mut u8, usize, u32, *const u8, usize, *mut u32) -> u32;
+        wenditsal_begin(*mut u8, usize, *const u8, usize, u32, usize) -> u32;
+        wenditsal_piece(*mut u8, usize, *mut u8, usize, u32, *const u8, usize, *mut u32) -> u32;
+        wenditsal_cancel(*mut u8, usize, u32) -> u32;
         wenditsal_run(*mut u8, usize, *const u8, usize, *mut u8, usize, *mut u32) -> u32;
         wenditsal_pending(*const u8, usize, u32, *mut u32) -> u32;
         wenditsal_encode(HeaderFields, *mut u8, usize) -> u32;
@@ -190,7 +215,11 @@ const UNSET: u32 = 0xDEAD_BEEF;
 pub fn call(call: &Call, buffers: &mut Buffers, guards: usize) -> Option<Answer> {
     let [mut engine, mut ring, mut memory] =
         [&buffers.engine, &buffers.ring, &buffers.memory].map(|bytes| Lent::new(bytes, guards));
-    let count = if matches!(call, Call::Run) { 5 } else { 1 };
+    let count = match call {
+        Call::Run => 5,
+        Call::Piece { .. } => 2,
+        _ => 1,
+    };
     let mut values = Lent::new(&vec![UNSET; count], guards);
     let (record, size, handed_out) = (engine.pointer(), engine.length, values.pointer());
     // As above; a pointer without a size is good for as many words as the call answers.
@@ -212,6 +241,19 @@ pub fn call(call: &Call, buffers: &mut Buffers, guards: usize) -> Option<Answer>
                 library::wenditsal_run(record, size, ring, ring_size, memory.pointer(), memory.length, handed_out)
             }
             Call::Pending { client } => library::wenditsal_pending(record, size, client, handed_out),
+            Call::Begin { client, total } => {
+                handed_out.write(0);
+                library::wenditsal_begin(record, size, ring.pointer(), ring.length, client, total as usize)
+            }
+            Call::Piece { client, piece } => {
+                let mut piece = Lent::new(piece, guards);
+                let (bytes, length) = (piece.pointer(), piece.length);
+                library::wenditsal_piece(record, size, ring.pointer(), ring.length, client, bytes, length, handed_out)
+            }
+            Call::Cancel { client } => {
+                handed_out.write(0);
+                library::wenditsal_cancel(record, size, client)
+            }
         }
     };
     let values = values.returned()?;

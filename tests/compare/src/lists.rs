@@ -37,6 +37,9 @@ pub fn described(list: &List) -> Vec<String> {
             Call::Submit { client, batch } => format!("submit {client}, {} bytes", batch.len()),
             Call::Run => "run".into(),
             Call::Pending { client } => format!("pending {client}"),
+            Call::Begin { client, total } => format!("begin {client} {total}"),
+            Call::Piece { client, piece } => format!("piece {client}, {} bytes", piece.len()),
+            Call::Cancel { client } => format!("cancel {client}"),
         };
         lines.push(format!("answer {}: {call}", number + 1));
     }

@@ -141,5 +141,8 @@ fn name(call: &Call) -> &'static str {
         Call::Submit { .. } => "submit",
         Call::Run => "run",
         Call::Pending { .. } => "pending",
+        Call::Begin { .. } => "begin",
+        Call::Piece { .. } => "piece",
+        Call::Cancel { .. } => "cancel",
     }
 }

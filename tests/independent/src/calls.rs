@@ -1,6 +1,6 @@
 //! The engine's calls one at a time, as the header words them: the engine record is bytes that the caller lends, and so are
 //! the ring and the memory. A refused call changes none of them.
-use crate::engine::{Completion, Numbers, Refusal};
+use crate::engine::{Completion, Numbers, Progress, Refusal};
 use crate::queue::{self, Record};
 use crate::record_bytes;
 
@@ -20,6 +20,9 @@ pub enum Call<'a> {
     Submit { client: u32, batch: &'a [u8] },
     Run,
     Pending { client: u32 },
+    Begin { client: u32, total: u64 },
+    Piece { client: u32, piece: &'a [u8] },
+    Cancel { client: u32 },
 }
 
 /// The refusal's number or 0, and what else is handed out: zeros behind what the call answers, and by a refused one.
@@ -71,6 +74,14 @@ fn on_record(call: &Call, record: &mut Record, buffers: &mut Buffers) -> Answer 
         Call::Open { start, length } => Answer::of_one(record.open(start, length)),
         Call::Submit { client, batch } => Answer::of_one(record.submit(&mut buffers.ring, client, batch)),
         Call::Pending { client } => Answer::of_one(record.pending(client)),
+        Call::Begin { client, total } => Answer::of_one(record.begin(&buffers.ring, client, total).map(|()| 0)),
+        Call::Piece { client, piece } => {
+            Answer::of(record.piece(&mut buffers.ring, client, piece).map(|progress| match progress {
+                Progress::Missing(bytes) => [0, bytes, 0, 0, 0],
+                Progress::Accepted(ticket) => [1, ticket, 0, 0, 0],
+            }))
+        }
+        Call::Cancel { client } => Answer::of_one(record.cancel(client).map(|()| 0)),
         Call::Run => {
             let told = record.run(&buffers.ring, &mut buffers.memory);
             Answer::of(

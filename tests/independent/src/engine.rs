@@ -1,5 +1,5 @@
 //! The book (01, "The book of demand 3"): the engine as a list of windows, a list of waiting batches with their bytes, the
-//! number accepted, and memory. It knows no record, no slots and no ring bytes; a ring's are beside it, for comparing.
+//! hand-over that is open (02, 6), the number accepted, and memory. It knows no record, no slots and no ring bytes; a ring's are beside it, for comparing.
 use crate::batch::{self, Bounds};
 use crate::drawing;
 use crate::registers::{Bank, Task};
@@ -38,6 +38,21 @@ struct Waiting {
     bytes: Vec<u8>,
 }
 
+/// The open hand-over (02, 6): its client, its total length and the bytes so far.
+#[derive(Clone)]
+struct HandOver {
+    client: u32,
+    total: u64,
+    bytes: Vec<u8>,
+}
+
+/// What a piece answers.
+#[derive(Clone, Copy, Debug, PartialEq)]
+pub enum Progress {
+    Missing(u32),
+    Accepted(u32),
+}
+
 /// What run answers.
 #[derive(Clone, Copy, Debug, PartialEq)]
 pub struct Completion {
@@ -57,6 +72,7 @@ pub struct Book {
     lent_ring: u64,
     windows: Vec<Run>,
     waiting: VecDeque<Waiting>,
+    hand_over: Option<HandOver>,
     accepted: u64,
     pub memory: Vec<u8>,
     /// The tasks that rule 28 was asked about, for counting alone.
@@ -70,7 +86,7 @@ impl Book {
         }
         let (windows, waiting, asked) = (Vec::new(), VecDeque::new(), Vec::new());
         let (lent_ring, memory) = (lent_ring as u64, memory.to_vec());
-        Ok(Book { numbers, reset, lent_ring, windows, waiting, accepted: 0, memory, asked })
+        Ok(Book { numbers, reset, lent_ring, windows, waiting, hand_over: None, accepted: 0, memory, asked })
     }
 
     /// The windows in the order of opening.
@@ -102,14 +118,17 @@ impl Book {
         (client as usize) < self.windows.len()
     }
 
-    /// The first of 10 and 5 to 8 that a submit breaks.
+    /// The first of 10, 5, 13 and 6 to 8 that a submit or a begin breaks. An open hand-over counts as a waiting batch.
     fn submit_refusal(&self, client: u32, length: u64) -> Option<Refusal> {
-        let taken: u64 = self.waiting.iter().map(|batch| batch.bytes.len() as u64).sum();
+        let open = self.hand_over.iter();
+        let waiting = self.waiting.iter().map(|batch| batch.bytes.len() as u64);
+        let taken: u64 = waiting.chain(open.clone().map(|one| one.total)).sum();
         let broken = [
             (10, self.lent_ring != self.numbers.ring),
             (5, !self.is_open(client)),
+            (13, self.hand_over.is_some()),
             (6, length == 0 || length % 4 != 0 || length > self.numbers.ring),
-            (7, self.waiting.len() == MOST_WAITING),
+            (7, self.waiting.len() + open.count() >= MOST_WAITING),
             (8, self.numbers.ring - taken < length),
         ];
         broken.iter().find(|(_, holds)| *holds).map(|(number, _)| *number)
@@ -120,10 +139,51 @@ impl Book {
         if let Some(number) = self.submit_refusal(client, bytes.len() as u64) {
             return Err(number);
         }
+        Ok(self.accept(client, bytes.to_vec()))
+    }
+
+    fn accept(&mut self, client: u32, bytes: Vec<u8>) -> u32 {
         let ticket = (self.accepted % (1 << 32)) as u32;
-        self.waiting.push_back(Waiting { client, ticket, bytes: bytes.to_vec() });
+        self.waiting.push_back(Waiting { client, ticket, bytes });
         self.accepted += 1;
-        Ok(ticket)
+        ticket
+    }
+
+    pub fn begin(&mut self, client: u32, total: u64) -> Result<(), Refusal> {
+        if let Some(number) = self.submit_refusal(client, total) {
+            return Err(number);
+        }
+        self.hand_over = Some(HandOver { client, total, bytes: Vec::new() });
+        Ok(())
+    }
+
+    /// The client's own hand-over: 5, 14.
+    fn own(&mut self, client: u32) -> Result<HandOver, Refusal> {
+        if !self.is_open(client) {
+            return Err(5);
+        }
+        self.hand_over.clone().filter(|one| one.client == client).ok_or(14)
+    }
+
+    pub fn piece(&mut self, client: u32, piece: &[u8]) -> Result<Progress, Refusal> {
+        if self.lent_ring != self.numbers.ring {
+            return Err(10);
+        }
+        let mut one = self.own(client)?;
+        one.bytes.extend(piece);
+        let left = one.total.checked_sub(one.bytes.len() as u64).ok_or(14u32)?;
+        if left > 0 {
+            self.hand_over = Some(one);
+            return Ok(Progress::Missing(left as u32));
+        }
+        self.hand_over = None;
+        Ok(Progress::Accepted(self.accept(client, one.bytes)))
+    }
+
+    pub fn cancel(&mut self, client: u32) -> Result<(), Refusal> {
+        self.own(client)?;
+        self.hand_over = None;
+        Ok(())
     }
 
     pub fn run(&mut self) -> Result<Completion, Refusal> {
@@ -152,23 +212,43 @@ pub struct RingBytes {
     pub bytes: Vec<u8>,
     read: usize,
     lengths: VecDeque<usize>,
+    /// Bytes so far of the open hand-over.
+    so_far: usize,
 }
 
 impl RingBytes {
     pub fn new(bytes: &[u8]) -> Self {
-        RingBytes { bytes: bytes.to_vec(), read: 0, lengths: VecDeque::new() }
+        RingBytes { bytes: bytes.to_vec(), read: 0, lengths: VecDeque::new(), so_far: 0 }
     }
 
     /// An accepted batch is copied in after the newest. Whether it went on at byte 0.
     pub fn copy_in(&mut self, batch: &[u8]) -> bool {
-        let mut at = (self.read + self.lengths.iter().sum::<usize>()) % self.bytes.len();
-        let wraps = at + batch.len() > self.bytes.len();
-        for byte in batch {
+        let wraps = self.copy_piece(batch);
+        self.finish();
+        wraps
+    }
+
+    /// An accepted piece is copied in behind those before it. Whether it went on at byte 0.
+    pub fn copy_piece(&mut self, piece: &[u8]) -> bool {
+        let mut at = (self.read + self.lengths.iter().sum::<usize>() + self.so_far) % self.bytes.len();
+        let wraps = at + piece.len() > self.bytes.len();
+        for byte in piece {
             self.bytes[at] = *byte;
             at = if at + 1 == self.bytes.len() { 0 } else { at + 1 };
         }
-        self.lengths.push_back(batch.len());
+        self.so_far += piece.len();
         wraps
+    }
+
+    /// The bytes so far are a batch.
+    pub fn finish(&mut self) {
+        self.lengths.push_back(self.so_far);
+        self.so_far = 0;
+    }
+
+    /// They are dropped, and stay where they are.
+    pub fn cancel(&mut self) {
+        self.so_far = 0;
     }
 
     /// A run moves the read offset past its batch and changes no byte.
@@ -200,6 +280,31 @@ mod tests {
         assert_eq!(book.run(), Err(9));
         assert_eq!((book.submit(0, &[0; 124]), book.submit(0, &[0; 8]), book.submit(0, &[0; 4])), (Ok(0), Err(8), Ok(1)));
         assert_eq!((book.pending(0), book.pending(1)), (Ok(2), Err(5)));
+    }
+
+    /// 13 and 14; a run goes on meanwhile, and a batch by pieces gets its ticket with its last byte.
+    #[test]
+    fn pieces() {
+        let mut book = book(UNBLENDED);
+        assert_eq!(book.open(28672, 64), Ok(1));
+        assert_eq!(book.submit(1, &[0; 4]), Ok(0));
+        assert_eq!(
+            (book.begin(2, 8), book.begin(0, 6), book.begin(0, 128), book.begin(0, 8)),
+            (Err(5), Err(6), Err(8), Ok(()))
+        );
+        assert_eq!((book.begin(0, 8), book.submit(1, &[])), (Err(13), Err(13)));
+        assert_eq!((book.piece(1, &[]), book.piece(2, &[]), book.piece(0, &[0; 9])), (Err(14), Err(5), Err(14)));
+        assert_eq!((book.piece(0, &[1; 5]), book.pending(0)), (Ok(Progress::Missing(3)), Ok(0)));
+        assert_eq!(book.run().map(|done| done.ticket), Ok(0));
+        assert_eq!(
+            (book.run(), book.piece(0, &[]), book.piece(0, &[1; 3])),
+            (Err(9), Ok(Progress::Missing(3)), Ok(Progress::Accepted(1)))
+        );
+        assert_eq!((book.pending(0), book.cancel(0), book.piece(0, &[])), (Ok(1), Err(14), Err(14)));
+        assert_eq!(
+            (book.begin(1, 4), book.cancel(0), book.cancel(1), book.submit(1, &[0; 4])),
+            (Ok(()), Err(14), Ok(()), Ok(2))
+        );
     }
 
     #[test]

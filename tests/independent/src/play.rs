@@ -1,8 +1,8 @@
 //! A list of calls played on the book. A list is bytes, numbers little-endian, nothing between them: 0 open (start, length:
-//! a word each); 1 submit (client: a byte; length: a word; as many bytes); 2 run; 3 pending (client: a byte). An unknown
-//! call, or one cut short, ends the list. Every answer is six words: the refusal's number or 0, then what the call
+//! a word each); 1 submit (client: a byte; length: a word; as many bytes); 2 run; 3 pending (client: a byte); 4 begin
+//! (client: a byte; total: a word); 5 piece (as submit); 6 cancel (client: a byte). An unknown call, or one cut short, ends the list. Every answer is six words: the refusal's number or 0, then what the call
 //! answers, then zeros; the first is set up's own. A call whose answer has no room is not played.
-use crate::engine::{Book, Numbers, Refusal, RingBytes};
+use crate::engine::{Book, Numbers, Progress, Refusal, RingBytes};
 use crate::registers::Task;
 use crate::words::read_le32;
 
@@ -14,6 +14,9 @@ pub enum Call<'a> {
     Submit { client: u8, batch: &'a [u8] },
     Run,
     Pending { client: u8 },
+    Begin { client: u8, total: u32 },
+    Piece { client: u8, piece: &'a [u8] },
+    Cancel { client: u8 },
 }
 
 /// The calls of a script, until it ends, is cut short or names an unknown call.
@@ -31,6 +34,12 @@ impl<'a> Calls<'a> {
             }
             2 => Some((Call::Run, 1)),
             3 => Some((Call::Pending { client: *bytes.get(1)? }, 2)),
+            4 => Some((Call::Begin { total: read_le32(bytes, 2)?, client: bytes[1] }, 6)),
+            5 => {
+                let end = 6 + read_le32(bytes, 2)? as usize;
+                Some((Call::Piece { client: bytes[1], piece: bytes.get(6..end)? }, end))
+            }
+            6 => Some((Call::Cancel { client: *bytes.get(1)? }, 2)),
             _ => None,
         }
     }
@@ -105,6 +114,23 @@ fn called(call: Call, book: &mut Book, ring: &mut RingBytes, wraps: &mut usize) 
             Ok([done.client, done.ticket, done.status, done.fault, done.place])
         }
         Call::Pending { client } => book.pending(client.into()).map(alone),
+        Call::Begin { client, total } => book.begin(client.into(), total.into()).map(|()| [0; 5]),
+        Call::Piece { client, piece } => {
+            let progress = book.piece(client.into(), piece)?;
+            *wraps += usize::from(ring.copy_piece(piece));
+            Ok(match progress {
+                Progress::Missing(bytes) => [0, bytes, 0, 0, 0],
+                Progress::Accepted(ticket) => {
+                    ring.finish();
+                    [1, ticket, 0, 0, 0]
+                }
+            })
+        }
+        Call::Cancel { client } => {
+            book.cancel(client.into())?;
+            ring.cancel();
+            Ok([0; 5])
+        }
     }
 }
 

@@ -1,7 +1,7 @@
 //! The engine record, its rules, and the calls on it (01, "Engine, desks, queue").
 use crate::batch::Bounds;
 use crate::drawing;
-use crate::engine::{Completion, Numbers, Refusal};
+use crate::engine::{Completion, Numbers, Progress, Refusal};
 use crate::registers::{SRC_OVER, UNBLENDED};
 use crate::ring;
 use crate::surface::{run, shares, Run};
@@ -24,6 +24,15 @@ pub struct Ready {
     pub length: u64,
 }
 
+/// The unfinished batch (02, 6).
+#[derive(Clone, Copy, Debug, PartialEq)]
+pub struct Unfinished {
+    pub client: u32,
+    pub slot: u64,
+    pub total: u64,
+    pub so_far: u64,
+}
+
 #[derive(Clone, Debug, PartialEq)]
 pub struct Record {
     pub numbers: Numbers,
@@ -34,6 +43,7 @@ pub struct Record {
     pub slots: [Option<Ready>; SLOTS],
     pub read: u64,
     pub next: u32,
+    pub unfinished: Option<Unfinished>,
 }
 
 /// The record of an accepted set up.
@@ -43,7 +53,7 @@ pub fn set_up(numbers: Numbers, reset: u32) -> Result<Record, Refusal> {
     }
     let clients = [Client::default(); PLACES];
     let reset = if reset == UNBLENDED { UNBLENDED } else { SRC_OVER };
-    Ok(Record { numbers, reset, clients, open: 0, slots: [None; SLOTS], read: 0, next: 0 })
+    Ok(Record { numbers, reset, clients, open: 0, slots: [None; SLOTS], read: 0, next: 0, unfinished: None })
 }
 
 /// 6.
@@ -98,6 +108,23 @@ impl Record {
         self.slots.iter().flatten().filter(|ready| ready.client == client).count() as u32
     }
 
+    /// Ring bytes of the ready batches.
+    fn ready_bytes(&self) -> u64 {
+        self.slots.iter().flatten().map(|ready| ready.length).sum()
+    }
+
+    /// The rules of the unfinished batch, in a record whose ready batches keep theirs.
+    fn unfinished_is_valid(&self) -> bool {
+        self.unfinished.map_or(true, |one| {
+            let held = usize::try_from(one.slot).ok().and_then(|slot| self.slots.get(slot));
+            u64::from(one.client) < self.open
+                && !bad_length(self.numbers, one.total)
+                && one.total <= self.numbers.ring - self.ready_bytes()
+                && one.so_far < one.total
+                && held == Some(&None)
+        })
+    }
+
     /// The record rules.
     fn is_valid(&self) -> bool {
         if self.numbers.refusal().is_some() || self.open > PLACES as u64 {
@@ -109,7 +136,7 @@ impl Record {
         let Some(waiting) = self.waiting() else { return false };
         let owned = waiting.iter().all(|ready| u64::from(ready.client) < self.open);
         let counted = (0..clients).all(|client| self.clients[client].pending == self.count_of(client as u32));
-        windows && read && owned && counted && self.lies_end_to_end(&waiting)
+        windows && read && owned && counted && self.lies_end_to_end(&waiting) && self.unfinished_is_valid()
     }
 
     /// The client's id.
@@ -129,8 +156,8 @@ impl Record {
         Ok(client as u32)
     }
 
-    /// The ticket. The batch is copied into the ring after the newest one.
-    pub fn submit(&mut self, lent: &mut Vec<u8>, client: u32, batch: &[u8]) -> Result<u32, Refusal> {
+    /// What submit and begin ask of a batch; the slot that it gets.
+    fn admitted(&self, lent: &[u8], client: u32, length: u64) -> Result<usize, Refusal> {
         if !self.is_valid() {
             return Err(11);
         }
@@ -140,22 +167,82 @@ impl Record {
         if u64::from(client) >= self.open {
             return Err(5);
         }
-        let length = batch.len() as u64;
+        if self.unfinished.is_some() {
+            return Err(13);
+        }
         if bad_length(self.numbers, length) {
             return Err(6);
         }
         let slot = self.slots.iter().position(Option::is_none).ok_or(7u32)?;
-        let taken: u64 = self.slots.iter().flatten().map(|ready| ready.length).sum();
-        if self.numbers.ring - taken < length {
+        if self.numbers.ring - self.ready_bytes() < length {
             return Err(8);
         }
-        let offset = (self.read + taken) % self.numbers.ring;
-        *lent = ring::copied(lent, offset, batch).expect("a batch in the ring");
+        Ok(slot)
+    }
+
+    /// Where the next batch goes, ready or unfinished.
+    fn write_offset(&self) -> u64 {
+        (self.read + self.ready_bytes()) % self.numbers.ring
+    }
+
+    /// A batch of that length is ready in the slot; its ticket.
+    fn accept(&mut self, slot: usize, client: u32, length: u64) -> u32 {
         let ticket = self.next;
-        self.slots[slot] = Some(Ready { client, ticket, offset, length });
+        self.slots[slot] = Some(Ready { client, ticket, offset: self.write_offset(), length });
         self.next = ticket.wrapping_add(1);
         self.clients[client as usize].pending += 1;
-        Ok(ticket)
+        ticket
+    }
+
+    /// The ticket. The batch is copied into the ring after the newest one.
+    pub fn submit(&mut self, lent: &mut Vec<u8>, client: u32, batch: &[u8]) -> Result<u32, Refusal> {
+        let length = batch.len() as u64;
+        let slot = self.admitted(lent, client, length)?;
+        *lent = ring::copied(lent, self.write_offset(), batch).expect("a batch in the ring");
+        Ok(self.accept(slot, client, length))
+    }
+
+    pub fn begin(&mut self, lent: &[u8], client: u32, total: u64) -> Result<(), Refusal> {
+        let slot = self.admitted(lent, client, total)? as u64;
+        self.unfinished = Some(Unfinished { client, slot, total, so_far: 0 });
+        Ok(())
+    }
+
+    /// The client's own unfinished batch: 5, 14.
+    fn own(&self, client: u32) -> Result<Unfinished, Refusal> {
+        if u64::from(client) >= self.open {
+            return Err(5);
+        }
+        self.unfinished.filter(|one| one.client == client).ok_or(14)
+    }
+
+    pub fn piece(&mut self, lent: &mut Vec<u8>, client: u32, piece: &[u8]) -> Result<Progress, Refusal> {
+        if !self.is_valid() {
+            return Err(11);
+        }
+        if lent.len() as u64 != self.numbers.ring {
+            return Err(10);
+        }
+        let one = self.own(client)?;
+        let so_far = one.so_far + piece.len() as u64;
+        let left = one.total.checked_sub(so_far).ok_or(14u32)?;
+        let offset = (self.write_offset() + one.so_far) % self.numbers.ring;
+        *lent = ring::copied(lent, offset, piece).expect("a piece in the ring");
+        if left > 0 {
+            self.unfinished = Some(Unfinished { so_far, ..one });
+            return Ok(Progress::Missing(left as u32));
+        }
+        self.unfinished = None;
+        Ok(Progress::Accepted(self.accept(one.slot as usize, client, one.total)))
+    }
+
+    pub fn cancel(&mut self, client: u32) -> Result<(), Refusal> {
+        if !self.is_valid() {
+            return Err(11);
+        }
+        self.own(client)?;
+        self.unfinished = None;
+        Ok(())
     }
 
     pub fn pending(&self, client: u32) -> Result<u32, Refusal> {
@@ -214,6 +301,23 @@ mod tests {
         assert_eq!(record.open(1000, 0), Err(4));
         assert_eq!(set_up(Numbers { ring: 100, memory: 0, common: 1 }, SRC_OVER), Err(1));
         assert_eq!(set_up(Numbers { ring: 128, memory: 0, common: 1 }, SRC_OVER), Err(2));
+    }
+
+    /// Any cutting gives record, ring and ticket of a whole submit.
+    #[test]
+    fn cuttings() {
+        let batch: Vec<u8> = (0..24).collect();
+        let mut whole = record();
+        whole.read = 120;
+        let mut by_pieces = whole.clone();
+        let (mut one, mut other) = (vec![7; 128], vec![7; 128]);
+        assert_eq!(whole.submit(&mut one, 1, &batch), Ok(0));
+        assert_eq!(by_pieces.begin(&other, 1, 24), Ok(()));
+        assert_eq!(by_pieces.piece(&mut other, 1, &batch[..5]), Ok(Progress::Missing(19)));
+        assert_eq!(by_pieces.piece(&mut other, 1, &[]), Ok(Progress::Missing(19)));
+        assert_eq!((by_pieces.piece(&mut other, 0, &[]), by_pieces.cancel(0)), (Err(14), Err(14)));
+        assert_eq!(by_pieces.piece(&mut other, 1, &batch[5..]), Ok(Progress::Accepted(0)));
+        assert_eq!((whole, one), (by_pieces, other));
     }
 
     #[test]

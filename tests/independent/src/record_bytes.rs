@@ -1,6 +1,6 @@
 //! The engine record as bytes, from the header's words: 68 words of 32 bits, low byte first.
 use crate::engine::Numbers;
-use crate::queue::{Client, Ready, Record};
+use crate::queue::{Client, Ready, Record, Unfinished};
 use crate::registers::{SRC_OVER, UNBLENDED};
 use crate::words::read_le32;
 
@@ -18,8 +18,11 @@ const SLOT: usize = 5;
 /// The word of the reset rule.
 const RESET: usize = 3;
 
-/// Words that must be zero: in the head, at the end of each client, and after the slots.
-const ZERO: [usize; 9] = [7, 11, 15, 19, 23, 64, 65, 66, 67];
+/// The words of the unfinished batch.
+const UNFINISHED: usize = 64;
+
+/// Words that must be zero: in the head, and at the end of each client.
+const ZERO: [usize; 5] = [7, 11, 15, 19, 23];
 
 /// The record that bytes stand for, if they are one, valid or not.
 pub fn read(bytes: &[u8]) -> Option<Record> {
@@ -41,7 +44,8 @@ pub fn read(bytes: &[u8]) -> Option<Record> {
     };
     let [ring, memory, common, open, read] = [0, 1, 2, 4, 5].map(|at| u64::from(word(at)));
     let numbers = Numbers { ring, memory, common };
-    Some(Record { numbers, reset, clients: std::array::from_fn(client), open, slots, read, next: word(6) })
+    let unfinished = read_unfinished(std::array::from_fn(|k| word(UNFINISHED + k)));
+    Some(Record { numbers, reset, clients: std::array::from_fn(client), open, slots, read, next: word(6), unfinished })
 }
 
 /// A slot of its five words: 1 and its batch if it is ready, all zero if it is free. Nothing if they are neither.
@@ -53,6 +57,13 @@ fn read_slot(words: [u32; SLOT]) -> Option<Option<Ready>> {
         [0, 0, 0, 0, 0] => Some(None),
         _ => None,
     }
+}
+
+/// The unfinished batch of its four words, none if all are zero. One of length 0 breaks a rule whatever the others say.
+fn read_unfinished(words: [u32; 4]) -> Option<Unfinished> {
+    let [client, slot, total, so_far] = words;
+    let one = Unfinished { client, slot: slot.into(), total: total.into(), so_far: so_far.into() };
+    (words != [0; 4]).then_some(one)
 }
 
 /// The bytes of a record whose numbers fit in words, as those of every valid record do.
@@ -69,7 +80,11 @@ pub fn written(record: &Record) -> Vec<u8> {
             }),
         );
     }
-    words.extend([0; 4]);
+    words.extend(
+        record
+            .unfinished
+            .map_or([0; 4], |Unfinished { client, slot, total, so_far }| [client, word(slot), word(total), word(so_far)]),
+    );
     words.iter().flat_map(|word| word.to_le_bytes()).collect()
 }
 

@@ -85,7 +85,41 @@ impl Script<'_> {
         let reset = if self.random.one_in(8) { 1 - self.reset.min(1) } else { self.reset };
         let batch = made_batches::batch(self.random, &bounds, room, reset);
         let batch = self.with_odd_length(batch);
+        if self.random.one_in(4) {
+            return self.hand_over(client, &batch);
+        }
         self.call(1, &[&[client], &(batch.len() as u32).to_le_bytes(), &batch]);
+    }
+
+    /// The batch by pieces, zero ones too, with other calls between: now and then too long, another client's, cancelled or abandoned.
+    fn hand_over(&mut self, client: u8, batch: &[u8]) {
+        if self.random.one_in(3) {
+            // One that this client abandoned ends here.
+            self.call(6, &[&[client]]);
+        }
+        self.call(4, &[&[client], &(batch.len() as u32).to_le_bytes()]);
+        let mut rest = batch;
+        while !rest.is_empty() {
+            match self.random.below(24) {
+                0 => return self.call(6, &[&[client]]),
+                1 => return,
+                2 => self.call(2, &[]),
+                3 => self.pending(),
+                4 => self.piece(client, &vec![7; rest.len() + 1]),
+                5 => self.piece(client.wrapping_add(1), &rest[..1]),
+                6 => self.call(6, &[&[client.wrapping_add(1)]]),
+                _ => {
+                    let taken = self.random.below(rest.len() as u32 + 1) as usize;
+                    let taken = if self.random.one_in(3) { rest.len() } else { taken };
+                    self.piece(client, &rest[..taken]);
+                    rest = &rest[taken..];
+                }
+            }
+        }
+    }
+
+    fn piece(&mut self, client: u8, piece: &[u8]) {
+        self.call(5, &[&[client], &(piece.len() as u32).to_le_bytes(), piece]);
     }
 
     fn unknown_client(&mut self) -> u8 {
@@ -128,7 +162,7 @@ impl Script<'_> {
     fn end(&mut self) {
         match self.random.below(16) {
             0 => {
-                let unknown = self.random.pick(&[4, 5, 128, 255]);
+                let unknown = self.random.pick(&[7, 8, 128, 255]);
                 self.bytes.extend([unknown, 2, 2]);
             }
             1 => {

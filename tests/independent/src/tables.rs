@@ -46,6 +46,13 @@ fn buffers(clients: u32, batches: usize) -> Buffers {
     buffers
 }
 
+/// Four clients, seven batches, and four bytes that client 0 hands over: no slot is free.
+fn handing_over() -> Buffers {
+    let mut buffers = buffers(4, 7);
+    assert_eq!(call(&Call::Begin { client: 0, total: 4 }, &mut buffers).number, 0);
+    buffers
+}
+
 fn number(asked: &Call, mut on: Buffers) -> u32 {
     call(asked, &mut on).number
 }
@@ -54,24 +61,40 @@ fn number(asked: &Call, mut on: Buffers) -> u32 {
 fn refusals() -> Vec<String> {
     let none = || Buffers { engine: vec![0; 272], ..buffers(0, 0) };
     let no_room = || Buffers { engine: vec![], ..buffers(0, 0) };
-    let other_ring = |clients, batches| Buffers { ring: vec![0; 64], ..buffers(clients, batches) };
+    let other_ring = |on: Buffers| Buffers { ring: vec![0; 64], ..on };
     let set_up = |ring| Call::SetUp(Numbers { ring, memory: 1 << 25, common: 0 }, SRC_OVER);
     let open = Call::Open { start: 0, length: 1 };
-    let submit = |client, batch| Call::Submit { client, batch };
+    let submit = |client, length: usize| Call::Submit { client, batch: &[0; 20][..length] };
+    let begin = |client, length: usize| Call::Begin { client, total: length as u64 };
+    let piece = |client| Call::Piece { client, piece: &[0; 20] };
+    let cancel = |client| Call::Cancel { client };
     let pending = Call::Pending { client: 4 };
-    let of_submit = [
-        number(&submit(4, &[]), none()),
-        number(&submit(4, &[]), other_ring(4, 8)),
-        number(&submit(4, &[]), buffers(4, 8)),
-        number(&submit(0, &[]), buffers(4, 8)),
-        number(&submit(0, &[0; 20]), buffers(4, 8)),
-        number(&submit(0, &[0; 20]), buffers(4, 7)),
+    let of_batch = |asked: &dyn Fn(u32, usize) -> Call<'static>| {
+        [
+            number(&asked(4, 0), none()),
+            number(&asked(4, 0), other_ring(handing_over())),
+            number(&asked(4, 0), handing_over()),
+            number(&asked(0, 0), handing_over()),
+            number(&asked(0, 0), buffers(4, 8)),
+            number(&asked(0, 20), buffers(4, 8)),
+            number(&asked(0, 20), buffers(4, 7)),
+        ]
+    };
+    let of_piece = [
+        number(&piece(4), none()),
+        number(&piece(4), other_ring(handing_over())),
+        number(&piece(4), handing_over()),
+        number(&piece(0), handing_over()),
     ];
-    let of_run = [none(), other_ring(0, 0), buffers(0, 0)].map(|on| number(&Call::Run, on));
+    let of_cancel = [number(&cancel(4), none()), number(&cancel(4), handing_over()), number(&cancel(1), handing_over())];
+    let of_run = [none(), other_ring(buffers(0, 0)), buffers(0, 0)].map(|on| number(&Call::Run, on));
     vec![
         refusal_line("set up", &[number(&set_up(0), no_room()), number(&set_up(0), none()), number(&set_up(128), none())]),
         refusal_line("open", &[none(), buffers(4, 0), buffers(3, 0)].map(|on| number(&open, on))),
-        refusal_line("submit", &of_submit),
+        refusal_line("submit", &of_batch(&submit)),
+        refusal_line("begin", &of_batch(&begin)),
+        refusal_line("piece", &of_piece),
+        refusal_line("cancel", &of_cancel),
         refusal_line("run", &of_run),
         refusal_line("pending", &[none(), buffers(4, 0)].map(|on| number(&pending, on))),
         refusal_line("encode", &[8192, 1].map(|width| encode(width, 0))),

@@ -17,6 +17,9 @@ enum-known-answer-3 c = search needs
 enum-known-answer-4 : tie.Need-enum-known-answer-4
 enum-known-answer-4 c = search needs
 
+enum-known-answer-5 : tie.Need-enum-known-answer-5
+enum-known-answer-5 c = search needs
+
 returns : tie.Need-returns
 returns c = rw (c .before .answer .given .1)
 
@@ -32,6 +35,9 @@ returns-4 c = rw (c .before .answer3 .given .1)
 returns-5 : tie.Need-returns-5
 returns-5 c = rw (c .before .answer4 .given .1)
 
+returns-6 : tie.Need-returns-6
+returns-6 c = rw (c .before .answer5 .given .1)
+
 pub answer-words-spec : {M : Type 1} → statement M
 answer-words-spec =
     tie.close
@@ -41,8 +47,10 @@ answer-words-spec =
     enum-known-answer-2
     enum-known-answer-3
     enum-known-answer-4
+    enum-known-answer-5
     returns
     returns-2
     returns-3
     returns-4
-    returns-5)
+    returns-5
+    returns-6)

@@ -2,14 +2,14 @@ use borrow.Author.Needs.{needs}
 use Rattle.engine.proofs.oldest_slot.Statement.{statement}
 use Rattle.engine.proofs.oldest_slot.Tie as tie
 
-taken-slots-requires : tie.Need-taken-slots-requires
-taken-slots-requires c κs = search needs
+ready-slots-requires : tie.Need-ready-slots-requires
+ready-slots-requires c κs = search needs
 
 slot-of-age-requires : tie.Need-slot-of-age-requires
 slot-of-age-requires c κs = search needs
 
 returns : tie.Need-returns
-returns c = (rw (c .slot-of-age .ensures, c .before .taken-slots .ensures .0), c .before .taken-slots .ensures .2)
+returns c = (rw (c .slot-of-age .ensures, c .before .ready-slots .ensures .0), c .before .ready-slots .ensures .2)
 
 pub oldest-slot-spec : {M : Type 1} → statement M
-oldest-slot-spec = tie.close (tie.spec taken-slots-requires slot-of-age-requires returns)
+oldest-slot-spec = tie.close (tie.spec ready-slots-requires slot-of-age-requires returns)

@@ -3,8 +3,8 @@ use borrow.Author.Needs.{needs}
 use Rattle.engine.proofs.run_refusal.Statement.{statement}
 use Rattle.engine.proofs.run_refusal.Tie as tie
 
-taken-slots-requires : tie.Need-taken-slots-requires
-taken-slots-requires c κs = search needs
+ready-slots-requires : tie.Need-ready-slots-requires
+ready-slots-requires c κs = search needs
 
 first-refusal-requires : tie.Need-first-refusal-requires
 first-refusal-requires c κs = search needs
@@ -20,13 +20,13 @@ first-refusal-requires-3 c κs = search needs
 
 returns : tie.Need-returns
 unfolding firstRefusal
-returns c = rw (c .first-refusal3 .ensures, c .before .is-valid .ensures, c .before .before .first-refusal2 .ensures, c .before .before .before .first-refusal .ensures, c .before .before .before .before .taken-slots .ensures .0)
+returns c = rw (c .first-refusal3 .ensures, c .before .is-valid .ensures, c .before .before .first-refusal2 .ensures, c .before .before .before .first-refusal .ensures, c .before .before .before .before .ready-slots .ensures .0)
 
 pub run-refusal-spec : {M : Type 1} → statement M
 run-refusal-spec =
     tie.close
     (tie.spec
-    taken-slots-requires
+    ready-slots-requires
     first-refusal-requires
     first-refusal-requires-2
     is-valid-requires

@@ -1,11 +1,14 @@
-use mathlib.Core.Path.{refl}
+use borrow.Author.Needs.{needs}
 use Rattle.queue.specs.Calls.{initialRecord}
 use Rattle.queue.proofs.fresh_record.Statement.{statement}
 use Rattle.queue.proofs.fresh_record.Tie as tie
 
+no-staged-requires : tie.Need-no-staged-requires
+no-staged-requires c κs = search needs
+
 returns : tie.Need-returns
 unfolding initialRecord
-returns c = refl
+returns c = rw (c .no-staged .ensures)
 
 pub fresh-record-spec : {M : Type 1} → statement M
-fresh-record-spec = tie.close (tie.spec returns)
+fresh-record-spec = tie.close (tie.spec no-staged-requires returns)

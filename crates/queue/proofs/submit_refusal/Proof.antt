@@ -21,7 +21,7 @@ taken-slots-requires : tie.Need-taken-slots-requires
 taken-slots-requires c κs = search needs
 
 free-bytes-requires : tie.Need-free-bytes-requires
-free-bytes-requires c κs = (right (c .before .before .before), rw (c .taken-slots .ensures .0) at (c .taken-slots .ensures .1))
+free-bytes-requires c κs = (right (c .before .before .before), c .taken-slots .ensures .1)
 
 first-refusal-requires : tie.Need-first-refusal-requires
 first-refusal-requires c κs = search needs
@@ -44,9 +44,12 @@ first-refusal-requires-4 c κs = search needs
 first-refusal-requires-5 : tie.Need-first-refusal-requires-5
 first-refusal-requires-5 c κs = search needs
 
+first-refusal-requires-6 : tie.Need-first-refusal-requires-6
+first-refusal-requires-6 c κs = search needs
+
 returns-2 : tie.Need-returns-2
 unfolding firstRefusal
-returns-2 c = rw (right (c .before .before .before .before .before .before .before .before .before .before .before), c .first-refusal5 .ensures, c .before .first-refusal4 .ensures, c .before .before .is-open .ensures, c .before .before .before .first-refusal3 .ensures, c .before .before .before .before .bad-length .ensures, c .before .before .before .before .before .first-refusal2 .ensures, c .before .before .before .before .before .before .first-refusal .ensures, c .before .before .before .before .before .before .before .free-bytes .ensures, c .before .before .before .before .before .before .before .before .taken-slots .ensures .0)
+returns-2 c = rw (right (c .before .before .before .before .before .before .before .before .before .before .before .before .before), c .first-refusal6 .ensures, c .before .first-refusal5 .ensures, c .before .before .is-open .ensures, c .before .before .before .first-refusal4 .ensures, c .before .before .before .before .before .first-refusal3 .ensures, c .before .before .before .before .before .before .bad-length .ensures, c .before .before .before .before .before .before .before .first-refusal2 .ensures, c .before .before .before .before .before .before .before .before .first-refusal .ensures, c .before .before .before .before .before .before .before .before .before .free-bytes .ensures, c .before .before .before .before .before .before .before .before .before .before .taken-slots .ensures .0)
 
 pub submit-refusal-spec : {M : Type 1} → statement M
 submit-refusal-spec =
@@ -60,7 +63,8 @@ submit-refusal-spec =
     first-refusal-requires-2
     bad-length-requires
     first-refusal-requires-3
-    is-open-requires
     first-refusal-requires-4
+    is-open-requires
     first-refusal-requires-5
+    first-refusal-requires-6
     returns-2)

@@ -12,10 +12,13 @@ fill-requires c κs = search needs
 next-ticket-requires : tie.Need-next-ticket-requires
 next-ticket-requires c κs = search needs
 
+no-staged-requires : tie.Need-no-staged-requires
+no-staged-requires c κs = search needs
+
 returns : tie.Need-returns
 unfolding withBatch
-returns c = rw (c .next-ticket .ensures, c .before .fill .ensures, c .before .before .raise .ensures)
+returns c = rw (c .no-staged .ensures, c .before .next-ticket .ensures, c .before .before .fill .ensures, c .before .before .before .raise .ensures)
 
 pub with-batch-spec : {M : Type 1} → statement M
 with-batch-spec =
-    tie.close (tie.spec raise-requires fill-requires next-ticket-requires returns)
+    tie.close (tie.spec raise-requires fill-requires next-ticket-requires no-staged-requires returns)

@@ -1,9 +1,11 @@
 use mathlib.Core.Path.{_≡_, sym, _∙_}
-use mathlib.Core.Bool.{true}
+use mathlib.Core.Bool.{true, _&&_}
 use borrow.Author.Needs.{needs}
 use borrow.Author.Tests.{not-true, not-false}
-use Rattle.record.proofs.Rules.{numbers, valid-not, valid-rest}
-use Rattle.record.specs.Rules.{numberRules}
+use Rattle.record.proofs.Rules.{numbers, valid-not, valid-not-settled, valid-rest, settled}
+use Rattle.word.proofs.Tests.{and-true}
+use Rattle.record.specs.declared.Record.{Record}
+use Rattle.record.specs.Rules.{numberRules, windowsRule, batchRules, pendingRule}
 use Rattle.record.proofs.is_valid.Statement.{statement}
 use Rattle.record.proofs.is_valid.Tie as tie
 
@@ -26,8 +28,24 @@ batches-valid-requires c κs = let n = numbers (c .before .before .before .befor
 pending-counts-match-requires : tie.Need-pending-counts-match-requires
 pending-counts-match-requires c κs = numbers (c .before .before .before .before .before .before .before .args .engine) (right (c .before .before .before .before .before)) .clients
 
+-- the tests together
+tested : (c : tie.After-pending-counts-match) → (c .before .before .windows-valid .result && c .before .batches-valid .result && c .pending-counts-match .result)
+    ≡ settled (c .before .before .before .before .before .before .before .before .args .engine)
+tested c = rw (c .pending-counts-match .ensures, c .before .batches-valid .ensures, c .before .before .windows-valid .ensures)
+
 returns-2 : tie.Need-returns-2
-returns-2 c = rw (c .pending-counts-match .ensures, c .before .batches-valid .ensures, c .before .before .windows-valid .ensures) (valid-rest (c .before .before .before .before .before .before .before .before .args .engine) (right (c .before .before .before .before .before .before)))
+returns-2 c = valid-not-settled (c .before .before .before .before .before .before .before .before .before .args .engine) (right (c .before .before .before .before .before .before .before)) (sym (tested (c .before)) ∙ not-true _ (c .if2 .taken))
+
+all : (c : tie.Else2) → settled (c .before .before .before .before .before .before .before .before .before .args .engine) ≡ true
+all c = sym (tested (c .before)) ∙ not-false _ (c .if2 .left)
+
+staged-valid-requires : tie.Need-staged-valid-requires
+staged-valid-requires c κs = let engine : Record = c .before .before .before .before .before .before .before .before .before .args .engine in
+    let x = and-true (windowsRule engine && batchRules engine) (pendingRule engine) (all c) in
+    (right (c .before .before .before .before .before .before .before), and-true (windowsRule engine) (batchRules engine) (x .0) .1)
+
+returns-3 : tie.Need-returns-3
+returns-3 c = c .staged-valid .ensures ∙ valid-rest (c .before .before .before .before .before .before .before .before .before .before .args .engine) (right (c .before .before .before .before .before .before .before .before)) (all (c .before))
 
 pub is-valid-spec : {M : Type 1} → statement M
 is-valid-spec =
@@ -38,4 +56,6 @@ is-valid-spec =
     windows-valid-requires
     batches-valid-requires
     pending-counts-match-requires
-    returns-2)
+    returns-2
+    staged-valid-requires
+    returns-3)

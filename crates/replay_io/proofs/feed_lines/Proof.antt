@@ -115,16 +115,36 @@ returns c =
     record { within = l .inv .1; room = l .inv .2; onward = l .inv .0 }
 
 same-length-5 : tie.Need-same-length-5 Inv-loop μ-loop
-same-length-5 c = search needs
+same-length-5 c =
+    let d = c .before .before .before .before .before .before .before .before .before .before .before in
+    let l = d .before .before .before .before .before .before .before .loop in
+    let k = d .feed .kept .1 .0 in
+    let e = l .inv .3 in
+    search (needs, k, e)
 
 same-length-6 : tie.Need-same-length-6 Inv-loop μ-loop
-same-length-6 c = search needs
+same-length-6 c =
+    let d = c .before .before .before .before .before .before .before .before .before .before .before in
+    let l = d .before .before .before .before .before .before .before .loop in
+    let k = d .feed .kept .1 .1 .0 in
+    let e = l .inv .4 in
+    search (needs, k, e)
 
 same-length-7 : tie.Need-same-length-7 Inv-loop μ-loop
-same-length-7 c = search needs
+same-length-7 c =
+    let d = c .before .before .before .before .before .before .before .before .before .before .before in
+    let l = d .before .before .before .before .before .before .before .loop in
+    let k = d .feed .kept .1 .1 .1 .0 in
+    let e = l .inv .5 in
+    search (needs, k, e)
 
 same-length-8 : tie.Need-same-length-8 Inv-loop μ-loop
-same-length-8 c = search needs
+same-length-8 c =
+    let d = c .before .before .before .before .before .before .before .before .before .before .before in
+    let l = d .before .before .before .before .before .before .before .loop in
+    let k = d .feed .kept .1 .1 .1 .1 .1 .0 in
+    let e = l .inv .6 in
+    search (needs, k, e)
 
 returns-2 : tie.Need-returns-2 Inv-loop μ-loop
 returns-2 c =

@@ -2,13 +2,16 @@ use Prim.Native.Nat.{_≤_}
 use native.Mathlib.Omega.{arith}
 use lib.ListN.{length}
 use Rattle.answers.proofs.Numbers.{run-small}
-use Rattle.session.proofs.Turns.{batch-lies, open-plays, submit-plays, run-plays, pending-plays}
+use Rattle.session.proofs.Turns.{batch-lies, piece-lies, open-plays, submit-plays, run-plays, pending-plays, begin-plays, piece-plays, cancel-plays}
 use borrow.Author.Needs.{needs}
 use Rattle.session.proofs.play_call.Statement.{statement}
 use Rattle.session.proofs.play_call.Tie as tie
 
 lies : (c : tie.After-submit-arg) → (c .before .before .request2 .given .0 .1 .0 ≤ c .before .before .request2 .given .0 .1 .1 .0) × (c .before .before .request2 .given .0 .1 .1 .0 ≤ length (c .before .before .before .before .before .before .before .args .bytes .now))
 lies c = batch-lies _ _ _ _ _ (c .before .before .request2 .given .1) (c .before .before .before .before .before .before .before .pre)
+
+handed : (c : tie.After-piece-arg) → (c .before .before .request5 .given .0 .1 .0 ≤ c .before .before .request5 .given .0 .1 .1 .0) × (c .before .before .request5 .given .0 .1 .1 .0 ≤ length (c .before .before .before .before .before .before .before .args .bytes .now))
+handed c = piece-lies _ _ _ _ _ (c .before .before .request5 .given .1) (c .before .before .before .before .before .before .before .pre)
 
 enum-known-request : tie.Need-enum-known-request
 enum-known-request c = search needs
@@ -55,6 +58,42 @@ pending-requires c κs = search needs
 answer-words-requires : tie.Need-answer-words-requires
 answer-words-requires c κs = search needs
 
+enum-known-request-4 : tie.Need-enum-known-request-4
+enum-known-request-4 c = search needs
+
+begin-requires : tie.Need-begin-requires
+begin-requires c κs = search needs
+
+step-of-requires-3 : tie.Need-step-of-requires-3
+step-of-requires-3 c κs = search needs
+
+enum-known-request-5 : tie.Need-enum-known-request-5
+enum-known-request-5 c = search needs
+
+sub-piece : tie.Need-sub-piece
+sub-piece c = handed c .0
+
+part-piece-start : tie.Need-part-piece-start
+part-piece-start c = let l = handed c in omega arith
+
+part-piece-end : tie.Need-part-piece-end
+part-piece-end c = let l = handed c in omega arith
+
+piece-requires : tie.Need-piece-requires
+piece-requires c κs = search needs
+
+step-of-piece-requires : tie.Need-step-of-piece-requires
+step-of-piece-requires c κs = search needs
+
+enum-known-request-6 : tie.Need-enum-known-request-6
+enum-known-request-6 c = search needs
+
+cancel-requires : tie.Need-cancel-requires
+cancel-requires c κs = search needs
+
+step-of-requires-4 : tie.Need-step-of-requires-4
+step-of-requires-4 c κs = search needs
+
 returns : tie.Need-returns
 returns c = rw (c .before .before .before .request .given .1) (open-plays _ _ _ _ _ _ _ _ (c .before .open .ensures) (c .step-of .ensures .0) (c .step-of .ensures .1))
 
@@ -76,6 +115,21 @@ returns-3 c = rw (c .before .before .before .before .before .before .enum-told .
 returns-4 : tie.Need-returns-4
 returns-4 c = rw (c .before .before .before .request3 .given .1) (pending-plays _ _ _ _ _ _ (c .before .pending .ensures) (c .answer-words .ensures))
 
+same-length-4 : tie.Need-same-length-4
+same-length-4 c = search needs
+
+returns-5 : tie.Need-returns-5
+returns-5 c = rw (c .before .before .before .before .request4 .given .1) (begin-plays _ _ _ _ _ _ _ _ (c .before .begin .ensures) (c .step-of3 .ensures .0) (c .step-of3 .ensures .1))
+
+same-length-5 : tie.Need-same-length-5
+same-length-5 c = search needs
+
+returns-6 : tie.Need-returns-6
+returns-6 c = rw (c .before .before .before .before .before .before .before .request5 .given .1) (piece-plays _ _ _ _ _ _ _ _ _ (c .before .before .before .piece .ensures .0) (c .before .before .before .piece .ensures .1) (c .step-of-piece .ensures .0) (c .step-of-piece .ensures .1))
+
+returns-7 : tie.Need-returns-7
+returns-7 c = rw (c .before .before .before .request6 .given .1) (cancel-plays _ _ _ _ _ _ _ (c .before .cancel .ensures) (c .step-of4 .ensures .0) (c .step-of4 .ensures .1))
+
 pub play-call-spec : {M : Type 1} → statement M
 play-call-spec =
     tie.close
@@ -95,10 +149,27 @@ play-call-spec =
     enum-known-request-3
     pending-requires
     answer-words-requires
+    enum-known-request-4
+    begin-requires
+    step-of-requires-3
+    enum-known-request-5
+    sub-piece
+    part-piece-start
+    part-piece-end
+    piece-requires
+    step-of-piece-requires
+    enum-known-request-6
+    cancel-requires
+    step-of-requires-4
     returns
     same-length
     returns-2
     same-length-2
     same-length-3
     returns-3
-    returns-4)
+    returns-4
+    same-length-4
+    returns-5
+    same-length-5
+    returns-6
+    returns-7)

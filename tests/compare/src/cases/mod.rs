@@ -7,6 +7,7 @@ mod examples;
 mod faults;
 mod gradients;
 mod headers;
+mod pieces;
 mod pixels;
 mod premultiplied;
 mod queue;
@@ -28,7 +29,7 @@ use crate::trials::{Agreed, Trials};
 /// A subject's name, and what tries its cases.
 type Subject = (&'static str, fn(&mut Trials) -> Agreed);
 
-const SUBJECTS: [Subject; 18] = [
+const SUBJECTS: [Subject; 19] = [
     ("examples of the scope paper", examples::compare),
     ("registers", registers::compare),
     ("headers and groups", headers::compare),
@@ -44,6 +45,7 @@ const SUBJECTS: [Subject; 18] = [
     ("gradients", gradients::compare),
     ("batches of several tasks", batches::compare),
     ("queue", queue::compare),
+    ("batches by pieces", pieces::compare),
     ("records", records::compare),
     ("encoder", encoder::compare),
     ("walks", walks::compare),

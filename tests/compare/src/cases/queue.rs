@@ -7,10 +7,10 @@ use independent::engine::Numbers;
 use independent::queue::{Ready, Record, SLOTS};
 use independent::record_bytes;
 
-const NUMBERS: Numbers = Numbers { ring: 128, memory: 96, common: 16 };
+pub const NUMBERS: Numbers = Numbers { ring: 128, memory: 96, common: 16 };
 
 /// Four windows, with bytes of nobody before, between and behind them.
-const WINDOWS: [(u32, u32); 4] = [(18, 12), (30, 10), (44, 8), (52, 40)];
+pub const WINDOWS: [(u32, u32); 4] = [(18, 12), (30, 10), (44, 8), (52, 40)];
 
 pub fn compare(trials: &mut Trials) -> Agreed {
     set_ups(trials)?;
@@ -63,7 +63,7 @@ fn openings(trials: &mut Trials) -> Agreed {
 }
 
 /// A record with batches of these lengths waiting, of clients in turn, in the slots that `slot` says.
-fn waiting(mut record: Record, lengths: &[u64], slot: impl Fn(usize) -> usize) -> Record {
+pub fn waiting(mut record: Record, lengths: &[u64], slot: impl Fn(usize) -> usize) -> Record {
     for (i, length) in lengths.iter().enumerate() {
         let client = (i % 4) as u32;
         let taken: u64 = lengths[..i].iter().sum();

@@ -4,7 +4,7 @@ use crate::bench;
 use crate::trials::{Agreed, Trials};
 use independent::calls::{Buffers, Call};
 use independent::engine::Numbers;
-use independent::queue::{Client, Ready, Record};
+use independent::queue::{Client, Ready, Record, Unfinished};
 use independent::random::Random;
 use independent::record_bytes;
 use independent::registers::SRC_OVER;
@@ -16,7 +16,7 @@ const NUMBERS: Numbers = Numbers { ring: 256, memory: 4096, common: 1024 };
 const WINDOWS: [(u32, u32); 4] = [(1024, 768), (1792, 768), (2560, 768), (3328, 768)];
 
 pub fn compare(trials: &mut Trials) -> Agreed {
-    let records = [waiting(), fresh(), full()];
+    let records = [waiting(), fresh(), full(), handing_over()];
     for record in &records {
         broken(trials, record)?;
         every_bit(trials, &bench::buffers(record))?;
@@ -34,6 +34,9 @@ fn all_calls(trials: &mut Trials, buffers: &Buffers) -> Agreed {
         Call::Open { start: 4000, length: 1 },
         Call::Submit { client: 0, batch: &[] },
         Call::Submit { client: 0, batch: &[0; 4] },
+        Call::Begin { client: 1, total: 4 },
+        Call::Piece { client: 1, piece: &[7; 4] },
+        Call::Cancel { client: 1 },
         Call::Run,
     ];
     for call in &calls {
@@ -71,10 +74,18 @@ fn full() -> Record {
     record
 }
 
+/// The three batches, and eight bytes of a fourth, in the one slot between them that is lowest.
+fn handing_over() -> Record {
+    let mut record = waiting();
+    set(&mut record, 3, |b| b.length = 88);
+    record.unfinished = Some(Unfinished { client: 1, slot: 1, total: 28, so_far: 8 });
+    record
+}
+
 type Damage = fn(&mut Record);
 
-/// Each rule broken alone in the record of three batches; in others some of these break no rule, or several.
-const BREAKINGS: [Damage; 33] = [
+/// Each rule broken alone in the record of three batches, and in that with an unfinished one; in others some of these break no rule, or several.
+const BREAKINGS: [Damage; 43] = [
     |_| (),
     |r| r.numbers.ring = 0,
     |r| r.numbers.ring = 32896,
@@ -107,6 +118,17 @@ const BREAKINGS: [Damage; 33] = [
     |r| r.clients[2].pending = 1,
     |r| set(r, 6, |b| b.client = 1),
     |r| r.open = 2,
+    |r| unfinished(r, |one| one.client = 4),
+    |r| unfinished(r, |one| one.slot = 3),
+    |r| unfinished(r, |one| one.slot = 8),
+    |r| unfinished(r, |one| one.total = 0),
+    |r| unfinished(r, |one| one.total = 26),
+    |r| unfinished(r, |one| one.total = 32),
+    |r| unfinished(r, |one| one.total = u64::from(u32::MAX) - 3),
+    |r| unfinished(r, |one| one.so_far = 28),
+    |r| unfinished(r, |one| one.so_far = u64::from(u32::MAX)),
+    // Any slot that is free will do.
+    |r| unfinished(r, |one| (one.slot, one.so_far) = (7, 27)),
     // What a closed place holds is free.
     |r| {
         r.open = 3;
@@ -117,6 +139,12 @@ const BREAKINGS: [Damage; 33] = [
 fn set(record: &mut Record, slot: usize, change: fn(&mut Ready)) {
     if let Some(ready) = &mut record.slots[slot] {
         change(ready);
+    }
+}
+
+fn unfinished(record: &mut Record, change: fn(&mut Unfinished)) {
+    if let Some(one) = &mut record.unfinished {
+        change(one);
     }
 }
 

@@ -26,6 +26,9 @@ fn alone(call: play::Call) -> Call {
         play::Call::Submit { client, batch } => Call::Submit { client: client.into(), batch },
         play::Call::Run => Call::Run,
         play::Call::Pending { client } => Call::Pending { client: client.into() },
+        play::Call::Begin { client, total } => Call::Begin { client: client.into(), total: total.into() },
+        play::Call::Piece { client, piece } => Call::Piece { client: client.into(), piece },
+        play::Call::Cancel { client } => Call::Cancel { client: client.into() },
     }
 }
 

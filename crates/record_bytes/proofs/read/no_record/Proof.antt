@@ -1,11 +1,14 @@
 use Rattle.record_bytes.specs.Read.{noRecord}
-use mathlib.Core.Path.{refl}
+use borrow.Author.Needs.{needs}
 use Rattle.record_bytes.proofs.read.no_record.Statement.{statement}
 use Rattle.record_bytes.proofs.read.no_record.Tie as tie
 
+no-staged-requires : tie.Need-no-staged-requires
+no-staged-requires c κs = search needs
+
 returns : tie.Need-returns
 unfolding noRecord
-returns c = refl
+returns c = rw (c .no-staged .ensures)
 
 pub no-record-spec : {M : Type 1} → statement M
-no-record-spec = tie.close (tie.spec returns)
+no-record-spec = tie.close (tie.spec no-staged-requires returns)

@@ -21,9 +21,12 @@ size-at-requires-2 c κs = search needs
 word-at-requires : tie.Need-word-at-requires
 word-at-requires c κs = search needs
 
+staged-in-requires : tie.Need-staged-in-requires
+staged-in-requires c κs = search needs
+
 returns : tie.Need-returns
 unfolding recordIn
-returns c = simp (c .word-at .ensures, c .before .size-at2 .ensures, c .before .before .slots-in .ensures, c .before .before .before .size-at .ensures, c .before .before .before .before .clients-in .ensures, c .before .before .before .before .before .setup-in .ensures)
+returns c = simp (c .staged-in .ensures, c .before .word-at .ensures, c .before .before .size-at2 .ensures, c .before .before .before .slots-in .ensures, c .before .before .before .before .size-at .ensures, c .before .before .before .before .before .clients-in .ensures, c .before .before .before .before .before .before .setup-in .ensures)
 
 pub record-in-spec : {M : Type 1} → statement M
 record-in-spec =
@@ -35,4 +38,5 @@ record-in-spec =
     slots-in-requires
     size-at-requires-2
     word-at-requires
+    staged-in-requires
     returns)

@@ -18,21 +18,9 @@ word-at-requires-4 c κs = search needs
 word-at-requires-5 : tie.Need-word-at-requires-5
 word-at-requires-5 c κs = search needs
 
-word-at-requires-6 : tie.Need-word-at-requires-6
-word-at-requires-6 c κs = search needs
-
-word-at-requires-7 : tie.Need-word-at-requires-7
-word-at-requires-7 c κs = search needs
-
-word-at-requires-8 : tie.Need-word-at-requires-8
-word-at-requires-8 c κs = search needs
-
-word-at-requires-9 : tie.Need-word-at-requires-9
-word-at-requires-9 c κs = search needs
-
 returns : tie.Need-returns
 unfolding spareRight
-returns c = simp (c .word-at9 .ensures, c .before .word-at8 .ensures, c .before .before .word-at7 .ensures, c .before .before .before .word-at6 .ensures, c .before .before .before .before .word-at5 .ensures, c .before .before .before .before .before .word-at4 .ensures, c .before .before .before .before .before .before .word-at3 .ensures, c .before .before .before .before .before .before .before .word-at2 .ensures, c .before .before .before .before .before .before .before .before .word-at .ensures)
+returns c = simp (c .word-at5 .ensures, c .before .word-at4 .ensures, c .before .before .word-at3 .ensures, c .before .before .before .word-at2 .ensures, c .before .before .before .before .word-at .ensures)
 
 pub spare-right-spec : {M : Type 1} → statement M
 spare-right-spec =
@@ -43,8 +31,4 @@ spare-right-spec =
     word-at-requires-3
     word-at-requires-4
     word-at-requires-5
-    word-at-requires-6
-    word-at-requires-7
-    word-at-requires-8
-    word-at-requires-9
     returns)

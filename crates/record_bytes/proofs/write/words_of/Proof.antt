@@ -7,6 +7,15 @@ use Rattle.record_bytes.proofs.write.words_of.Tie as tie
 number-requires : tie.Need-number-requires
 number-requires c κs = search needs
 
+cast-slot : tie.Need-cast-slot
+cast-slot c = search needs
+
+cast-total : tie.Need-cast-total
+cast-total c = search needs
+
+cast-received : tie.Need-cast-received
+cast-received c = search needs
+
 array-copy-out-c0 : tie.Need-array-copy-out-c0
 array-copy-out-c0 c = search needs
 
@@ -67,12 +76,6 @@ array-copy-out-row-of-8 c = search needs
 row-of-requires-8 : tie.Need-row-of-requires-8
 row-of-requires-8 c κs = search needs
 
-cast-t50 : tie.Need-cast-t50
-cast-t50 c = search needs
-
-cast-t52 : tie.Need-cast-t52
-cast-t52 c = search needs
-
 cast-t54 : tie.Need-cast-t54
 cast-t54 c = search needs
 
@@ -82,10 +85,16 @@ cast-t56 c = search needs
 cast-t58 : tie.Need-cast-t58
 cast-t58 c = search needs
 
+cast-t60 : tie.Need-cast-t60
+cast-t60 c = search needs
+
+cast-t62 : tie.Need-cast-t62
+cast-t62 c = search needs
+
 returns : tie.Need-returns
 unfolding wordsWith
 returns c =
-    let f = c .before .before .before .before .before .before .before .before .before .before .before .before .before .before .before .before .before .before .before .before .before .before .before .before .before .before .before .before .before .before .before in
+    let f = c .before .before .before .before .before .before .before .before .before .before .before .before .before .before .before .before .before .before .before .before .before .before .before .before .before .before .before .before .before .before .before .before .before .before .before in
     rw (f .number .ensures) (rows-are (f .before .before .args .engine) (c .before .before .before .before .before .before .before .before .before .before .before .before .before .before .before .before .before .before .before .row-of .ensures) (c .before .before .before .before .before .before .before .before .before .before .before .before .before .before .before .before .before .row-of2 .ensures) (c .before .before .before .before .before .before .before .before .before .before .before .before .before .before .before .row-of3 .ensures) (c .before .before .before .before .before .before .before .before .before .before .before .before .before .row-of4 .ensures) (c .before .before .before .before .before .before .before .before .before .before .before .row-of5 .ensures) (c .before .before .before .before .before .before .before .before .before .row-of6 .ensures) (c .before .before .before .before .before .before .before .row-of7 .ensures) (c .before .before .before .before .before .row-of8 .ensures))
 
 pub words-of-spec : {M : Type 1} → statement M
@@ -93,6 +102,9 @@ words-of-spec =
     tie.close
     (tie.spec
     number-requires
+    cast-slot
+    cast-total
+    cast-received
     array-copy-out-c0
     array-copy-out-c1
     array-copy-out-c2
@@ -113,9 +125,9 @@ words-of-spec =
     row-of-requires-7
     array-copy-out-row-of-8
     row-of-requires-8
-    cast-t50
-    cast-t52
     cast-t54
     cast-t56
     cast-t58
+    cast-t60
+    cast-t62
     returns)

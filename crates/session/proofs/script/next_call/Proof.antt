@@ -1,5 +1,5 @@
 use native.Mathlib.Omega.{arith}
-use Rattle.session.proofs.Parsing.{next-none, next-open, next-submit, next-run, run-read, next-pending, next-unknown}
+use Rattle.session.proofs.Parsing.{next-none, next-open, next-submit, next-run, run-read, next-pending, next-begin, next-piece, next-cancel, next-unknown}
 use borrow.Author.Needs.{needs}
 use Rattle.session.proofs.script.next_call.Statement.{statement}
 use Rattle.session.proofs.script.next_call.Tie as tie
@@ -13,17 +13,26 @@ shared-slice-read-match c = search needs
 open-in-requires : tie.Need-open-in-requires
 open-in-requires c κs = search needs
 
-submit-in-requires : tie.Need-submit-in-requires
-submit-in-requires c κs = search needs
+bytes-in-requires : tie.Need-bytes-in-requires
+bytes-in-requires c κs = search needs
 
 pending-in-requires : tie.Need-pending-in-requires
 pending-in-requires c κs = search needs
+
+begin-in-requires : tie.Need-begin-in-requires
+begin-in-requires c κs = search needs
+
+bytes-in-requires-2 : tie.Need-bytes-in-requires-2
+bytes-in-requires-2 c κs = search needs
+
+cancel-in-requires : tie.Need-cancel-in-requires
+cancel-in-requires c κs = search needs
 
 returns-2 : tie.Need-returns-2
 returns-2 c = rw (next-open (c .before .before .before .before .before .args .bytes .now) (omega arith) (c .before .match .keys1)) (c .open-in .ensures)
 
 returns-3 : tie.Need-returns-3
-returns-3 c = rw (next-submit (c .before .before .before .before .before .args .bytes .now) (omega arith) (c .before .match .keys2)) (c .submit-in .ensures)
+returns-3 c = rw (next-submit (c .before .before .before .before .before .args .bytes .now) (omega arith) (c .before .match .keys2)) (c .bytes-in .ensures)
 
 returns-4 : tie.Need-returns-4
 returns-4 c = rw (next-run (c .before .before .before .before .args .bytes .now) (omega arith) (c .match .keys3)) (run-read (c .before .before .before .before .args .bytes .now) (omega arith))
@@ -32,7 +41,16 @@ returns-5 : tie.Need-returns-5
 returns-5 c = rw (next-pending (c .before .before .before .before .before .args .bytes .now) (omega arith) (c .before .match .keys4)) (c .pending-in .ensures)
 
 returns-6 : tie.Need-returns-6
-returns-6 c = next-unknown (c .before .before .before .before .args .bytes .now) (omega arith) (c .match .rest .0 .0 .0 .1) (c .match .rest .0 .0 .1) (c .match .rest .0 .1) (c .match .rest .1)
+returns-6 c = rw (next-begin (c .before .before .before .before .before .args .bytes .now) (omega arith) (c .before .match .keys5)) (c .begin-in .ensures)
+
+returns-7 : tie.Need-returns-7
+returns-7 c = rw (next-piece (c .before .before .before .before .before .args .bytes .now) (omega arith) (c .before .match .keys6)) (c .bytes-in2 .ensures)
+
+returns-8 : tie.Need-returns-8
+returns-8 c = rw (next-cancel (c .before .before .before .before .before .args .bytes .now) (omega arith) (c .before .match .keys7)) (c .cancel-in .ensures)
+
+returns-9 : tie.Need-returns-9
+returns-9 c = next-unknown (c .before .before .before .before .args .bytes .now) (omega arith) (c .match .rest .0 .0 .0 .0 .0 .0 .1) (c .match .rest .0 .0 .0 .0 .0 .1) (c .match .rest .0 .0 .0 .0 .1) (c .match .rest .0 .0 .0 .1) (c .match .rest .0 .0 .1) (c .match .rest .0 .1) (c .match .rest .1)
 
 pub next-call-spec : {M : Type 1} → statement M
 next-call-spec =
@@ -41,10 +59,16 @@ next-call-spec =
     returns
     shared-slice-read-match
     open-in-requires
-    submit-in-requires
+    bytes-in-requires
     pending-in-requires
+    begin-in-requires
+    bytes-in-requires-2
+    cancel-in-requires
     returns-2
     returns-3
     returns-4
     returns-5
-    returns-6)
+    returns-6
+    returns-7
+    returns-8
+    returns-9)

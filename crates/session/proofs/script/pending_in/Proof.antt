@@ -1,12 +1,13 @@
 use mathlib.Core.Path.{refl}
 use native.Mathlib.Omega.{arith}
-use Rattle.session.proofs.Parsing.{pending-short, pending-read}
+use Rattle.model.specs.Calls.{pending}
+use Rattle.session.proofs.Parsing.{client-short, pending-read}
 use borrow.Author.Needs.{needs}
 use Rattle.session.proofs.script.pending_in.Statement.{statement}
 use Rattle.session.proofs.script.pending_in.Tie as tie
 
 returns : tie.Need-returns
-returns c = pending-short _ (c .if1 .taken)
+returns c = client-short _ pending (c .if1 .taken)
 
 shared-slice-read-client : tie.Need-shared-slice-read-client
 shared-slice-read-client c = search needs

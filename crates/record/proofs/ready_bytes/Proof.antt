@@ -5,8 +5,8 @@ use native.Mathlib.Omega.{arith}
 use borrow.Author.Needs.{needs}
 use Rattle.record.specs.Slots.{readyBatches, totalLength}
 use Rattle.record.proofs.Slots.{sum-step, sum-end}
-use Rattle.record.proofs.taken_bytes.Statement.{statement}
-use Rattle.record.proofs.taken_bytes.Tie as tie
+use Rattle.record.proofs.ready_bytes.Statement.{statement}
+use Rattle.record.proofs.ready_bytes.Tie as tie
 
 abbrev Inv-loop : tie.InvT-loop
 Inv-loop slots n₀ i₀ n i = (i ≤ 8) × (n + totalLength (readyBatches (drop i slots)) ≡ totalLength (readyBatches slots))
@@ -49,8 +49,8 @@ returns c = let g = c .before .before .good .0 .1 .0 .1 in
     let e = sum-end (c .before .before .args .t1) (c .before .loop .i) (omega arith) (λ b. b .length) in
     omega arith
 
-pub taken-bytes-spec : {M : Type 1} → statement M
-taken-bytes-spec =
+pub ready-bytes-spec : {M : Type 1} → statement M
+ready-bytes-spec =
     tie.close
     (tie.spec
     Inv-loop

@@ -5,8 +5,8 @@ use native.Mathlib.Omega.{arith}
 use borrow.Author.Needs.{needs}
 use Rattle.record.specs.Slots.{readyBatches}
 use Rattle.record.proofs.Slots.{count-step, count-end}
-use Rattle.record.proofs.taken_slots.Statement.{statement}
-use Rattle.record.proofs.taken_slots.Tie as tie
+use Rattle.record.proofs.ready_slots.Statement.{statement}
+use Rattle.record.proofs.ready_slots.Tie as tie
 
 abbrev Inv-loop : tie.InvT-loop
 Inv-loop slots n₀ i₀ n i = (i ≤ 8) × (n ≤ i) × (n + length (readyBatches (drop i slots)) ≡ length (readyBatches slots))
@@ -46,8 +46,8 @@ returns c = let g = c .before .before .good .0 .1 .0 .1 in
     let e = count-end (c .before .before .args .t1) (c .before .loop .i) (omega arith) in
     (omega arith, omega arith, g)
 
-pub taken-slots-spec : {M : Type 1} → statement M
-taken-slots-spec =
+pub ready-slots-spec : {M : Type 1} → statement M
+ready-slots-spec =
     tie.close
     (tie.spec
     Inv-loop
