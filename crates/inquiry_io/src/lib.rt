@@ -109,6 +109,6 @@ pub fn print_touched(line: &mut [u8], answer: TouchedAnswer) -> Printed
 pub fn print_fault(line: &mut [u8], answer: FaultAnswer) -> Printed
     ensures { λ r. ⌜ Types (faultLine answer) (now (line .entry)) (r .size) (now (line .exit)) ⌝ }
 {
-    let n = answer_lines::fault_line(line, answer);
-    command::print(line, n)
+    let size = answer_lines::fault_line(line, answer);
+    command::print(line, size)
 }
