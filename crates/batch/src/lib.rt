@@ -7,3 +7,4 @@ pub use verdict::Verdict;
 pub use verdict::judge;
 pub use walk::Step;
 pub use walk::next_task;
+pub use walk::word_at;

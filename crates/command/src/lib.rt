@@ -1,9 +1,10 @@
 // What the programs that people use share: arguments, what is told on standard error, files opened and read, bytes printed. No
 // contract can say which bytes are read or written.
 ghost use mathlib.Core.Path.{_≡_};
-ghost use mathlib.Core.Bool.{false};
+ghost use mathlib.Core.Bool.{false, cond};
 ghost use Prim.Native.Nat.{_<_};
 ghost use lib.ListN.{length};
+ghost use lib.Dec.{leb};
 ghost use Rattle.io.specs.Counts.{Counts};
 use libc::STDERR_FILENO;
 use libc::STDOUT_FILENO;
@@ -84,17 +85,29 @@ pub fn read_piece(fd: i32, name: &[u8], piece: &mut [u8]) -> Piece
     }
 }
 
-// Writes the first n bytes of `out` to standard output. Answers whether that went well; what did fail is told on standard error.
-// Where there are no n bytes nothing is written, and the answer is no; else it is the system's, and no contract can say which.
-pub fn print(out: &[u8], n: usize) -> bool
-    ensures { λ r. ⌜ (length (now (out .entry)) < n → r ≡ false) ⌝ }
+// What was handed to the system to write: so many bytes; and whether it took them.
+pub struct Printed {
+    pub size: usize,
+    pub well: bool,
+}
+
+// Hands the first n bytes of `out` to the system, for standard output. What did fail is told on standard error. Where there are no n
+// bytes none is handed over, and it did not go well; else whether it did is the system's, and no contract can say which.
+pub fn print(out: &[u8], n: usize) -> Printed
+    ensures { λ r. ⌜ (r .size ≡ cond (leb n (length (now (out .entry)))) n 0) × (length (now (out .entry)) < n → r .well ≡ false) ⌝ }
 {
     if out.len() < n {
-        return false;
+        return Printed {
+            size: 0,
+            well: false,
+        };
     }
     let is_written = io::write_all(STDOUT_FILENO, &out[..n]);
     if !is_written {
         os::fail(b"standard output");
     }
-    is_written
+    Printed {
+        size: n,
+        well: is_written,
+    }
 }

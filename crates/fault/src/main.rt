@@ -26,5 +26,6 @@ fn main() {
     let Asked::Read(inquiry) = inquiry_io::ask(question) else {
         return;
     };
-    inquiry_io::print_fault(inquiry::why_faulted(question, inquiry));
+    let mut line = [0u8; 128];
+    inquiry_io::print_fault(&mut line, inquiry::why_faulted(question, inquiry));
 }

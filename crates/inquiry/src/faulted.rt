@@ -2,13 +2,13 @@
 ghost use mathlib.Core.Path.{_≡_};
 ghost use mathlib.Core.Bool.{cond};
 ghost use Prim.Native.Nat.{_+_, _*_, _≤_};
-ghost use lib.ListN.{getD};
 ghost use Rattle.ring.specs.Segment.{batchWords};
 ghost use Rattle.lines.specs.Lines.{fileReset};
 ghost use Rattle.batch.specs.Batch.{decodeBatch};
 ghost use Rattle.provenance.specs.Faulted.{groupAfter, registerAt, heldSurface, heldSteps, heldIn, detailOf, explained};
 use batch::Verdict;
 use batch::judge;
+use batch::word_at;
 use gradient::Steps;
 use provenance::Detail;
 use provenance::Explanation;
@@ -17,21 +17,9 @@ use provenance::Why;
 use register::Bank;
 use register::SurfaceRegisters;
 use reset::ResetRule;
-use ring::Read;
-use ring::read_word;
 use ring::word_count;
 use rules::Bounds;
 use rules::Fault;
-
-// Word k of a batch, 0 past its end.
-fn word_at(ring: &[u8], offset: usize, size: usize, k: usize) -> u32
-    ensures { λ r. ⌜ r ≡ getD (batchWords (now (ring .entry)) offset size) k 0 ⌝ }
-{
-    match read_word(ring, offset, size, k) {
-        Read::Word(w) => w,
-        Read::Past => 0,
-    }
-}
 
 // A group after one more word: a header if none was to come.
 fn onward(group: Group, word: u32) -> Group

@@ -39,7 +39,8 @@ fn write_rows(memory: &[u8], s: Surface) {
     let mut well = true;
     while y < height && well {
         let n = ppm::row(memory, s, y, &mut out);
-        well = command::print(&out, n);
+        let printed = command::print(&out, n);
+        well = printed.well;
         y += 1;
     }
 }
@@ -47,7 +48,8 @@ fn write_rows(memory: &[u8], s: Surface) {
 fn write_picture(memory: &[u8], s: Surface) {
     let mut line = [0u8; 64];
     let n = ppm::header(&mut line, s.width as u32, s.height as u32);
-    if command::print(&line, n) {
+    let printed = command::print(&line, n);
+    if printed.well {
         write_rows(memory, s);
     }
 }

@@ -1,5 +1,5 @@
 -- Laws of pictures: a header typed part by part, and a row put down pixel by pixel.
-use mathlib.Core.Path.{_≡_, refl, ap, _∙_}
+use mathlib.Core.Path.{_≡_, ap, _∙_}
 use mathlib.Core.List.{List, [], _∷_, _++_}
 use mathlib.Core.Bool.{true}
 use Prim.Native.Nat.{ℕ, _+_, _*_, _/_, _%_, _≤_, _<_}
@@ -10,17 +10,12 @@ use borrow.Author.Tests.{leb-true}
 use Rattle.word.proofs.Tests.{and-true}
 use Rattle.text.specs.Line.{Line, pushed, appended}
 use Rattle.text.specs.Decimal.{decimal}
-use Rattle.text.proofs.Typing.{typed-append}
+use Rattle.text.proofs.Typing.{typed-append, typed-cons}
 use Rattle.pixel.specs.declared.colour.Colour.{Colour}
 use Rattle.surface.specs.declared.Surface.{Surface}
 use Rattle.surface.specs.Surface.{rowStart, rowLength}
 use Rattle.surface.proofs.Parts.{none-within, set-within}
 use Rattle.ppm.specs.Picture.{headerOf, shownLength, channelOf, shownByte, hasRoom, rowShown}
-
--- one character, and the text after it
-typed-one : (l : Line) (byte : ℕ) (text : List ℕ) → appended l (byte ∷ text) ≡ appended (pushed l byte) text
-unfolding appended
-typed-one l byte text = refl
 
 pub typed-header : (l : Line) (width height : ℕ) →
     appended l (headerOf width height)
@@ -32,7 +27,7 @@ typed-header l width height =
     let b : Line = appended a (decimal width) in
     typed-append l (80 ∷ 54 ∷ 10 ∷ []) (decimal width ++ (32 ∷ (decimal height ++ end)))
     ∙ typed-append a (decimal width) (32 ∷ (decimal height ++ end))
-    ∙ typed-one b 32 (decimal height ++ end)
+    ∙ typed-cons b 32 (decimal height ++ end)
     ∙ typed-append (pushed b 32) (decimal height) end
 
 -- nothing is shown yet

@@ -97,7 +97,7 @@ fn tell_why(why: Why) -> FaultAnswer
 pub fn tell_fault(records: u32, why: Why) -> FaultAnswer
     ensures { λ r. ⌜ r ≡ toldFault records why ⌝ }
 {
-    if 1024 < records {
+    if records > 1024 {
         return FaultAnswer::Refused(Refusal::TooManyRecords);
     }
     tell_why(why)

@@ -8,9 +8,9 @@ use Rattle.word.specs.Word.{byteOf, beBytes}
 use Rattle.word.specs.Splice.{spliced}
 use Rattle.model.specs.Calls.{CompletionStatus}
 use Rattle.text.specs.Line.{Line, lineOf, pushed, appended}
-use Rattle.text.specs.Hex.{hexByte, hexBytes, hexWord}
+use Rattle.text.specs.Hex.{hexBytes, hexWord}
 use Rattle.text.specs.Decimal.{decimal}
-use Rattle.text.proofs.Typing.{typed-append, typed-whole}
+use Rattle.text.proofs.Typing.{typed-append, typed-cons, typed-one, typed-whole, hex-size}
 use Rattle.lines.specs.Lines.{spaced, completionLine, refusalLine}
 use Rattle.replay.specs.Calls.{Prints}
 
@@ -24,10 +24,6 @@ hex-rest n =
     let a : n % 4294967296 / 1 % 256 ≡ n / 1 % 256 = omega arith in
     rw (d, c, b, a)
 
-hex-size : (n : ℕ) → length (hexWord n) ≡ 8
-unfolding hexWord hexBytes hexByte beBytes
-hex-size n = refl
-
 -- nothing printed
 pub prints-none : (line : List ℕ) → Prints [] line 0 line
 unfolding spliced
@@ -39,16 +35,6 @@ pub prints-typed : (text line : List ℕ) (written : ℕ) (line′ : List ℕ) �
 prints-typed text line written line′ small room e =
     let all = e ∙ typed-whole line text (omega arith) in
     record { size = ap (λ (l : Line). l .end) all; bytes = ap (λ (l : Line). l .bytes) all }
-
--- a space and a text
-pub typed-spaced : (l : Line) (text : List ℕ) → appended (pushed l 32) text ≡ appended l (spaced text)
-unfolding appended
-typed-spaced l text = refl
-
--- one character
-typed-one : (l : Line) (byte : ℕ) → pushed l byte ≡ appended l (byte ∷ [])
-unfolding appended
-typed-one l byte = refl
 
 module _ (line line′ : List ℕ) (written : ℕ) (room : 128 ≤ length line) where
   pub refusal-prints : (client number : ℕ) (a b c : Line) → length (decimal client) ≤ 20 → length (decimal number) ≤ 20
@@ -98,5 +84,5 @@ module _ (line line′ : List ℕ) (written : ℕ) (room : 128 ≤ length line) 
       → lineOf line′ written ≡ pushed f 10
       → Prints (completionLine client ticket v) line written line′
   completion-prints client ticket v word fault offset a b s c d f m n o p is-word is-fault is-offset ea eb es ec ed ef e =
-      let spaces = typed-spaced b (hexWord word) in
+      let spaces = typed-cons b 32 (hexWord word) in
       completion-typed client ticket v a b c d f m n (rw (← is-fault) o) (rw (← is-offset) p) ea eb (cc) (cc) (cc) (e ∙ typed-one f 10)

@@ -2,14 +2,11 @@
 // the bytes of an unfinished record, the engine's ring and memory, and `line` for the one line that a call may print.
 ghost use mathlib.Core.Path.{_≡_};
 ghost use Prim.Native.Nat.{ℕ, _≤_, _<_};
-ghost use mathlib.Core.List.{_∷_};
 ghost use lib.ListN.{length};
 ghost use Rattle.batch.specs.Batch.{statusWordOf, faultNumberOf as faultOf, faultOffsetOf};
 ghost use Rattle.queue.specs.Answers.{refusalNumberOf};
 ghost use Rattle.engine.specs.Outcome.{runRefusalOf as refusalOf, valuesOf};
 ghost use Rattle.claims.specs.Engine.{mkState, answerOrRefusal, completion};
-ghost use Rattle.text.specs.Line.{lineOf, appended};
-ghost use Rattle.text.specs.Decimal.{decimal};
 ghost use Rattle.records.specs.Records.{badVersion};
 ghost use Rattle.records.specs.Reading.{Lies};
 ghost use Rattle.lines.specs.Lines.{completionLine, refusalLine, answerLine, endingLine, entryLine, submitAndRun};
@@ -64,25 +61,17 @@ pub fn start() -> Replay
     }
 }
 
-// A space and a number.
-fn field(line: &mut [u8], n: usize, value: u64) -> usize
-    ensures { λ r. ⌜ (lineOf (now (line .exit)) r ≡ appended (lineOf (now (line .entry)) n) (32 ∷ decimal value)) × (length (decimal value) ≤ 20) ⌝ }
-{
-    let end = line::push(line, n, b' ');
-    line::decimal(line, end, value)
-}
-
 fn completion_line(line: &mut [u8], client: u32, ticket: u32, verdict: Verdict) -> usize
     requires { ⌜ 128 ≤ length (now line) ⌝ }
     ensures { λ r. ⌜ Prints (completionLine client ticket (record { status = statusWordOf verdict; fault = faultOf verdict; offset = faultOffsetOf verdict }))
         (now (line .entry)) r (now (line .exit)) ⌝ }
 {
     let a = line::decimal(line, 0, client as u64);
-    let b = field(line, a, ticket as u64);
+    let b = line::field(line, a, ticket as u64);
     let c = line::push(line, b, b' ');
     let d = line::hex_word(line, c, verdict.status());
-    let e = field(line, d, verdict.number() as u64);
-    let f = field(line, e, verdict.offset() as u64);
+    let e = line::field(line, d, verdict.number() as u64);
+    let f = line::field(line, e, verdict.offset() as u64);
     line::push(line, f, b'\n')
 }
 

@@ -67,7 +67,8 @@ fn show(shows: bool, out: &[u8], n: usize) -> bool {
     if !shows {
         return true;
     }
-    command::print(out, n)
+    let printed = command::print(out, n);
+    printed.well
 }
 
 // Feeds a piece of the file, whole.

@@ -1,8 +1,9 @@
 // A line of text in a lent buffer. A function takes the length of the text so far and answers the new one; what does not
 // fit is dropped.
 ghost use mathlib.Core.Path.{_≡_};
+ghost use mathlib.Core.List.{_∷_};
 ghost use Prim.Native.Nat.{_≤_, _<_};
-ghost use lib.ListN.{length};
+ghost use lib.ListN.{length, drop};
 ghost use Rattle.text.specs.Line.{lineOf, pushed, appended};
 ghost use Rattle.text.specs.Hex.{digitOf, hexByte, hexWord};
 ghost use Rattle.text.specs.Decimal.{decimal};
@@ -44,6 +45,14 @@ pub fn hex_word(line: &mut [u8], n: usize, word: u32) -> usize
     hex(line, c, (word % 256) as u8)
 }
 
+// The last three digits of a word: a register's offset.
+pub fn hex_three(line: &mut [u8], n: usize, word: u32) -> usize
+    ensures { λ r. ⌜ lineOf (now (line .exit)) r ≡ appended (lineOf (now (line .entry)) n) (drop 5 (hexWord word)) ⌝ }
+{
+    let high = push(line, n, digit((word / 256 % 16) as u8));
+    hex(line, high, (word % 256) as u8)
+}
+
 // Text as it is.
 pub fn append(line: &mut [u8], n: usize, text: &[u8]) -> usize
     ensures { λ r. ⌜ lineOf (now (line .exit)) r ≡ appended (lineOf (now (line .entry)) n) (now (text .entry)) ⌝ }
@@ -73,4 +82,12 @@ pub fn decimal(line: &mut [u8], n: usize, value: u64) -> usize
     }
     let end = decimal(line, n, value / 10);
     push(line, end, b'0' + ((value % 10) as u8))
+}
+
+// A space and a number.
+pub fn field(line: &mut [u8], n: usize, value: u64) -> usize
+    ensures { λ r. ⌜ (lineOf (now (line .exit)) r ≡ appended (lineOf (now (line .entry)) n) (32 ∷ decimal value)) × (length (decimal value) ≤ 20) ⌝ }
+{
+    let end = push(line, n, b' ');
+    decimal(line, end, value)
 }

@@ -62,5 +62,6 @@ fn main() {
     let Asked::Read(inquiry) = inquiry_io::ask(question) else {
         return;
     };
-    inquiry_io::print_touched(inquiry::who_touched(question, inquiry));
+    let mut line = [0u8; 128];
+    inquiry_io::print_touched(&mut line, inquiry::who_touched(question, inquiry));
 }

@@ -9,14 +9,6 @@ use Rattle.batch.specs.Batch.{DecodedBatch, decodeBatch, validationOf}
 use Rattle.inquiry.proofs.Batch.{explained-none, explained-fault}
 use Rattle.inquiry.proofs.faulted.explain.Statement.{statement}
 use Rattle.inquiry.proofs.faulted.explain.Tie as tie
-use Rattle.inquiry.proofs.faulted.explain.Reads as reads
-use Rattle.inquiry.proofs.faulted.explain.Lts as lts
-use Rattle.batch.proofs.judge.Reads as judge-reads
-use Rattle.inquiry.proofs.faulted.detail_of.Reads as detail-of-reads
-use Rattle.inquiry.proofs.faulted.register_at.Reads as register-at-reads
-use Rattle.inquiry.proofs.faulted.word_at.Reads as word-at-reads
-use Rattle.register.proofs.bank.Bank.reset.Reads as reset-reads
-use Rattle.rules.proofs.fault.Fault.number.Reads as number-reads
 
 -- the words of the batch, and what they say
 abbrev Ws : tie.Start → List ℕ

@@ -11,12 +11,6 @@ use Rattle.provenance.specs.Faulted.{groupAfter, registerFrom}
 use Rattle.inquiry.proofs.Batch.{register-past, register-next, register-here}
 use Rattle.inquiry.proofs.faulted.register_at.Statement.{statement}
 use Rattle.inquiry.proofs.faulted.register_at.Tie as tie
-use Rattle.inquiry.proofs.faulted.register_at.Reads as reads
-use Rattle.inquiry.proofs.faulted.register_at.Lts as lts
-use Rattle.inquiry.proofs.faulted.held_at.Reads as held-at-reads
-use Rattle.inquiry.proofs.faulted.onward.Reads as onward-reads
-use Rattle.inquiry.proofs.faulted.word_at.Reads as word-at-reads
-use Rattle.ring.proofs.word_count.Reads as word-count-reads
 
 abbrev Inv-loop : tie.InvT-loop
 Inv-loop ring offset size k at₀ group₀ at group =
