@@ -7,16 +7,18 @@ use native.Mathlib.Numerals.{add-one}
 use native.Mathlib.Omega.{arith}
 use lib.ListN.{length, drop, getD, drop-of-length-le}
 use lib.Seq.{drop-cons}
-use lib.Dec.{eqb, leb}
-use borrow.Author.Tests.{not-true, not-false, leb-true, leb-false, le-leb, lt-leb}
+use lib.Dec.{eqb, leb, ltb}
+use borrow.Author.Tests.{not-true, not-false, leb-true, leb-false, le-leb, lt-leb, ltb-true, lt-ltb}
+use Rattle.word.proofs.Tests.{and-true}
 use Rattle.range.specs.declared.Range.{Range}
 use Rattle.range.specs.Range.{containedIn, overlaps}
 use Rattle.record.specs.declared.Setup.{Setup}
 use Rattle.record.specs.declared.Batch.{Batch}
 use Rattle.record.specs.declared.Client.{Client}
 use Rattle.record.specs.declared.Window.{Window}
+use Rattle.record.specs.declared.Record.{Record}
 use Rattle.record.specs.Slots.{countOf}
-use Rattle.record.specs.Clients.{noClient, windowsOf, lowestClosed, windowRange, prefixRange, overlapsAny, badWindow, windowsValid, pendingCountsMatch}
+use Rattle.record.specs.Clients.{noClient, clientAt, isOpen, windowsOf, lowestClosed, windowRange, prefixRange, overlapsAny, badWindow, windowsValid, pendingCountsMatch}
 
 -- the tests behind a bad window
 pub bad-made : (setup : Setup) (others : List Window) (w : Window) (bytes : Range) (a b c : Bool) → bytes ≡ windowRange w →
@@ -118,10 +120,14 @@ closed-past [] k h = refl
 closed-past (c ∷ cs) zero h = absurd (omega arith)
 closed-past (c ∷ cs) (suc k) h = closed-past cs k (omega arith)
 
-pub opened-below : (cs : List Client) (k : ℕ) → getD cs k noClient .opened ≡ true → k < length cs
-opened-below [] k e = let z : _≡_ {A = ℕ} 0 1 = cc in absurd (omega arith)
-opened-below (c ∷ cs) zero e = omega arith
-opened-below (c ∷ cs) (suc k) e = let l = opened-below cs k e in omega arith
+-- an open client's id, and its place
+pub open-place : (engine : Record) (k : ℕ) → isOpen engine k ≡ true → (k < 4) × (clientAt engine k .opened ≡ true)
+open-place engine k e =
+    let both = and-true (ltb k 4) (clientAt engine k .opened) e in
+    (ltb-true k 4 (both .0), both .1)
+
+pub place-open : (engine : Record) (k : ℕ) → k < 4 → clientAt engine k .opened ≡ true → isOpen engine k ≡ true
+place-open engine k h e = rw (lt-ltb k 4 h, e)
 
 -- ---- the lowest place that is closed
 

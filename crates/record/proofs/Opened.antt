@@ -47,6 +47,21 @@ opened-set (c ∷ cs) zero p (suc j) = refl
 opened-set (c ∷ cs) (suc k) p zero = refl
 opened-set (c ∷ cs) (suc k) p (suc j) = opened-set cs k p j
 
+-- an open client at a place leaves the others open, and any one leaves the others as they were
+pub opened-more : (cs : List Client) (k j : ℕ) (new : Client) → new .opened ≡ true → getD cs j noClient .opened ≡ true → getD (set cs k new) j noClient .opened ≡ true
+opened-more [] k j new n e = e
+opened-more (c ∷ cs) zero zero new n e = n
+opened-more (c ∷ cs) zero (suc j) new n e = e
+opened-more (c ∷ cs) (suc k) zero new n e = e
+opened-more (c ∷ cs) (suc k) (suc j) new n e = opened-more cs k j new n e
+
+pub opened-other : (cs : List Client) (k j : ℕ) (new : Client) → ¬ (j ≡ k) → getD cs j noClient .opened ≡ true → getD (set cs k new) j noClient .opened ≡ true
+opened-other [] k j new n e = e
+opened-other (c ∷ cs) zero zero new n e = absurd (n refl)
+opened-other (c ∷ cs) zero (suc j) new n e = e
+opened-other (c ∷ cs) (suc k) zero new n e = e
+opened-other (c ∷ cs) (suc k) (suc j) new n e = opened-other cs k j new (λ q. n (ap suc q)) e
+
 -- another client at a place, one that is closed or apart from the bytes
 shares-put : (bytes : Range) (cs : List Client) (k : ℕ) (new : Client) → overlapsAny bytes (windowsOf cs) ≡ false → (new .opened && overlaps bytes (windowRange (new .window))) ≡ false →
     overlapsAny bytes (windowsOf (set cs k new)) ≡ false

@@ -25,6 +25,7 @@ use Rattle.record.specs.Queue.{readySlots, waiting}
 use Rattle.record.specs.Rules.{ringRule, memoryRule, readRule, numberRules, windowsRule, ticketsRule, endToEndRule, lengthsAllowed, lengthsRule, clientsOpen, ownersRule, pendingRule, stagedRule, valid}
 use Rattle.record.proofs.Order.{Oldest, oldest, order-freed, sum-split, sum-has}
 use Rattle.record.proofs.Line.{Headed, headed}
+use Rattle.record.proofs.Clients.{open-place, place-open}
 use Rattle.record.proofs.Opened.{windows-set, opened-set, open-more, counts-lowered}
 use Rattle.record.proofs.Unfinished.{staged-stays, freed-free}
 use Rattle.record.proofs.Rules.{LengthGood, length-good, Valid, valid-facts, valid-made, numbers-kept}
@@ -114,7 +115,7 @@ module _ (engine : Record) (ok : valid engine ≡ true) (k : ℕ) (some : readyS
 
   -- the same clients are open
   taken-open : (j : ℕ) → isOpen engine j ≡ true → isOpen taken j ≡ true
-  taken-open j h = opened-set (engine .clients) (first .client) _ j ∙ h
+  taken-open j h = let o = open-place engine j h in place-open taken j (o .0) (opened-set (engine .clients) (first .client) _ j ∙ o .1)
 
   at-four : wrapOffset (engine .setup .ring) (engine .read + first .length) % 4 ≡ 0
   at-four =
@@ -154,7 +155,7 @@ module _ (engine : Record) (ok : valid engine ≡ true) (k : ℕ) (some : readyS
 
   counts-taken : pendingRule taken ≡ true
   counts-taken =
-      counts-lowered (first .client) (engine .clients) (readyBatches (engine .slots)) (readyBatches left) first-owner (λ j. left-sum (λ x. cond (eqb (x .client) j) 1 0)) (v .counts)
+      counts-lowered (first .client) (engine .clients) (readyBatches (engine .slots)) (readyBatches left) (open-place engine (first .client) first-owner .1) (λ j. left-sum (λ x. cond (eqb (x .client) j) 1 0)) (v .counts)
 
   staged-taken : stagedRule taken ≡ true
   staged-taken =

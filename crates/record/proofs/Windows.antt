@@ -17,7 +17,7 @@ use Rattle.record.specs.declared.Window.{Window}
 use Rattle.record.specs.declared.Client.{Client}
 use Rattle.record.specs.declared.Record.{Record}
 use Rattle.record.specs.Clients.{noClient, clientAt, isOpen, windowsOf, windowRange, prefixRange, overlapsAny, badWindow, windowsValid}
-use Rattle.record.proofs.Clients.{shares-cons, valid-cons}
+use Rattle.record.proofs.Clients.{shares-cons, valid-cons, open-place}
 use Rattle.record.proofs.Opened.{window-good}
 use Rattle.record.proofs.Rules.{Valid}
 
@@ -68,10 +68,10 @@ module _ (setup : Setup) where
 
 module _ (engine : Record) (v : Valid engine) where
   pub window-placed : (client : ℕ) → isOpen engine client ≡ true → Placed (engine .setup) (clientAt engine client .window)
-  window-placed client o = none-placed (engine .setup) client (engine .clients) (v .windows) o
+  window-placed client o = none-placed (engine .setup) client (engine .clients) (v .windows) (open-place engine client o .1)
 
   pub windows-apart : (j k : ℕ) → j < k → isOpen engine j ≡ true → isOpen engine k ≡ true → overlaps (windowRange (clientAt engine j .window)) (windowRange (clientAt engine k .window)) ≡ false
-  windows-apart j k h o p = none-apart (engine .setup) j k (engine .clients) (v .windows) h o p
+  windows-apart j k h o p = none-apart (engine .setup) j k (engine .clients) (v .windows) h (open-place engine j o .1) (open-place engine k p .1)
 
 -- ---- sharing as two comparisons, where neither run is empty
 

@@ -4,7 +4,7 @@ use mathlib.Core.List.{List, [], _∷_}
 use mathlib.Core.Bool.{Bool, true, false, _||_, _&&_, not, cond}
 use Prim.Native.Nat.{ℕ, suc}
 use lib.ListN.{getD}
-use lib.Dec.{eqb}
+use lib.Dec.{ltb, eqb}
 use Rattle.range.specs.declared.Range.{Range}
 use Rattle.range.specs.Range.{rangeOf, containedIn, overlaps}
 use Rattle.record.specs.declared.Setup.{Setup}
@@ -18,13 +18,13 @@ use Rattle.record.specs.Slots.{countOf}
 abbrev pub noClient : Client
 noClient = record { window = record { start = 0; length = 0 }; pending = 0; opened = false }
 
--- the place of an id; past the last place no client is open
+-- the place of an id
 abbrev pub clientAt : Record → ℕ → Client
 clientAt engine client = getD (engine .clients) client noClient
 
--- there is such a client
+-- there is such a client; "ids are 0 to 3"
 abbrev pub isOpen : Record → ℕ → Bool
-isOpen engine client = clientAt engine client .opened
+isOpen engine client = ltb client 4 && clientAt engine client .opened
 
 -- the windows of the open clients, in the order of their ids
 unfoldable pub windowsOf : List Client → List Window

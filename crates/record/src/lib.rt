@@ -3,14 +3,14 @@ ghost use mathlib.Core.Path.{_≡_};
 ghost use mathlib.Core.Bool.{true, not, _&&_};
 ghost use mathlib.Core.List.{[]};
 ghost use Prim.Native.Nat.{_+_, _%_, _≤_, _<_};
-ghost use lib.ListN.{length, drop, getD};
+ghost use lib.ListN.{length, drop};
 ghost use lib.Dec.{leb, eqb};
 ghost use Rattle.ring.specs.Segment.{wrapOffset};
 ghost use Rattle.record.specs.Setup.{badRing, badMemory, badLength};
 ghost use Rattle.record.specs.Slots.{consIfReady, readyBatches, totalLength, countOf, isFreeState, lowestFree};
 ghost use Rattle.record.specs.Staged.{noStaged, slotHeld};
 ghost use Rattle.record.specs.Tickets.{ticketBefore, hasTicket, slotOfTicket, batchInState};
-ghost use Rattle.record.specs.Clients.{noClient, isOpen, windowsOf, lowestClosed, overlapsAny, badWindow, windowsValid, pendingCountsMatch};
+ghost use Rattle.record.specs.Clients.{isOpen, windowsOf, lowestClosed, overlapsAny, badWindow, windowsValid, pendingCountsMatch};
 ghost use Rattle.record.specs.Rules.{numberRules, batchRules, stagedRule, valid};
 use range::Range;
 use reset::ResetRule;
@@ -193,7 +193,7 @@ pub fn ready_bytes(slots: [Slot; 8]) -> usize
 }
 
 // How many ready batches are the client's.
-fn count_of(slots: [Slot; 8], client: u32) -> usize
+pub fn count_of(slots: [Slot; 8], client: u32) -> usize
     ensures { λ r. ⌜ r ≡ countOf client (readyBatches slots) ⌝ }
 {
     let mut n: usize = 0;
@@ -307,17 +307,6 @@ fn pending_counts_match(clients: [Client; 4], slots: [Slot; 8]) -> bool
     true
 }
 
-// Whether the client at a place is open. Past the last place there is none.
-fn opened_at(clients: [Client; 4], client: u32) -> bool
-    ensures { λ r. ⌜ r ≡ getD clients client noClient .opened ⌝ }
-{
-    if 4 <= client {
-        return false;
-    }
-    let own = clients[client as usize];
-    own.opened
-}
-
 // The lowest id that is free, 4 if none is.
 pub fn lowest_closed(clients: [Client; 4]) -> usize
     ensures { λ r. ⌜ (r ≡ lowestClosed clients) × (r ≤ 4) × (leb 4 r ≡ leb 4 (length (windowsOf clients))) ⌝ }
@@ -338,7 +327,11 @@ pub fn is_open(engine: Record, client: u32) -> bool
     ensures { λ r. ⌜ r ≡ isOpen engine client ⌝ }
 {
     let clients = engine.clients;
-    opened_at(clients, client)
+    if 4 <= client {
+        return false;
+    }
+    let own = clients[client as usize];
+    own.opened
 }
 
 // Whether a batch keeps its rules at `offset`, in the room that is left; `owned` says whether its client is open.
