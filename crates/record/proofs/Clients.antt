@@ -182,6 +182,17 @@ closed-full-places (c ∷ cs) h = go (c .opened) h (closed-full-places cs)
     go true h ih = let l = ih (omega arith) in omega arith
     go false h ih = absurd (omega (arith, windows-most cs))
 
+-- every place below it is open
+pub closed-least : (cs : List Client) (k : ℕ) → k < lowestClosed cs → getD cs k noClient .opened ≡ true
+unfolding lowestClosed
+closed-least [] k h = absurd (omega arith)
+closed-least (c ∷ cs) k h = go (c .opened) refl k h (closed-least cs)
+  where
+    go : (t : Bool) → c .opened ≡ t → (k : ℕ) → k < cond (c .opened) (suc (lowestClosed cs)) 0 → ((k : ℕ) → k < lowestClosed cs → getD cs k noClient .opened ≡ true) → getD (c ∷ cs) k noClient .opened ≡ true
+    go false e k h ih = absurd (let l = rw e at h in omega arith)
+    go true e zero h ih = e
+    go true e (suc k) h ih = ih k (let l = rw e at h in omega arith)
+
 -- row 3 by it
 pub closed-full : (cs : List Client) → length cs ≡ 4 → leb 4 (lowestClosed cs) ≡ leb 4 (length (windowsOf cs))
 closed-full cs four = go (leb 4 (length (windowsOf cs))) refl
