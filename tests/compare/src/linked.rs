@@ -100,6 +100,8 @@ mod library {
 
         pub fn wenditsal_cancel(engine: *mut u8, size: usize, client: u32) -> u32;
 
+        pub fn wenditsal_close(engine: *mut u8, size: usize, memory: *mut u8, memory_size: usize, client: u32) -> u32;
+
         pub fn wenditsal_run(
             engine: *mut u8,
             engine_size: usize,
@@ -250,6 +252,10 @@ pub fn call(call: &Call, buffers: &mut Buffers, guards: usize) -> Option<Answer>
             Call::Cancel { client } => {
                 handed_out.write(0);
                 library::wenditsal_cancel(record, size, client)
+            }
+            Call::Close { client } => {
+                handed_out.write(0);
+                library::wenditsal_close(record, size, memory.pointer(), memory.length, client)
             }
         }
     };

@@ -2,7 +2,7 @@
 use crate::tables::{blend_line, fault_line, refusal_line, register_line};
 
 /// The calls in the order in which `tables` has them.
-const CALLS: [&str; 8] = ["set up", "open", "submit", "run", "pending", "encode", "encode shaded", "encode tint"];
+const CALLS: [&str; 9] = ["set up", "open", "submit", "run", "pending", "close", "encode", "encode shaded", "encode tint"];
 
 /// A number as the documents have it: decimal, or hex digits after 0x.
 fn number(word: &str) -> Option<u32> {
