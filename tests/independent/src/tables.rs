@@ -68,8 +68,8 @@ fn refusals() -> Vec<String> {
         number(&submit(0, &[0; 20]), buffers(4, 7)),
     ];
     let other_memory = Buffers { memory: vec![0; 64], ..buffers(1, 1) };
-    let of_close =
-        [(4, none()), (4, other_memory), (4, buffers(1, 1)), (0, buffers(1, 1))].map(|(client, on)| number(&Call::Close { client }, on));
+    let of_close = [(4, none()), (4, other_memory), (4, buffers(1, 1)), (0, buffers(1, 1))]
+        .map(|(client, on)| number(&Call::Close { client }, on));
     let of_run = [none(), other_ring(0, 0), buffers(0, 0)].map(|on| number(&Call::Run, on));
     vec![
         refusal_line("set up", &[number(&set_up(0), no_room()), number(&set_up(0), none()), number(&set_up(128), none())]),
