@@ -345,10 +345,16 @@ mod tests {
         book.memory.fill(7);
         assert_eq!((book.open(28672, 64), book.open(28736, 64)), (Ok(1), Ok(2)));
         assert_eq!((book.submit(1, &[0; 4]), book.begin(0, 8)), (Ok(0), Ok(())));
-        assert_eq!([book.close(0), book.close(1), book.close(3), book.close(2), book.close(2)], [Err(18), Err(18), Err(5), Ok(()), Err(5)]);
+        assert_eq!(
+            [book.close(0), book.close(1), book.close(3), book.close(2), book.close(2)],
+            [Err(18), Err(18), Err(5), Ok(()), Err(5)]
+        );
         assert_eq!((book.memory[28735], book.memory[28736], book.memory[28799], book.memory[28800]), (7, 0, 0, 7));
         assert_eq!(book.run().map(|done| done.client), Ok(1));
-        assert_eq!((book.close(1), book.open(28700, 50), book.open(0x8000, 9), book.open(0x8008, 1)), (Ok(()), Ok(1), Ok(2), Err(4)));
+        assert_eq!(
+            (book.close(1), book.open(28700, 50), book.open(0x8000, 9), book.open(0x8008, 1)),
+            (Ok(()), Ok(1), Ok(2), Err(4))
+        );
         assert_eq!((book.cancel(0), book.close(0), book.pending(0)), (Ok(()), Ok(()), Err(5)));
         book.memory.pop();
         assert_eq!(book.close(9), Err(10));

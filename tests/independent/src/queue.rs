@@ -346,13 +346,19 @@ mod tests {
         let mut record = record();
         let mut memory = vec![7; 1024];
         assert_eq!(record.submit(&mut vec![0; 128], 1, &[0; 4]), Ok(0));
-        assert_eq!([record.close(&mut memory, 1), record.close(&mut memory, 2), record.close(&mut [], 0)], [Err(18), Err(5), Err(10)]);
+        assert_eq!(
+            [record.close(&mut memory, 1), record.close(&mut memory, 2), record.close(&mut [], 0)],
+            [Err(18), Err(5), Err(10)]
+        );
         assert_eq!(record.close(&mut memory, 0), Ok(()));
         assert_eq!((memory[255], memory[256], memory[511], memory[512]), (7, 0, 0, 7));
         assert_eq!((record.pending(0), record.pending(1)), (Err(5), Ok(1)));
         record.clients[0] = Client { start: 0, length: 9999, pending: 3, open: false };
         assert!(record.is_valid());
-        assert_eq!((record.open(300, 100), record.open(400, 112), record.open(256, 44), record.open(0, 1)), (Ok(0), Ok(2), Ok(3), Err(3)));
+        assert_eq!(
+            (record.open(300, 100), record.open(400, 112), record.open(256, 44), record.open(0, 1)),
+            (Ok(0), Ok(2), Ok(3), Err(3))
+        );
     }
 
     #[test]

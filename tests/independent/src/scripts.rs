@@ -125,7 +125,8 @@ impl Script<'_> {
     /// A client that can be closed, or any; what it leaves is used again.
     fn close(&mut self) {
         let open = self.book.clients();
-        let client = if open.is_empty() || self.random.one_in(8) { self.unknown_client() } else { self.random.pick(&open) as u8 };
+        let client =
+            if open.is_empty() || self.random.one_in(8) { self.unknown_client() } else { self.random.pick(&open) as u8 };
         if let Ok(window) = self.book.vacate(client.into()) {
             self.borders.extend([window.start as u32, window.end as u32]);
         }
