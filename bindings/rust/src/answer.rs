@@ -14,7 +14,7 @@ pub enum Refusal {
     FourClients,
     /// 4, by open: the window is empty, past memory's end, or shares a byte with common or another window.
     BadWindow,
-    /// 5, by submit, begin, piece, cancel and pending: there is no such client.
+    /// 5, by submit, begin, piece, cancel, pending and close: there is no such client.
     NoClient,
     /// 6, by submit and begin: the batch's length is 0, no multiple of 4, or over the ring length.
     BatchLength,
@@ -36,6 +36,8 @@ pub enum Refusal {
     NoHandOver,
     /// 15, by [`encode_tint`](crate::encode_tint): the score is NaN or outside 0 to 1.
     BadScore,
+    /// 18, by close: a batch of the client is ready, or it is handing one over by pieces.
+    ClientBusy,
     /// 24, by [`Task::encode`](crate::Task::encode): a field that its register's rule forbids.
     ForbiddenField,
     /// A number that this version of the package has no name for.
@@ -43,7 +45,7 @@ pub enum Refusal {
 }
 
 /// Every refusal that has a name, by its number.
-const REFUSALS: [(u32, Refusal); 16] = [
+const REFUSALS: [(u32, Refusal); 17] = [
     (1, Refusal::RingLength),
     (2, Refusal::MemoryLength),
     (3, Refusal::FourClients),
@@ -59,6 +61,7 @@ const REFUSALS: [(u32, Refusal); 16] = [
     (13, Refusal::HandOverOpen),
     (14, Refusal::NoHandOver),
     (15, Refusal::BadScore),
+    (18, Refusal::ClientBusy),
     (24, Refusal::ForbiddenField),
 ];
 
@@ -101,6 +104,7 @@ impl Refusal {
             Refusal::HandOverOpen => "a batch is being handed over by pieces",
             Refusal::NoHandOver => "this client hands over no batch, or the piece is longer than what is left of it",
             Refusal::BadScore => "the score is NaN or outside 0 to 1",
+            Refusal::ClientBusy => "a batch of the client is ready, or it is handing one over by pieces",
             Refusal::ForbiddenField => "a field that its register's rule forbids",
             Refusal::Other(_) => "a reason without a name here",
         }

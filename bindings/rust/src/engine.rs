@@ -80,7 +80,7 @@ impl Engine {
         Ok(Engine { record, ring: vec![0; setup.ring], memory: vec![0; setup.memory] })
     }
 
-    /// Opens a client with a window in memory: `length` bytes from `start` on. Answers its id.
+    /// Opens a client with a window in memory: `length` bytes from `start` on. Answers its id, the lowest that is free.
     ///
     /// ```
     /// # use wenditsal::{Engine, Refusal, ResetRule, Setup};
@@ -204,6 +204,30 @@ impl Engine {
         let mut count = 0;
         Refusal::check(library::pending(&self.record, client, &mut count))?;
         Ok(count)
+    }
+
+    /// Closes a client: its window is filled with zeros, and its id and its window are free for the next opening.
+    ///
+    /// ```
+    /// # use wenditsal::{Engine, Refusal, ResetRule, Setup};
+    /// # let mut engine = Engine::new(Setup { ring: 128, memory: 1024, common: 0, reset: ResetRule::SrcOver })?;
+    /// let (one, other) = (engine.open(0, 512)?, engine.open(512, 512)?);
+    /// engine.memory_mut().fill(7);
+    /// engine.submit(one, &[0; 8])?;
+    /// assert_eq!(engine.close(one), Err(Refusal::ClientBusy));
+    /// engine.run()?;
+    /// engine.close(one)?;
+    /// assert_eq!((engine.memory()[511], engine.memory()[512]), (0, 7));
+    /// assert_eq!(engine.close(one), Err(Refusal::NoClient));
+    /// engine.close(other)?;
+    /// assert_eq!(engine.open(256, 512), Ok(0));
+    /// # Ok::<(), Refusal>(())
+    /// ```
+    ///
+    /// # Errors
+    /// [`Refusal::NoClient`], [`Refusal::ClientBusy`].
+    pub fn close(&mut self, client: u32) -> Result<(), Refusal> {
+        Refusal::check(library::close(&mut self.record, &mut self.memory, client))
     }
 
     /// The memory that is drawn into.

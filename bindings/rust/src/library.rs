@@ -99,6 +99,7 @@ extern "C" {
         progress: *mut ProgressFields,
     ) -> u32;
     fn wenditsal_cancel(engine: *mut u8, engine_size: usize, client: u32) -> u32;
+    fn wenditsal_close(engine: *mut u8, engine_size: usize, memory: *mut u8, memory_size: usize, client: u32) -> u32;
     fn wenditsal_run(
         engine: *mut u8,
         engine_size: usize,
@@ -179,6 +180,10 @@ pub fn piece(engine: &mut [u8], ring: &mut [u8], client: u32, piece: &[u8], prog
 
 pub fn cancel(engine: &mut [u8], client: u32) -> u32 {
     unsafe { wenditsal_cancel(engine.as_mut_ptr(), engine.len(), client) }
+}
+
+pub fn close(engine: &mut [u8], memory: &mut [u8], client: u32) -> u32 {
+    unsafe { wenditsal_close(engine.as_mut_ptr(), engine.len(), memory.as_mut_ptr(), memory.len(), client) }
 }
 
 pub fn run(engine: &mut [u8], ring: &[u8], memory: &mut [u8], completion: &mut CompletionFields) -> u32 {

@@ -9,17 +9,19 @@ use Rattle.record.specs.declared.Record.{Record}
 use Rattle.queue.specs.declared.Answer.{Answer}
 use Rattle.queue.specs.declared.Answer.the-variants.{Refused, Done, Opened, Accepted, Ready, Missing}
 use Rattle.queue.specs.Answers.{refusalNumberOf, valueOf}
-use Rattle.queue.specs.Calls.{setUpResult, openResult, submitResult, submitNumber, beginResult, pieceResult, pieceNumber, cancelResult, pendingAnswer}
-use Rattle.queue.proofs.Stays.{submit-number, submit-same, piece-number, piece-same}
+use Rattle.queue.specs.Calls.{setUpResult, openResult, submitResult, submitNumber, beginResult, pieceResult, pieceNumber, cancelResult, closeResult, pendingAnswer}
+use Rattle.queue.proofs.Stays.{submit-number, submit-same, piece-number, piece-same, close-number}
 use Rattle.engine.specs.declared.Outcome.{Outcome}
 use Rattle.engine.specs.declared.Outcome.the-variants.{Refused as NotRun, Completed}
 use Rattle.engine.specs.Outcome.{runRefusalOf as refusalOf}
 use Rattle.engine.specs.Run.{runResult, runNumber}
+use Rattle.engine.specs.Close.{closeNumber}
+use Rattle.engine.proofs.Zeros.{close-left}
 use Rattle.engine.proofs.Stays.{run-number, run-same}
 use Rattle.answers.specs.Answers.{lastOf, fiveOf}
 use Rattle.record_bytes.specs.Read.{recordOf}
 use Rattle.record_bytes.specs.Written.{bytesOf}
-use Rattle.calls.specs.Calls.{setUpNumber, SetsUp, Told, Opens, Submits, Done as Silent, Begins, HandsOver, Cancels, Pends, Runs}
+use Rattle.calls.specs.Calls.{setUpNumber, SetsUp, Told, Opens, Submits, Done as Silent, Begins, HandsOver, Cancels, Closes, Pends, Runs}
 use Rattle.calls.specs.Harmless.{Harmless}
 use Rattle.calls.proofs.Telling.{unless-not}
 
@@ -93,6 +95,13 @@ module _ (bytes bytesNow : List ℕ) (number : ℕ) (refused : number ≡ 0 → 
         s .ring-is ∙ piece-same r ring client piece n .1,
       )
 
+  close-none : (memory memoryNow : List ℕ) (client : ℕ) → Closes bytes memory client number bytesNow memoryNow → (bytesNow ≡ bytes) × (memoryNow ≡ memory)
+  close-none memory memoryNow client s =
+      let r : Record = recordOf bytes in
+      let reply = closeResult r (length memory) client in
+      let n : closeNumber r memory client ≡ 0 → ⊥ = λ e. refused (s .told .number-is ∙ close-number r (length memory) client ∙ e) in
+      (silent-none bytes (bytesOf (reply .engine)) (reply .answer) number bytesNow refused (s .told), s .memory-is ∙ close-left r memory client n)
+
   run-none : (ring memory memoryNow five : List ℕ) → Runs bytes ring memory number five bytesNow memoryNow →
       (five ≡ 0 ∷ 0 ∷ 0 ∷ 0 ∷ 0 ∷ []) × (bytesNow ≡ bytes) × (memoryNow ≡ memory)
   run-none ring memory memoryNow five s =
@@ -106,4 +115,4 @@ module _ (bytes bytesNow : List ℕ) (number : ℕ) (refused : number ≡ 0 → 
   pending-none client value s = s .value-is ∙ no-value (pendingAnswer (recordOf bytes) client) (λ e. refused (s .number-is ∙ e))
 
   pub harmless : Harmless bytes bytesNow number refused
-  harmless = record { by-set-up = set-up-none; by-open = open-none; by-submit = submit-none; by-begin = begin-none; by-piece = piece-none; by-cancel = cancel-none; by-run = run-none; by-pending = pending-none }
+  harmless = record { by-set-up = set-up-none; by-open = open-none; by-submit = submit-none; by-begin = begin-none; by-piece = piece-none; by-cancel = cancel-none; by-close = close-none; by-run = run-none; by-pending = pending-none }

@@ -12,14 +12,15 @@ use Rattle.record.specs.Rules.{valid}
 use Rattle.queue.specs.declared.Answer.{Answer}
 use Rattle.queue.specs.declared.Reply.{Reply}
 use Rattle.queue.specs.Answers.{refusalNumberOf, valueOf}
-use Rattle.queue.specs.Calls.{unlessRefused, setUpResult, openResult, submitResult, submitRing, beginResult, pieceResult, pieceRing, cancelResult, pendingAnswer}
-use Rattle.queue.proofs.Refusals.{open-allowed, submit-allowed, piece-allowed, cancel-allowed}
-use Rattle.queue.proofs.Stays.{open-number, submit-number, begin-number, piece-number, cancel-number}
+use Rattle.queue.specs.Calls.{unlessRefused, setUpResult, openResult, submitResult, submitRing, beginResult, pieceResult, pieceRing, cancelResult, closeResult, pendingAnswer}
+use Rattle.queue.proofs.Refusals.{open-allowed, submit-allowed, piece-allowed, cancel-allowed, close-allowed}
+use Rattle.queue.proofs.Stays.{open-number, submit-number, begin-number, piece-number, cancel-number, close-number}
+use Rattle.engine.specs.Close.{closeMemory}
 use Rattle.answers.specs.Answers.{shortAnswer, pieceWords}
 use Rattle.record_bytes.specs.Read.{recordOf}
 use Rattle.record_bytes.specs.Written.{bytesOf, written}
 use Rattle.record_bytes.proofs.Cases.{valid-record, record-size, written-whole}
-use Rattle.calls.specs.Calls.{SetsUp, Told, Opens, Submits, Done, Begins, ToldTwo, HandsOver, Cancels, Pends}
+use Rattle.calls.specs.Calls.{SetsUp, Told, Opens, Submits, Done, Begins, ToldTwo, HandsOver, Cancels, Closes, Pends}
 
 -- ---- what tell does
 
@@ -151,6 +152,19 @@ module _ (bytes : List ℕ) (engine : Record) (is : engine ≡ recordOf bytes) w
       done-whole bytes (cancelResult (recordOf bytes) client) number value bytesNow
       (λ z. fits bytes (cancel-allowed (recordOf bytes) client (sym (cancel-number (recordOf bytes) client) ∙ z) .ok))
       (subst (λ (x : Reply). Told bytes (written (x .engine) bytes) (x .answer) number value bytesNow) both t)
+
+  pub close-told : (memory : List ℕ) (client : ℕ) (reply : Reply) (number value : ℕ) (bytesNow memoryNow : List ℕ) → reply ≡ closeResult engine (length memory) client →
+      memoryNow ≡ closeMemory engine memory client → Told bytes (written (reply .engine) bytes) (reply .answer) number value bytesNow → Closes bytes memory client number bytesNow memoryNow
+  close-told memory client reply number value bytesNow memoryNow e q t =
+      let r : Record = recordOf bytes in
+      let both : reply ≡ closeResult r (length memory) client = e ∙ ap (λ (x : Record). closeResult x (length memory) client) is in
+      record {
+        told =
+            done-whole bytes (closeResult r (length memory) client) number value bytesNow
+            (λ z. fits bytes (close-allowed r (length memory) client (sym (close-number r (length memory) client) ∙ z) .ok))
+            (subst (λ (x : Reply). Told bytes (written (x .engine) bytes) (x .answer) number value bytesNow) both t);
+        memory-is = q ∙ ap (λ (x : Record). closeMemory x memory client) is;
+      }
 
   pub pending-told : (client : ℕ) (a : Answer) (words : List ℕ) → a ≡ pendingAnswer engine client → words ≡ shortAnswer (refusalNumberOf a) (valueOf a) →
       Pends bytes client (getD words 0 0) (getD words 1 0)

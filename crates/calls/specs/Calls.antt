@@ -11,11 +11,12 @@ use Rattle.record.specs.declared.Window.{Window}
 use Rattle.queue.specs.declared.Answer.{Answer}
 use Rattle.queue.specs.declared.Reply.{Reply}
 use Rattle.queue.specs.Answers.{refusalNumberOf, valueOf}
-use Rattle.queue.specs.Calls.{unlessRefused, setUpResult, openResult, submitResult, submitRing, beginResult, pieceResult, pieceRing, cancelResult, pendingAnswer}
+use Rattle.queue.specs.Calls.{unlessRefused, setUpResult, openResult, submitResult, submitRing, beginResult, pieceResult, pieceRing, cancelResult, closeResult, pendingAnswer}
 use Rattle.engine.specs.declared.Outcome.{Outcome}
 use Rattle.engine.specs.declared.Ran.{Ran}
 use Rattle.engine.specs.Outcome.{runRefusalOf as refusalOf}
 use Rattle.engine.specs.Run.{runResult, runMemory}
+use Rattle.engine.specs.Close.{closeMemory}
 use Rattle.answers.specs.Answers.{lastOf, fiveOf}
 use Rattle.record_bytes.specs.Read.{recordOf}
 use Rattle.record_bytes.specs.Written.{bytesOf}
@@ -84,6 +85,14 @@ pub record HandsOver (bytes ring : List ℕ) (client : ℕ) (piece : List ℕ) (
       let reply : Reply = pieceResult (recordOf bytes) ring client piece in
       ToldTwo bytes (bytesOf (reply .engine)) (reply .answer) number two bytesNow
   pub ring-is : ringNow ≡ pieceRing (recordOf bytes) ring client piece
+
+-- ---- close (02, 11)
+
+pub record Closes (bytes memory : List ℕ) (client number : ℕ) (bytesNow memoryNow : List ℕ) : Type 0 where
+  pub told :
+      let reply : Reply = closeResult (recordOf bytes) (length memory) client in
+      Done bytes (bytesOf (reply .engine)) (reply .answer) number bytesNow
+  pub memory-is : memoryNow ≡ closeMemory (recordOf bytes) memory client
 
 -- ---- run
 

@@ -5,7 +5,7 @@ use mathlib.Core.List.{List, [], _∷_}
 use Prim.Native.Nat.{ℕ}
 use Rattle.reset.specs.declared.ResetRule.{ResetRule}
 use Rattle.record.specs.declared.Window.{Window}
-use Rattle.calls.specs.Calls.{SetsUp, Opens, Submits, Begins, HandsOver, Cancels, Pends, Runs}
+use Rattle.calls.specs.Calls.{SetsUp, Opens, Submits, Begins, HandsOver, Cancels, Closes, Pends, Runs}
 
 module _ (bytes bytesNow : List ℕ) (number : ℕ) (refused : number ≡ 0 → ⊥) where
   pub record Harmless : Type 0 where
@@ -17,6 +17,7 @@ module _ (bytes bytesNow : List ℕ) (number : ℕ) (refused : number ≡ 0 → 
     pub by-piece : (ring ringNow : List ℕ) (client : ℕ) (piece two : List ℕ) → HandsOver bytes ring client piece number two bytesNow ringNow →
         (two ≡ 0 ∷ 0 ∷ []) × (bytesNow ≡ bytes) × (ringNow ≡ ring)
     pub by-cancel : (client : ℕ) → Cancels bytes client number bytesNow → bytesNow ≡ bytes
+    pub by-close : (memory memoryNow : List ℕ) (client : ℕ) → Closes bytes memory client number bytesNow memoryNow → (bytesNow ≡ bytes) × (memoryNow ≡ memory)
     pub by-run : (ring memory memoryNow five : List ℕ) → Runs bytes ring memory number five bytesNow memoryNow →
         (five ≡ 0 ∷ 0 ∷ 0 ∷ 0 ∷ 0 ∷ []) × (bytesNow ≡ bytes) × (memoryNow ≡ memory)
     pub by-pending : (client value : ℕ) → Pends bytes client number value → value ≡ 0

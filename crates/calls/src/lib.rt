@@ -3,7 +3,7 @@ ghost use mathlib.Core.Path.{_≡_};
 ghost use Rattle.queue.specs.Answers.{refusalNumberOf, valueOf};
 ghost use Rattle.record_bytes.specs.Written.{written};
 ghost use Rattle.answers.specs.Answers.{Small};
-ghost use Rattle.calls.specs.Calls.{SetsUp, Told, Opens, Submits, Begins, ToldTwo, HandsOver, Cancels, Pends, Reports, Runs};
+ghost use Rattle.calls.specs.Calls.{SetsUp, Told, Opens, Submits, Begins, ToldTwo, HandsOver, Cancels, Closes, Pends, Reports, Runs};
 use engine::Ran;
 use queue::Reply;
 use reset::ResetRule;
@@ -115,6 +115,16 @@ pub fn cancel(bytes: &mut [u8], client: u32) -> u32
 {
     let engine = record_bytes::decode(bytes);
     let reply = engine::cancel(engine, client);
+    let mut none: u32 = 0;
+    tell(bytes, reply, &mut none)
+}
+
+// Closes a client: its window is filled with zeros, and its id and window are free.
+pub fn close(bytes: &mut [u8], memory: &mut [u8], client: u32) -> u32
+    ensures { λ r. ⌜ Closes (now (bytes .entry)) (now (memory .entry)) client r (now (bytes .exit)) (now (memory .exit)) ⌝ }
+{
+    let engine = record_bytes::decode(bytes);
+    let reply = engine::close(engine, memory, client);
     let mut none: u32 = 0;
     tell(bytes, reply, &mut none)
 }

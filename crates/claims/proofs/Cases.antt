@@ -8,6 +8,7 @@ use lib.ListN.{length}
 use Rattle.ring.specs.Copied.{copiedIn}
 use Rattle.record.specs.declared.Window.{Window as Place}
 use Rattle.record.specs.Slots.{readyBatches as readyOf, countOf}
+use Rattle.record.specs.Clients.{clientAt, lowestClosed}
 use Rattle.record.specs.Queue.{writeOffset}
 use Rattle.record.specs.declared.Record.{Record}
 use Rattle.queue.specs.declared.Answer.{Answer as Told}
@@ -15,14 +16,15 @@ use Rattle.record.specs.Staged.{noStaged, missingBytes}
 use Rattle.queue.specs.declared.Answer.the-variants.{Done, Opened, Accepted, Ready, Missing}
 use Rattle.queue.specs.Answers.{refusalNumberOf, valueOf, answerUnlessRefused as replied}
 use Rattle.queue.specs.Refusals.{firstRefusal}
-use Rattle.queue.specs.Calls.{unlessRefused, withClient, openResult, newBatch, submitted, submitResult, submitRing, withStaged, begun, beginResult, more, isLast, pieceAnswer, afterPiece, pieceOffset, pieceResult, pieceRing, cancelResult, pendingAnswer}
+use Rattle.queue.specs.Calls.{unlessRefused, withClient, openResult, newBatch, submitted, submitResult, submitRing, withStaged, begun, beginResult, more, isLast, pieceAnswer, afterPiece, pieceOffset, pieceResult, pieceRing, cancelResult, withoutClient, closeResult, pendingAnswer}
 use Rattle.engine.specs.declared.Completion.{Completion}
 use Rattle.engine.specs.declared.Outcome.the-variants.{Completed}
 use Rattle.engine.specs.Outcome.{runRefusalOf as refusalOf, valuesOf}
 use Rattle.engine.specs.Run.{outcomeUnlessRefused, runResult, runMemory}
+use Rattle.engine.specs.Close.{zeroed, closeMemory}
 use Rattle.engine.proofs.Calls.{completion as completionOf}
 use Rattle.model.specs.Windows.{Window}
-use Rattle.model.specs.Calls.{Call, opens, submit, run, pending, begin, piece, cancel, opened, accepted, completed, ready, done as silent, refused}
+use Rattle.model.specs.Calls.{Call, opens, submit, run, pending, begin, piece, cancel, close, opened, accepted, completed, ready, done as silent, refused}
 use Rattle.claims.specs.BatchSemantics.{completionStatusOf}
 use Rattle.claims.specs.Engine.{State, mkState, CallResult, answerOrRefusal, completion, pieceTold, performCall}
 use Rattle.claims.specs.Demand1.{refusalTableOf, RefusalNoOp}
@@ -38,7 +40,7 @@ number c s = firstRefusal (refusalTableOf c s)
 
 -- what comes of a call that is done
 abbrev pub done : Call → State → CallResult
-done (opens w) s = record { answer = opened (s .engine .opened); after = mkState (withClient (s .engine) (given w)) (s .ring) (s .memory) }
+done (opens w) s = record { answer = opened (lowestClosed (s .engine .clients)); after = mkState (withClient (s .engine) (given w)) (s .ring) (s .memory) }
 done (submit client bytes) s = record {
   answer = accepted (s .engine .next);
   after = mkState (submitted (s .engine) client (length bytes)) (copiedIn (s .ring) (writeOffset (s .engine)) bytes) (s .memory);
@@ -51,6 +53,7 @@ done (piece client bytes) s = record {
   after = mkState (afterPiece (s .engine) (length bytes)) (copiedIn (s .ring) (pieceOffset (s .engine)) bytes) (s .memory);
 }
 done (cancel client) s = record { answer = silent; after = mkState (withStaged (s .engine) noStaged) (s .ring) (s .memory) }
+done (close client) s = record { answer = silent; after = mkState (withoutClient (s .engine) client) (s .ring) (zeroed (clientAt (s .engine) client .window) (s .memory)) }
 
 -- the one or the other
 unfoldable pub either : (number : ℕ) → State → CallResult → CallResult
@@ -94,6 +97,13 @@ module _ (e e′ : Record) (r r′ m m′ : List ℕ) where
   case-silent zero = refl
   case-silent (suc n) = refl
 
+  case-close : (n : ℕ) →
+      record { answer = answerOrRefusal (refusalNumberOf (replied n Done)) silent; after = mkState (unlessRefused n e e′) r (unlessRefused n m m′) } ≡
+      either n (mkState e r m) (record { answer = silent; after = mkState e′ r m′ })
+  unfolding answerOrRefusal replied unlessRefused either
+  case-close zero = refl
+  case-close (suc n) = refl
+
   case-piece : (n : ℕ) (a : Told) → refusalNumberOf a ≡ 0 →
       record { answer = answerOrRefusal (refusalNumberOf (replied n a)) (pieceTold (replied n a)); after = mkState (unlessRefused n e e′) (unlessRefused n r r′) m } ≡
       either n (mkState e r m) (record { answer = pieceTold a; after = mkState e′ r′ m })
@@ -110,10 +120,10 @@ piece-told engine size = go (isLast (engine .staged) size)
     go false = refl
 
 pub by-number : (c : Call) (s : State) → performCall c s ≡ either (number c s) s (done c s)
-unfolding performCall openResult submitResult submitRing runResult runMemory beginResult pieceResult pieceRing cancelResult pendingAnswer
+unfolding performCall openResult submitResult submitRing runResult runMemory beginResult pieceResult pieceRing cancelResult closeResult closeMemory pendingAnswer
 by-number (opens w) s =
     let d : State = done (opens w) s .after in
-    case-open (s .engine) (d .engine) (s .ring) (d .ring) (s .memory) (d .memory) (number (opens w) s) (s .engine .opened)
+    case-open (s .engine) (d .engine) (s .ring) (d .ring) (s .memory) (d .memory) (number (opens w) s) (lowestClosed (s .engine .clients))
 by-number (submit client bytes) s =
     let d : State = done (submit client bytes) s .after in
     case-submit (s .engine) (d .engine) (s .ring) (d .ring) (s .memory) (d .memory) (number (submit client bytes) s) (s .engine .next)
@@ -131,6 +141,9 @@ by-number (piece client bytes) s =
 by-number (cancel client) s =
     let d : State = done (cancel client) s .after in
     case-silent (s .engine) (d .engine) (s .ring) (d .ring) (s .memory) (d .memory) (number (cancel client) s)
+by-number (close client) s =
+    let d : State = done (close client) s .after in
+    case-close (s .engine) (d .engine) (s .ring) (d .ring) (s .memory) (d .memory) (number (close client) s)
 
 -- ---- a refusal changes nothing, whatever record, ring and memory are
 
@@ -151,6 +164,7 @@ answers (piece client bytes) s k e = go (isLast (s .engine .staged) (length byte
     go true e = let z : _≡_ {A = ℕ} 0 1 = cc in omega arith
     go false e = let z : _≡_ {A = ℕ} 0 1 = cc in omega arith
 answers (cancel client) s k e = let z : _≡_ {A = ℕ} 0 1 = cc in omega arith
+answers (close client) s k e = let z : _≡_ {A = ℕ} 0 1 = cc in omega arith
 
 pub harmless : (c : Call) (s : State) → RefusalNoOp c s
 harmless c s = rw (by-number c s) (quiet (number c s) s (done c s) (answers c s))

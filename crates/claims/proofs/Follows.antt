@@ -3,25 +3,24 @@ use mathlib.Core.Path.{_≡_, refl, ap, ap₂, sym, subst, _∙_}
 use mathlib.Core.List.{List, [], _∷_}
 use Prim.Native.Nat.{ℕ}
 use lib.ListN.{length}
-use Rattle.record.specs.Clients.{windowsOf}
 use Rattle.record.proofs.Line.{held}
 use Rattle.queue.specs.Refusals.{firstRefusal, setUpTable}
 use Rattle.queue.specs.Calls.{unlessRefused, initialRecord as freshRecord, setUpResult}
 use Rattle.queue.proofs.Refusals.{set-up-allowed}
 use Rattle.queue.proofs.Kept.{fresh-sized, fresh-valid, fresh-waiting}
 use Rattle.queue.proofs.Stays.{set-up-number}
-use Rattle.model.specs.Calls.{Setup, Call, opens, submit, run, pending, begin, piece, cancel, Answer}
+use Rattle.model.specs.Calls.{Setup, Call, opens, submit, run, pending, begin, piece, cancel, close, Answer}
 use Rattle.model.specs.State.{Model, initialModel}
 use Rattle.model.specs.Refusals.{refusal}
-use Rattle.model.specs.Model.{step, effect, answers, after, modelAfterAll}
+use Rattle.model.specs.Model.{step, effect, answers, memories, after, modelAfterAll}
 use Rattle.claims.specs.ModelProperties.{batchSemantics}
-use Rattle.claims.specs.Engine.{State, mkState, performCall, answersOf, stateAfter, SetUpAccepted, initialState}
+use Rattle.claims.specs.Engine.{State, mkState, performCall, answersOf, memoriesOf, stateAfter, SetUpAccepted, initialState}
 use Rattle.claims.specs.Demand3.{RefinesModel}
 use Rattle.claims.proofs.Cases.{number, done, by-number}
-use Rattle.claims.proofs.Seen.{seenWindows}
+use Rattle.claims.proofs.Seen.{seenPlaces}
 use Rattle.claims.proofs.Related.{numbersIn, seen, none-seen, Related}
 use Rattle.claims.proofs.Tables.{alike}
-use Rattle.claims.proofs.Steps.{Alike, either-alike, open-done, submit-done, begin-done, cancel-done, pending-done}
+use Rattle.claims.proofs.Steps.{Alike, either-alike, open-done, submit-done, begin-done, cancel-done, close-done, pending-done}
 use Rattle.claims.proofs.Pieces.{piece-done}
 use Rattle.claims.proofs.Runs.{run-done}
 
@@ -34,6 +33,7 @@ module _ (setup : Setup) (n : ℕ) where
   all-done (begin client total) model s R z = begin-done setup n s (R .sound) (model .accepted) (R .next) client total z
   all-done (piece client bytes) model s R z = piece-done setup n s (R .sound) (model .accepted) (R .next) client bytes z
   all-done (cancel client) model s R z = cancel-done setup n s (R .sound) (model .accepted) (R .next) client z
+  all-done (close client) model s R z = close-done setup n s (R .sound) (model .accepted) (R .next) client z
   all-done (pending client) model s R z = pending-done setup n s (R .sound) (model .accepted) (R .next) client
 
   -- any call
@@ -55,6 +55,14 @@ module _ (setup : Setup) (n : ℕ) where
       let r = follow cs (step (batchSemantics setup) setup n c model .after) (performCall c s .after) (q .1) in
       (ap₂ (λ (a : Answer) (rest : List Answer). a ∷ rest) (q .0) (r .0), r .1)
 
+  -- and memory after each call is the model's
+  pub remember : (cs : List Call) (model : Model) (s : State) → Related setup n model s → memoriesOf cs s ≡ memories (batchSemantics setup) setup n cs model
+  unfolding memoriesOf memories
+  remember [] model s R = refl
+  remember (c ∷ cs) model s R =
+      let q = together c model s R .1 in
+      ap₂ (λ (m : List ℕ) (rest : List (List ℕ)). m ∷ rest) (sym (ap (λ (m : Model). m .memory) (q .is))) (remember cs (step (batchSemantics setup) setup n c model .after) (performCall c s .after) q)
+
 -- ---- from the start
 
 module _ (setup : Setup) (ring : List ℕ) (A : SetUpAccepted setup) where
@@ -66,7 +74,7 @@ module _ (setup : Setup) (ring : List ℕ) (A : SetUpAccepted setup) where
   begun memory = rw none
 
   fresh-related : (memory : List ℕ) → Related setup (length ring) (initialModel memory) (mkState (freshRecord (numbersIn setup)) ring memory)
-  unfolding freshRecord windowsOf seenWindows held
+  unfolding freshRecord seenPlaces held
   fresh-related memory = record {
     sound = record {
       sized = fresh-sized (numbersIn setup);

@@ -4,7 +4,7 @@ use mathlib.Core.List.{List, [], _∷_, _++_, List·Memᴰ, List·Memᴰ·head, 
 use mathlib.Core.Logic.{_⊎_, inl, inr}
 use Prim.Native.Nat.{ℕ, zero, suc}
 use lib.ListN.{length, take}
-use Rattle.model.specs.Calls.{Setup, Call, opens, submit, run, pending, begin, piece, cancel, CompletionStatus, Answer, completed}
+use Rattle.model.specs.Calls.{Setup, Call, opens, submit, run, pending, begin, piece, cancel, close, CompletionStatus, Answer, completed}
 use Rattle.model.specs.BatchSemantics.{BatchSemantics}
 use Rattle.model.specs.State.{Batch, Staging, idle, staging, Model}
 use Rattle.model.specs.Refusals.{refusal}
@@ -62,6 +62,7 @@ module _ (way : BatchSemantics) (setup : Setup) (ring : ℕ) where
       staged idle = λ told bs n. n
       staged (staging d total before) = cond-cases One (eqb (length (before ++ bytes)) total) _ _ (λ t told bs n. n) (λ t told bs n. n)
   step-one (cancel client) model = unless-cases One (refusal setup ring model (cancel client)) model _ (λ e told bs n. n) (λ k told bs n. n)
+  step-one (close client) model = unless-cases One (refusal setup ring model (close client)) model _ (λ e told bs n. n) (λ k told bs n. n)
   step-one (pending client) model = unless-cases One (refusal setup ring model (pending client)) model _ (λ e told bs n. n) (λ k told bs n. n)
 
   all-named : (cs : List Call) (model : Model) → Names (completedOf (answers way setup ring cs model)) (executed way setup ring cs model)

@@ -11,9 +11,9 @@ of-model setup ring =
     let c = claims (batchSemantics setup) setup ring in
     record {
       separate = c .separate (confined (resetBank (setup .reset)));
-      unmoved = c .unmoved (confined (resetBank (setup .reset)));
-      holds = c .holds;
-      of-open = c .of-open;
+      noninterference = c .noninterference (confined (resetBank (setup .reset)));
+      lowest = c .lowest;
+      tenanted = c .tenanted;
       in-order = c .in-order;
       in-time = c .in-time;
       harmless = c .harmless;

@@ -34,7 +34,7 @@ promise setup ring A =
       any-order = c .any-order (confined (resetBank (setup .reset)));
       any-submissions = c .any-submissions (confined (resetBank (setup .reset)));
       by-hand = c .by-hand (confined (resetBank (setup .reset)));
-      engine-order = λ calls calls′ memory windows same. of-engine setup ring A calls calls′ memory (c .any-order (confined (resetBank (setup .reset))) calls calls′ memory windows same);
-      engine-submissions = λ calls calls′ memory windows none none′ same.
-          of-engine setup ring A calls calls′ memory (c .any-submissions (confined (resetBank (setup .reset))) calls calls′ memory windows none none′ same);
+      engine-order = λ calls calls′ memory same. of-engine setup ring A calls calls′ memory (c .any-order (confined (resetBank (setup .reset))) calls calls′ memory same);
+      engine-submissions = λ calls calls′ memory all all′ same.
+          of-engine setup ring A calls calls′ memory (c .any-submissions (confined (resetBank (setup .reset))) calls calls′ memory all all′ same);
     }

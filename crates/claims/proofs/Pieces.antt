@@ -29,7 +29,7 @@ use Rattle.queue.specs.Calls.{newBatch, withBatch, withStaged, more, isLast, pi
 use Rattle.queue.proofs.Refusals.{PieceAllowed, piece-allowed}
 use Rattle.queue.proofs.Calls.{more-record}
 use Rattle.queue.proofs.Kept.{few-taken, staged-sized}
-use Rattle.queue.proofs.Submitted.{Addable, staged-addable, added-sized, added-valid, added-windows, added-held}
+use Rattle.queue.proofs.Submitted.{Addable, staged-addable, added-sized, added-valid, added-held}
 use Rattle.queue.proofs.Stays.{after-piece}
 use Rattle.model.specs.Calls.{Setup, piece, accepted, missing}
 use Rattle.model.specs.State.{Staging, staging}
@@ -38,7 +38,7 @@ use Rattle.claims.specs.ModelProperties.{batchSemantics}
 use Rattle.claims.specs.Engine.{State, mkState, pieceTold}
 use Rattle.claims.specs.Queue.{bytesSoFar}
 use Rattle.claims.proofs.Cases.{number, done}
-use Rattle.claims.proofs.Seen.{seenBatch}
+use Rattle.claims.proofs.Seen.{seenPlaces, places-recounted, seenBatch, seenWaiting}
 use Rattle.claims.proofs.Related.{seen, seenStaging, none-seen, some-seen, facts, staged-long, Sound, Related}
 use Rattle.claims.proofs.Steps.{Alike}
 
@@ -123,6 +123,10 @@ module _ (setup : Setup) (n : ℕ) (s : State) (S : Sound setup n s) (count : �
     unfolding withBatch
     last-none = refl
 
+    last-places : seenPlaces (ready .clients) ≡ seenPlaces (e .clients)
+    unfolding withBatch
+    last-places = places-recounted (e .clients) (g .client) _
+
     last-sound : Sound setup n (mkState ready filled (s .memory))
     unfolding withBatch
     last-sound = record {
@@ -140,7 +144,7 @@ module _ (setup : Setup) (n : ℕ) (s : State) (S : Sound setup n s) (count : �
     last-related = record {
       sound = last-sound;
       next = last-next;
-      is = rw (added-windows e (S .sized) (g .slot) (g .client) (length all) addable, added-held seenBatch e (S .sized) (s .ring) (may .ring) (g .slot) (g .client) all addable, none-seen filled ready last-none, next);
+      is = rw (last-places, added-held seenBatch e (S .sized) (s .ring) (may .ring) (g .slot) (g .client) all addable, none-seen filled ready last-none, next);
     }
 
     last-done : Alike setup n

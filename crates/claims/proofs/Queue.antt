@@ -1,27 +1,36 @@
--- The queue is as 01 and 02, 6 say, after any list of calls.
+-- The queue is as 01 and 02, 6 and 11, say, after any list of calls.
 use mathlib.Core.Path.{_≡_, refl, ap, sym, subst, _∙_}
-use mathlib.Core.Bool.{true, false}
+use mathlib.Core.Bool.{Bool, true, false, _&&_}
 use mathlib.Core.List.{List, [], _∷_, _++_}
-use Prim.Native.Nat.{ℕ, _%_, _≤_}
+use Prim.Native.Nat.{ℕ, _+_, _%_, _≤_, _<_}
 use native.Mathlib.Omega.{arith}
 use lib.ListN.{length}
+use lib.Seq.{getD-set-same, getD-set-other}
+use lib.Dec.{ltb}
 use Rattle.record.specs.declared.Batch.{Batch}
+use Rattle.record.specs.declared.Record.{Record}
+use Rattle.record.specs.declared.Client.{Client}
+use Rattle.record.specs.Clients.{noClient, clientAt, isOpen, lowestClosed}
 use Rattle.record.specs.Slots.{lowestFree}
 use Rattle.record.specs.Queue.{readySlots, waiting}
 use Rattle.record.proofs.Line.{held}
-use Rattle.record.proofs.Rules.{write-newest, write-first, free-room}
+use Rattle.record.proofs.Clients.{closed-below, closed-is, closed-least, closed-most-places, open-place, place-open}
+use Rattle.record.proofs.Windows.{window-placed}
+use Rattle.record.proofs.Rules.{valid-facts, write-newest, write-first, free-room}
 use Rattle.queue.specs.Refusals.{firstRefusal}
-use Rattle.queue.proofs.Refusals.{open-allowed, submit-allowed}
-use Rattle.queue.proofs.Kept.{few-taken, open-windows}
-use Rattle.queue.specs.Calls.{newBatch, withBatch, withStaged, isLast}
+use Rattle.queue.specs.Calls.{newBatch, withBatch, withStaged, isLast, withClient, withoutClient}
+use Rattle.queue.proofs.Refusals.{open-allowed, submit-allowed, close-allowed}
+use Rattle.queue.proofs.Kept.{few-taken, close-waiting}
 use Rattle.queue.proofs.Submitted.{submit-addable, staged-addable, added-waiting, added-held}
 use Rattle.engine.proofs.Refusals.{run-allowed}
 use Rattle.engine.proofs.Stays.{run-waiting, run-kept, oldest-at, oldest-words}
-use Rattle.model.specs.Calls.{Setup, Call, opens, submit, run, begin, piece, cancel}
-use Rattle.claims.specs.Engine.{State, performCall}
+use Rattle.model.specs.Windows.{Window, window}
+use Rattle.model.specs.Calls.{Setup, Call, opens, submit, run, begin, piece, cancel, close}
+use Rattle.model.proofs.Locality.{zero-local, zero-in}
+use Rattle.claims.specs.Engine.{State, mkState, performCall}
 use Rattle.claims.specs.Demand1.{refusalTableOf}
 use Rattle.claims.specs.Demand3.{finalState}
-use Rattle.claims.specs.Queue.{bytesSoFar, contents, Submitted, Begun, Continued, Finished, Cancelled, Taken, Queue, Promise}
+use Rattle.claims.specs.Queue.{bytesSoFar, contents, Submitted, Begun, Continued, Finished, Cancelled, Taken, SameQueue, Opened, Closed, Queue, Promise}
 use Rattle.claims.proofs.Cases.{given, done, either, by-number}
 use Rattle.claims.proofs.Related.{Sound, facts}
 use Rattle.claims.proofs.Pieces.{may, copied, filled, kept, come, whole, addable}
@@ -120,14 +129,89 @@ module _ (setup : Setup) (n : ℕ) (s : State) (S : Sound setup n s) where
         at-read = oldest-at (s .engine) (S .sized) (length (s .ring)) (length (s .memory)) a;
         whole = oldest-words (s .engine) (S .sized) (s .ring) (length (s .memory)) a;
         kept = ap (contents (s .ring)) first;
-        staged = run-kept (s .engine) .3;
-        so-far = rw (run-offset setup n s S (s .engine .next) own z, run-kept (s .engine) .3);
+        staged = run-kept (s .engine) .2;
+        so-far = rw (run-offset setup n s S (s .engine .next) own z, run-kept (s .engine) .2);
+      })
+
+  -- ---- open
+
+  id-below : (w : Window) → firstRefusal (refusalTableOf (opens w) s) ≡ 0 → lowestClosed (s .engine .clients) < 4
+  id-below w z = omega (arith, closed-below (s .engine .clients) (omega (arith, open-allowed (s .engine) (given w) z .few, S .sized .clients)), S .sized .clients)
+
+  closed-id : (b : Bool) → (b && clientAt (s .engine) (lowestClosed (s .engine .clients)) .opened) ≡ false
+  closed-id true = closed-is (s .engine .clients)
+  closed-id false = refl
+
+  at-id : (w : Window) → firstRefusal (refusalTableOf (opens w) s) ≡ 0 →
+      clientAt (withClient (s .engine) (given w)) (lowestClosed (s .engine .clients)) ≡ record { window = given w; pending = 0; opened = true }
+  unfolding withClient
+  at-id w z = getD-set-same (s .engine .clients) (lowestClosed (s .engine .clients)) _ noClient (omega (arith, id-below w z, S .sized .clients))
+
+  not-id : (w : Window) (k : ℕ) → ¬ (k ≡ lowestClosed (s .engine .clients)) → clientAt (withClient (s .engine) (given w)) k ≡ clientAt (s .engine) k
+  unfolding withClient
+  not-id w k n = getD-set-other (s .engine .clients) (lowestClosed (s .engine .clients)) k _ noClient n
+
+  opened-kept : (w : Window) → (ring memory : List ℕ) → SameQueue s (mkState (withClient (s .engine) (given w)) ring memory)
+  unfolding withClient
+  opened-kept w ring memory = record { setup = refl; slots = refl; read = refl; next = refl; staged = refl }
+
+  opened : (w : Window) → firstRefusal (refusalTableOf (opens w) s) ≡ 0 → Opened w s (performCall (opens w) s .after)
+  opened w z =
+      rw (allowed (opens w) z)
+      (record {
+        free = closed-id (ltb (lowestClosed (s .engine .clients)) 4);
+        lowest = λ k h. place-open (s .engine) k (omega (arith, id-below w z)) (closed-least (s .engine .clients) k h);
+        window = at-id w z;
+        others = not-id w;
+        queue = opened-kept w (s .ring) (s .memory);
+        ring = refl;
+        memory = refl;
+      })
+
+  -- ---- close
+
+  not-closed : (client k : ℕ) → ¬ (k ≡ client) → clientAt (withoutClient (s .engine) client) k ≡ clientAt (s .engine) k
+  unfolding withoutClient
+  not-closed client k n = getD-set-other (s .engine .clients) client k noClient noClient n
+
+  none-there : (client : ℕ) → client < 4 → clientAt (withoutClient (s .engine) client) client ≡ noClient
+  unfolding withoutClient
+  none-there client h = getD-set-same (s .engine .clients) client noClient noClient (omega (arith, S .sized .clients))
+
+  closed-now : (client : ℕ) → client < 4 → isOpen (withoutClient (s .engine) client) client ≡ false
+  closed-now client h = go (ltb client 4)
+    where
+      go : (b : Bool) → (b && clientAt (withoutClient (s .engine) client) client .opened) ≡ false
+      go true = ap (λ (c : Client). c .opened) (none-there client h)
+      go false = refl
+
+  closed-kept : (client : ℕ) → (ring memory : List ℕ) → SameQueue s (mkState (withoutClient (s .engine) client) ring memory)
+  unfolding withoutClient
+  closed-kept client ring memory = record { setup = refl; slots = refl; read = refl; next = refl; staged = refl }
+
+  closed : (client : ℕ) → firstRefusal (refusalTableOf (close client) s) ≡ 0 → Closed client s (performCall (close client) s .after)
+  closed client z =
+      let a = close-allowed (s .engine) (length (s .memory)) client z in
+      let p = window-placed (s .engine) (valid-facts (s .engine) (a .ok)) client (a .owner) in
+      let w : Window = window (clientAt (s .engine) client .window .start) (clientAt (s .engine) client .window .length) in
+      let fits : w .start + w .length ≤ length (s .memory) = omega (arith, p .fits, a .memory) in
+      rw (allowed (close client) z)
+      (record {
+        free = closed-now client (open-place (s .engine) client (a .owner) .0);
+        others = not-closed client;
+        zeros = zero-in w (s .memory) fits;
+        rest = zero-local w 0 .outside (s .memory) (omega arith, fits);
+        size = zero-local w 0 .sized (s .memory) (omega arith, fits);
+        ring = refl;
+        queue = closed-kept client _ _;
+        waits = close-waiting (s .engine) client;
       })
 
   queue : Queue s
   queue = record {
     sound = S .ok;
-    opened = λ w z. rw (allowed (opens w) z) (open-windows (s .engine) (given w) (S .sized) (open-allowed (s .engine) (given w) z .few));
+    opens = λ w z. (rw (allowed (opens w) z), opened w z);
+    closes = λ client z. (rw (allowed (close client) z), closed client z);
     after-newest = write-newest (s .engine) (facts setup n s S) few;
     none-ready = write-first (s .engine) (facts setup n s S) few;
     submitted = submitted;

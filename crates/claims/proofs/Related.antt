@@ -2,12 +2,12 @@
 use mathlib.Core.Path.{_≡_, refl, ap, sym, _∙_}
 use mathlib.Core.List.{List}
 use mathlib.Core.Bool.{Bool, true, false, cond}
-use borrow.Author.Tests.{eqb-true}
+use borrow.Author.Tests.{eqb-true, lt-ltb, le-ltb}
+use Rattle.word.proofs.Tests.{split}
 use Prim.Native.Nat.{ℕ, _+_, _%_, _≤_, _<_}
 use native.Mathlib.Nat.{add-zero}
 use native.Mathlib.Omega.{arith}
-use lib.ListN.{length}
-use lib.Seq.{length-take-le}
+use lib.ListN.{length, getD}
 use lib.Dec.{eqb}
 use Rattle.ring.specs.Segment.{wrapOffset, segment}
 use mathlib.Core.Logic.{⊎-elim}
@@ -18,16 +18,16 @@ use Rattle.record.specs.declared.Setup.{Setup as Numbers}
 use Rattle.record.specs.declared.Record.{Record}
 use Rattle.record.specs.Staged.{noStaged, isIdle, stagedBy, stagedSlots, missingBytes}
 use Rattle.record.specs.Slots.{readyBatches, countOf as countIn}
-use Rattle.record.specs.Clients.{openClients, openWindows, clientAt}
+use Rattle.record.specs.Clients.{isOpen, clientAt}
 use Rattle.record.specs.Queue.{readySlots, readyBytes, writeOffset, waiting}
 use Rattle.record.specs.Rules.{valid}
-use Rattle.record.proofs.Windows.{length-windows, window-is}
+use Rattle.record.proofs.Clients.{closed-past, open-place}
 use Rattle.record.proofs.Rules.{Valid, valid-facts, sum-waiting, length-waiting, ready-within}
 use Rattle.queue.proofs.Kept.{Sized, few-taken}
 use Rattle.model.specs.Calls.{Setup}
-use Rattle.model.specs.State.{Model, Staging, idle, staging, isIdle as isIdleM, stagedBy as stagedByM, stagedSlots as stagedSlotsM, stagedBytes as stagedBytesM, missingBytes as missingBytesM, totalBytes, countOf, windowOf}
+use Rattle.model.specs.State.{Model, free, isTaken, Staging, idle, staging, isIdle as isIdleM, stagedBy as stagedByM, stagedSlots as stagedSlotsM, stagedBytes as stagedBytesM, missingBytes as missingBytesM, totalBytes, countOf, windowOf}
 use Rattle.claims.specs.Engine.{State}
-use Rattle.claims.proofs.Seen.{seenWindow, seenWindows, seen-length, seen-at, seenWaiting, waits-length, waits-count, waits-bytes}
+use Rattle.claims.proofs.Seen.{seenWindow, seenPlaces, place-taken, place-window, seenWaiting, waits-length, waits-count, waits-bytes}
 
 -- the staged submission, with the bytes that the ring holds of it
 unfoldable pub seenStaging : (ring : List ℕ) → Record → Staging
@@ -87,7 +87,7 @@ module _ (ring : List ℕ) (engine : Record) where
 -- `accepted` counts more than the record does, whose tickets go round
 abbrev pub seen : (accepted : ℕ) → State → Model
 seen accepted s = record {
-  windows = seenWindows (openWindows (s .engine));
+  places = seenPlaces (s .engine .clients);
   waiting = seenWaiting (s .ring) (waiting (s .engine));
   staged = seenStaging (s .ring) (s .engine);
   accepted = accepted;
@@ -115,12 +115,12 @@ module _ (setup : Setup) (n : ℕ) (s : State) (S : Sound setup n s) where
   pub facts : Valid (s .engine)
   facts = valid-facts (s .engine) (S .ok)
 
-  -- as many windows as clients are open
-  pub open-count : length (seenWindows (openWindows (s .engine))) ≡ s .engine .opened
-  open-count =
-      seen-length (openWindows (s .engine))
-      ∙ length-windows (openClients (s .engine))
-      ∙ length-take-le (s .engine .opened) (s .engine .clients) (omega (arith, facts .numbers .clients, S .sized .clients))
+  -- the same clients are open
+  pub open-like : (client : ℕ) → isTaken (getD (seenPlaces (s .engine .clients)) client free) ≡ isOpen (s .engine) client
+  open-like client = place-taken client (s .engine .clients) ∙ ⊎-elim
+      (λ (h : client < 4). rw (lt-ltb client 4 h))
+      (λ (h : 4 ≤ client). rw (le-ltb client 4 h) (sym (closed-past (s .engine .clients) client (omega (arith, S .sized .clients)))))
+      (split client 4)
 
   -- as many batches wait as slots are taken
   pub slots-count : length (seenWaiting (s .ring) (waiting (s .engine))) ≡ readySlots (s .engine)
@@ -154,5 +154,5 @@ module _ (setup : Setup) (n : ℕ) (s : State) (S : Sound setup n s) where
       ∙ sym (sum-waiting (s .engine) facts (few-taken (s .engine) (S .sized)) (λ b. cond (eqb (b .client) client) 1 0))
 
   -- an open client's window
-  pub window-at : (accepted client : ℕ) → client < s .engine .opened → windowOf (seen accepted s) client ≡ seenWindow (clientAt (s .engine) client .window)
-  window-at accepted client h = seen-at client (openWindows (s .engine)) ∙ ap seenWindow (window-is (s .engine) facts (S .sized .clients) client h)
+  pub window-at : (accepted client : ℕ) → isOpen (s .engine) client ≡ true → windowOf (seen accepted s) client ≡ seenWindow (clientAt (s .engine) client .window)
+  window-at accepted client h = place-window client (s .engine .clients) (open-place (s .engine) client h .1)

@@ -19,7 +19,7 @@ use Rattle.record.proofs.Rules.{valid-facts, sum-waiting, ready-within}
 use Rattle.queue.proofs.Kept.{few-taken}
 use Rattle.engine.specs.Run.{oldest, boundsOfClient, oldestWords, withoutOldest}
 use Rattle.engine.proofs.Refusals.{RunAllowed, run-allowed}
-use Rattle.engine.proofs.Stays.{run-sized, run-valid, run-kept, run-waiting, oldest-owner, run-windows, oldest-words, run-held}
+use Rattle.engine.proofs.Stays.{run-sized, run-valid, run-kept, run-waiting, oldest-owner, oldest-words, run-held}
 use Rattle.model.specs.Calls.{Setup, run, Answer, completed}
 use Rattle.model.specs.State.{Batch, windowOf}
 use Rattle.model.specs.Model.{runStep, effect}
@@ -27,7 +27,7 @@ use Rattle.claims.specs.BatchSemantics.{boundsOf, completionStatusOf}
 use Rattle.claims.specs.ModelProperties.{batchSemantics}
 use Rattle.claims.specs.Engine.{State}
 use Rattle.claims.proofs.Cases.{number, done}
-use Rattle.claims.proofs.Seen.{seenBatch, seenWaiting}
+use Rattle.claims.proofs.Seen.{seenPlaces, places-recounted, seenBatch, seenWaiting}
 use Rattle.claims.proofs.Related.{seen, seenStaging, Sound, window-at}
 use Rattle.claims.proofs.Steps.{Alike}
 
@@ -90,7 +90,11 @@ module _ (setup : Setup) (n : ℕ) (s : State) (S : Sound setup n s) (count : �
 
   run-staged : seenStaging (s .ring) (withoutOldest (s .engine)) ≡ seenStaging (s .ring) (s .engine)
   unfolding seenStaging
-  run-staged = rw (run-offset, run-kept (s .engine) .3)
+  run-staged = rw (run-offset, run-kept (s .engine) .2)
+
+  run-places : seenPlaces (withoutOldest (s .engine) .clients) ≡ seenPlaces (s .engine .clients)
+  unfolding withoutOldest
+  run-places = places-recounted (s .engine .clients) (oldest (s .engine) .client) _
 
   abbrev told : Bounds → ResetRule → List ℕ → Answer
   told b r ws = completed (oldest (s .engine) .client) (oldest (s .engine) .ticket) (completionStatusOf (verdictOf (decodeBatch b (resetBank r) ws)))
@@ -102,7 +106,7 @@ module _ (setup : Setup) (n : ℕ) (s : State) (S : Sound setup n s) (count : �
     record {
       sound = run-sound;
       next = run-next;
-      is = rw (run-staged, run-windows (s .engine) (S .sized) (length (s .ring)) (length (s .memory)) allowed, bounds, rule, read);
+      is = rw (run-staged, run-places, bounds, rule, read);
     },
   )
 

@@ -1,45 +1,92 @@
--- Windows and waiting batches of a record as the model sees them.
+-- Places and waiting batches of a record as the model sees them.
 use mathlib.Core.Path.{_≡_, refl, ap}
-use mathlib.Core.List.{List, [], _∷_, _++_}
-use mathlib.Core.Bool.{true}
+use mathlib.Core.List.{List, [], _∷_}
+use mathlib.Core.Bool.{Bool, true, false, cond}
 use Prim.Native.Nat.{ℕ, zero, suc, _+_, _≤_, _<_}
 use native.Mathlib.Omega.{arith}
-use lib.ListN.{length, getD}
+use lib.ListN.{length, getD, set}
 use Rattle.ring.specs.Segment.{wrapOffset}
 use Rattle.ring.proofs.Segment.{lies-wrapped, length-segment}
-use Rattle.record.specs.declared.Window.{Window as Place}
+use Rattle.record.specs.declared.Window.{Window as Span}
+use Rattle.record.specs.declared.Client.{Client}
 use Rattle.record.specs.declared.Batch.{Batch as Ready}
 use Rattle.record.specs.Slots.{sumOver, totalLength, countOf as countIn}
-use Rattle.record.specs.Clients.{noClient}
+use Rattle.record.specs.Clients.{noClient, windowsOf, lowestClosed}
 use Rattle.record.specs.Rules.{endToEnd}
 use Rattle.record.proofs.Line.{headed, held}
+use Rattle.record.proofs.Opened.{recounted}
 use Rattle.model.specs.Windows.{Window, window}
-use Rattle.model.specs.State.{Batch, batch, totalBytes, countOf}
+use Rattle.model.specs.State.{Batch, batch, Place, free, taken, isTaken, windowIn, windowsIn, lowestFree, totalBytes, countOf}
 
--- ---- windows
+-- ---- windows and places
 
-abbrev pub seenWindow : Place → Window
+abbrev pub seenWindow : Span → Window
 seenWindow w = window (w .start) (w .length)
 
-unfoldable pub seenWindows : List Place → List Window
+unfoldable pub seenWindows : List Span → List Window
 seenWindows [] = []
 seenWindows (w ∷ ws) = seenWindow w ∷ seenWindows ws
 
-pub seen-length : (ws : List Place) → length (seenWindows ws) ≡ length ws
+pub seen-length : (ws : List Span) → length (seenWindows ws) ≡ length ws
 unfolding seenWindows
 seen-length [] = refl
 seen-length (w ∷ ws) = ap suc (seen-length ws)
 
-pub seen-snoc : (ws : List Place) (w : Place) → seenWindows (ws ++ (w ∷ [])) ≡ seenWindows ws ++ (seenWindow w ∷ [])
-unfolding seenWindows
-seen-snoc [] w = refl
-seen-snoc (v ∷ ws) w = ap (λ (l : List Window). seenWindow v ∷ l) (seen-snoc ws w)
+-- a place is taken with its window, or free whatever it holds
+abbrev pub seenPlace : Client → Place
+seenPlace c = cond (c .opened) (taken (seenWindow (c .window))) free
 
-pub seen-at : (k : ℕ) (ws : List Place) → getD (seenWindows ws) k (window 0 0) ≡ seenWindow (getD ws k (noClient .window))
-unfolding seenWindows
-seen-at k [] = refl
-seen-at zero (w ∷ ws) = refl
-seen-at (suc k) (w ∷ ws) = seen-at k ws
+unfoldable pub seenPlaces : List Client → List Place
+seenPlaces [] = []
+seenPlaces (c ∷ cs) = seenPlace c ∷ seenPlaces cs
+
+pub places-windows : (cs : List Client) → windowsIn (seenPlaces cs) ≡ seenWindows (windowsOf cs)
+unfolding seenPlaces seenWindows windowsIn windowsOf
+places-windows [] = refl
+places-windows (c ∷ cs) = go (c .opened) (places-windows cs)
+  where
+    go : (t : Bool) → windowsIn (seenPlaces cs) ≡ seenWindows (windowsOf cs) →
+        windowsIn (cond t (taken (seenWindow (c .window))) free ∷ seenPlaces cs) ≡ seenWindows (cond t (c .window ∷ windowsOf cs) (windowsOf cs))
+    go true e = ap (λ (l : List Window). seenWindow (c .window) ∷ l) e
+    go false e = e
+
+pub places-lowest : (cs : List Client) → lowestFree (seenPlaces cs) ≡ lowestClosed cs
+unfolding seenPlaces lowestFree lowestClosed
+places-lowest [] = refl
+places-lowest (c ∷ cs) = go (c .opened) (places-lowest cs)
+  where
+    go : (t : Bool) → lowestFree (seenPlaces cs) ≡ lowestClosed cs → lowestFree (cond t (taken (seenWindow (c .window))) free ∷ seenPlaces cs) ≡ cond t (suc (lowestClosed cs)) 0
+    go true e = ap suc e
+    go false e = refl
+
+pub place-taken : (k : ℕ) (cs : List Client) → isTaken (getD (seenPlaces cs) k free) ≡ getD cs k noClient .opened
+unfolding seenPlaces
+place-taken k [] = refl
+place-taken zero (c ∷ cs) = go (c .opened)
+  where
+    go : (t : Bool) → isTaken (cond t (taken (seenWindow (c .window))) free) ≡ t
+    go true = refl
+    go false = refl
+place-taken (suc k) (c ∷ cs) = place-taken k cs
+
+pub place-window : (k : ℕ) (cs : List Client) → getD cs k noClient .opened ≡ true → windowIn (getD (seenPlaces cs) k free) ≡ seenWindow (getD cs k noClient .window)
+unfolding seenPlaces
+place-window k [] e = refl
+place-window zero (c ∷ cs) e = rw e
+place-window (suc k) (c ∷ cs) e = place-window k cs e
+
+pub places-set : (cs : List Client) (k : ℕ) (c : Client) → seenPlaces (set cs k c) ≡ set (seenPlaces cs) k (seenPlace c)
+unfolding seenPlaces
+places-set [] k c = refl
+places-set (d ∷ cs) zero c = refl
+places-set (d ∷ cs) (suc k) c = ap (λ (l : List Place). seenPlace d ∷ l) (places-set cs k c)
+
+-- another count beside the same window
+pub places-recounted : (cs : List Client) (k pending : ℕ) → seenPlaces (recounted cs k pending) ≡ seenPlaces cs
+unfolding seenPlaces
+places-recounted [] k p = refl
+places-recounted (c ∷ cs) zero p = refl
+places-recounted (c ∷ cs) (suc k) p = ap (λ (l : List Place). seenPlace c ∷ l) (places-recounted cs k p)
 
 -- ---- waiting batches
 

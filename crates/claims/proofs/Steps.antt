@@ -1,4 +1,4 @@
--- Open, submit, begin, cancel and pending, if they are not refused, answer as the model does and leave what it leaves.
+-- Open, submit, begin, cancel, close and pending, if they are not refused, answer as the model does and leave what it leaves.
 use mathlib.Core.Path.{_≡_, refl, ap, sym, _∙_}
 use mathlib.Core.List.{List, []}
 use mathlib.Core.Bool.{true}
@@ -6,7 +6,7 @@ use borrow.Author.Tests.{ne-eqb}
 use Rattle.ring.specs.Copied.{copiedIn}
 use Prim.Native.Nat.{ℕ, zero, suc, _%_}
 use native.Mathlib.Omega.{arith}
-use lib.ListN.{length}
+use lib.ListN.{length, set}
 use Rattle.ring.proofs.Copied.{length-copied}
 use Rattle.record.specs.declared.Batch.{Batch as Ready}
 use Rattle.record.specs.Slots.{lowestFree}
@@ -15,21 +15,21 @@ use Rattle.record.specs.Rules.{valid}
 use Rattle.record.proofs.Rules.{length-good}
 use Rattle.ring.specs.Segment.{segment}
 use Rattle.record.specs.Queue.{writeOffset}
-use Rattle.queue.specs.Calls.{unlessRefused, withClient, newBatch, withBatch, submitted, withStaged, begun, beginResult, cancelResult}
-use Rattle.queue.proofs.Refusals.{open-allowed, SubmitAllowed, submit-allowed}
-use Rattle.queue.proofs.Kept.{open-sized, open-valid, open-windows, open-waiting}
-use Rattle.queue.proofs.Submitted.{Addable, submit-addable, added-sized, added-valid, added-windows, added-held}
+use Rattle.queue.specs.Calls.{unlessRefused, withClient, withoutClient, newBatch, withBatch, submitted, withStaged, begun, beginResult, cancelResult}
+use Rattle.queue.proofs.Refusals.{open-allowed, SubmitAllowed, submit-allowed, CloseAllowed, close-allowed}
+use Rattle.queue.proofs.Kept.{open-sized, open-valid, open-waiting, close-sized, close-valid, close-waiting}
+use Rattle.queue.proofs.Submitted.{Addable, submit-addable, added-sized, added-valid, added-held}
 use Rattle.queue.proofs.Stays.{begin-stays, cancel-stays}
 use Rattle.queue.proofs.Room.{submit-lies}
 use Rattle.model.specs.Windows.{Window}
-use Rattle.model.specs.Calls.{Setup, opens, submit, pending, begin, cancel, opened, accepted, ready}
-use Rattle.model.specs.State.{Model, idle, staging}
+use Rattle.model.specs.Calls.{Setup, opens, submit, pending, begin, cancel, close, opened, accepted, ready}
+use Rattle.model.specs.State.{Model, free, taken, lowestFree as lowestPlace, idle, staging}
 use Rattle.model.specs.Model.{Step, refuseOr, effect}
 use Rattle.claims.specs.ModelProperties.{batchSemantics}
 use Rattle.claims.specs.Engine.{State, CallResult}
 use Rattle.claims.proofs.Cases.{given, number, done, either}
-use Rattle.claims.proofs.Seen.{seen-snoc, seenBatch}
-use Rattle.claims.proofs.Related.{seen, seenStaging, none-seen, Sound, Related, open-count, client-count}
+use Rattle.claims.proofs.Seen.{seenPlaces, places-lowest, places-set, places-recounted, seenBatch}
+use Rattle.claims.proofs.Related.{seen, seenStaging, none-seen, Sound, Related, client-count, window-at}
 
 -- the same answer, and related ends
 abbrev pub Alike : Setup → ℕ → CallResult → Step → Type 0
@@ -65,14 +65,18 @@ module _ (setup : Setup) (n : ℕ) (s : State) (S : Sound setup n s) (count : �
   unfolding withClient
   open-next w = next
 
+  open-places : (w : Window) → seenPlaces (withClient (s .engine) (given w) .clients) ≡ set (seenPlaces (s .engine .clients)) (lowestPlace (seenPlaces (s .engine .clients))) (taken w)
+  unfolding withClient
+  open-places w = places-set (s .engine .clients) _ _ ∙ ap (λ (k : ℕ). set (seenPlaces (s .engine .clients)) k (taken w)) (sym (places-lowest (s .engine .clients)))
+
   pub open-done : (w : Window) → number (opens w) s ≡ 0 → Alike setup n (done (opens w) s) (effect (batchSemantics setup) setup n (opens w) (seen count s))
   unfolding effect
   open-done w z = (
-    ap opened (sym (open-count setup n s S)),
+    ap opened (sym (places-lowest (s .engine .clients))),
     record {
       sound = open-sound w z;
       next = open-next w;
-      is = rw (open-windows (s .engine) (given w) (S .sized) (open-allowed (s .engine) (given w) z .few), seen-snoc, open-waiting (s .engine) (given w) (S .sized), open-staged w);
+      is = rw (open-places w, open-waiting (s .engine) (given w) (S .sized), open-staged w);
     },
   )
 
@@ -95,6 +99,10 @@ module _ (setup : Setup) (n : ℕ) (s : State) (S : Sound setup n s) (count : �
     unfolding withBatch
     submit-none = refl
 
+    submit-places : seenPlaces (submitted (s .engine) client (length bytes) .clients) ≡ seenPlaces (s .engine .clients)
+    unfolding withBatch
+    submit-places = places-recounted (s .engine .clients) client _
+
     submit-sound : Sound setup n (done (submit client bytes) s .after)
     unfolding withBatch
     submit-sound = record {
@@ -115,7 +123,7 @@ module _ (setup : Setup) (n : ℕ) (s : State) (S : Sound setup n s) (count : �
       record {
         sound = submit-sound;
         next = submit-next;
-        is = rw (added-windows (s .engine) (S .sized) at client (length bytes) addable, added-held seenBatch (s .engine) (S .sized) (s .ring) (allowed .ring) at client bytes addable, none-seen (copiedIn (s .ring) (writeOffset (s .engine)) bytes) (submitted (s .engine) client (length bytes)) submit-none, next);
+        is = rw (submit-places, added-held seenBatch (s .engine) (S .sized) (s .ring) (allowed .ring) at client bytes addable, none-seen (copiedIn (s .ring) (writeOffset (s .engine)) bytes) (submitted (s .engine) client (length bytes)) submit-none, next);
       },
     )
 
@@ -156,6 +164,44 @@ module _ (setup : Setup) (n : ℕ) (s : State) (S : Sound setup n s) (count : �
     pub cancel-done : Alike setup n (done (cancel client) s) (effect (batchSemantics setup) setup n (cancel client) (seen count s))
     unfolding effect withStaged
     cancel-done = (refl, record { sound = cancel-sound; next = next; is = rw cancel-seen })
+
+  -- ---- close
+
+  module _ (client : ℕ) (z : number (close client) s ≡ 0) where
+    may : CloseAllowed (s .engine) (length (s .memory)) client
+    may = close-allowed (s .engine) (length (s .memory)) client z
+
+    close-sound : Sound setup n (done (close client) s .after)
+    unfolding withoutClient
+    close-sound = record {
+      sized = close-sized (s .engine) client (S .sized);
+      ok = close-valid (s .engine) client (S .sized) (length (s .memory)) may;
+      numbers = S .numbers;
+      long = S .long;
+    }
+
+    close-next : done (close client) s .after .engine .next ≡ count % 4294967296
+    unfolding withoutClient
+    close-next = next
+
+    close-places : seenPlaces (withoutClient (s .engine) client .clients) ≡ set (seenPlaces (s .engine .clients)) client free
+    unfolding withoutClient
+    close-places = places-set (s .engine .clients) client _
+
+    close-staged : seenStaging (s .ring) (withoutClient (s .engine) client) ≡ seenStaging (s .ring) (s .engine)
+    unfolding seenStaging withoutClient
+    close-staged = refl
+
+    pub close-done : Alike setup n (done (close client) s) (effect (batchSemantics setup) setup n (close client) (seen count s))
+    unfolding effect
+    close-done = (
+      refl,
+      record {
+        sound = close-sound;
+        next = close-next;
+        is = rw (close-places, close-waiting (s .engine) client, close-staged, window-at setup n s S count client (may .owner));
+      },
+    )
 
   -- ---- pending
 

@@ -1,7 +1,7 @@
 -- Engine and model refuse alike.
 use mathlib.Core.Path.{_≡_, refl, sym, ap, ap₂, _∙_}
 use Rattle.record.specs.Staged.{stagedBy, missingBytes}
-use Rattle.model.specs.State.{missingBytes as missingBytesM}
+use Rattle.model.specs.State.{isOpen as isOpenM, stagedBy as stagedByM, missingBytes as missingBytesM, countOf}
 use mathlib.Core.List.{List, [], _∷_}
 use mathlib.Core.Bool.{Bool, true, false, cond, _||_, _&&_, not}
 use mathlib.Core.Logic.{⊎-elim}
@@ -14,16 +14,17 @@ use Rattle.word.proofs.Tests.{split, and-true}
 use Rattle.range.specs.Range.{containedIn, overlaps}
 use Rattle.record.specs.declared.Setup.{Setup as Numbers}
 use Rattle.record.specs.declared.Window.{Window as Place}
-use Rattle.record.specs.Clients.{openWindows, windowRange, prefixRange, overlapsAny, badWindow as badPlace, windowsValid}
+use Rattle.record.specs.Slots.{readyBatches, countOf as countIn}
+use Rattle.record.specs.Clients.{isOpen, openWindows, windowRange, prefixRange, overlapsAny, badWindow as badPlace, windowsValid}
 use Rattle.record.proofs.Windows.{placed, shared-tests, shared-first}
 use Rattle.queue.specs.Refusals.{firstRefusal, submitTable}
 use Rattle.model.specs.Windows.{Window, window, overlap, overlapAny}
-use Rattle.model.specs.Calls.{Setup, Call, opens, submit, run, pending, begin, piece, cancel}
+use Rattle.model.specs.Calls.{Setup, Call, opens, submit, run, pending, begin, piece, cancel, close}
 use Rattle.model.specs.Refusals.{batchRows, refusalTable, firstHolding as firstRow, refusal}
 use Rattle.claims.specs.Engine.{State}
 use Rattle.claims.proofs.Cases.{given, number}
-use Rattle.claims.proofs.Seen.{seenWindows}
-use Rattle.claims.proofs.Related.{numbersIn, seen, seenStaging, Sound, facts, open-count, slots-count, bytes-count, idle-like, by-like, slots-like, room-like, missing-like, staged-long}
+use Rattle.claims.proofs.Seen.{seenWindows, seen-length, places-windows}
+use Rattle.claims.proofs.Related.{numbersIn, seen, seenStaging, Sound, facts, open-like, slots-count, bytes-count, client-count, idle-like, by-like, slots-like, room-like, missing-like, staged-long}
 
 -- ---- row 4
 
@@ -79,16 +80,25 @@ piece-rows there own m m′ size t t′ e h =
     rw e (past-ten t′ (cond (not there) 5 (cond (not own || ltb m size) 14 0)) (cond (not there) 5 (cond (not own || ltb m′ size) 14 0))
     (λ q. ap (λ (x : ℕ). cond (not there) 5 (cond (not own || ltb x size) 14 0)) (h q)))
 
+-- close's rows below 11
+close-rows : (size m m′ : ℕ) (there there′ : Bool) (k k′ : ℕ) (own own′ : Bool) → m ≡ m′ → there ≡ there′ → k ≡ k′ → own ≡ own′ →
+    _≡_ {A = ℕ} (cond (not (eqb size m)) 10 (cond (not there) 5 (cond (ltb 0 k || own) 18 0))) (cond (not (eqb size m′)) 10 (cond (not there′) 5 (cond (ltb 0 k′ || own′) 18 0)))
+close-rows size m m′ there there′ k k′ own own′ a b c d =
+    ap (λ (x : ℕ). cond (not (eqb size x)) 10 (cond (not there) 5 (cond (ltb 0 k || own) 18 0))) a
+    ∙ ap (λ (x : Bool). cond (not (eqb size m′)) 10 (cond (not x) 5 (cond (ltb 0 k || own) 18 0))) b
+    ∙ ap (λ (x : ℕ). cond (not (eqb size m′)) 10 (cond (not there′) 5 (cond (ltb 0 x || own) 18 0))) c
+    ∙ ap (λ (x : Bool). cond (not (eqb size m′)) 10 (cond (not there′) 5 (cond (ltb 0 k′ || x) 18 0))) d
+
 module _ (setup : Setup) (n : ℕ) (s : State) (S : Sound setup n s) (accepted : ℕ) where
   open-alike : (w : Window) → number (opens w) s ≡ refusal setup n (seen accepted s) (opens w)
   unfolding firstRefusal firstRow refusalTable
-  open-alike w = rw (S .ok, open-count setup n s S, S .numbers, bad-like setup w (openWindows (s .engine)) (rw (S .numbers) at (facts setup n s S .windows)))
+  open-alike w = rw (S .ok, places-windows (s .engine .clients), seen-length (openWindows (s .engine)), S .numbers, bad-like setup w (openWindows (s .engine)) (rw (S .numbers) at (facts setup n s S .windows)))
 
   -- submit and begin
   batch-alike : (client size : ℕ) → firstRefusal (submitTable (s .engine) (length (s .ring)) client size) ≡ firstRow (batchRows setup n (seen accepted s) client size)
   unfolding firstRefusal firstRow
   batch-alike client size =
-      rw (idle-like (s .ring) (s .engine), slots-like (s .ring) (s .engine), room-like (s .ring) (s .engine), S .ok, S .long, S .numbers, open-count setup n s S, slots-count setup n s S)
+      rw (idle-like (s .ring) (s .engine), slots-like (s .ring) (s .engine), room-like (s .ring) (s .engine), S .ok, S .long, S .numbers, open-like setup n s S client, slots-count setup n s S)
       (past-ten (eqb n (setup .ring)) _ _ (λ e. rw (bytes-count setup n s S (eqb-true n (setup .ring) e))))
 
   submit-alike : (client : ℕ) (bytes : List ℕ) → number (submit client bytes) s ≡ refusal setup n (seen accepted s) (submit client bytes)
@@ -102,14 +112,22 @@ module _ (setup : Setup) (n : ℕ) (s : State) (S : Sound setup n s) (accepted :
   piece-alike : (client : ℕ) (bytes : List ℕ) → number (piece client bytes) s ≡ refusal setup n (seen accepted s) (piece client bytes)
   unfolding firstRefusal firstRow refusalTable
   piece-alike client bytes =
-      rw (by-like (s .ring) (s .engine) client, S .ok, open-count setup n s S)
-      (piece-rows (ltb client (s .engine .opened)) (stagedBy (s .engine .staged) client) (missingBytes (s .engine .staged)) (missingBytesM (seenStaging (s .ring) (s .engine))) (length bytes)
+      rw (by-like (s .ring) (s .engine) client, S .ok, open-like setup n s S client)
+      (piece-rows (isOpen (s .engine) client) (stagedBy (s .engine .staged) client) (missingBytes (s .engine .staged)) (missingBytesM (seenStaging (s .ring) (s .engine))) (length bytes)
       (eqb (length (s .ring)) (s .engine .setup .ring)) (eqb n (setup .ring)) (ap₂ eqb (S .long) (ap (λ (x : Numbers). x .ring) (S .numbers)))
       (λ e. sym (missing-like (s .ring) (s .engine) (staged-long setup n s S (eqb-true n (setup .ring) e)))))
 
   cancel-alike : (client : ℕ) → number (cancel client) s ≡ refusal setup n (seen accepted s) (cancel client)
   unfolding firstRefusal firstRow refusalTable
-  cancel-alike client = rw (S .ok, open-count setup n s S, by-like (s .ring) (s .engine) client)
+  cancel-alike client = rw (S .ok, open-like setup n s S client, by-like (s .ring) (s .engine) client)
+
+  close-alike : (client : ℕ) → number (close client) s ≡ refusal setup n (seen accepted s) (close client)
+  unfolding firstRefusal firstRow refusalTable
+  close-alike client =
+      rw (S .ok)
+      (close-rows (length (s .memory)) (s .engine .setup .memory) (setup .memory) (isOpen (s .engine) client) (isOpenM (seen accepted s) client)
+      (countIn client (readyBatches (s .engine .slots))) (countOf client (seen accepted s .waiting)) (stagedBy (s .engine .staged) client) (stagedByM (seenStaging (s .ring) (s .engine)) client)
+      (ap (λ (x : Numbers). x .memory) (S .numbers)) (sym (open-like setup n s S client)) (sym (client-count setup n s S client)) (sym (by-like (s .ring) (s .engine) client)))
 
   run-alike : number run s ≡ refusal setup n (seen accepted s) run
   unfolding firstRefusal firstRow refusalTable
@@ -117,7 +135,7 @@ module _ (setup : Setup) (n : ℕ) (s : State) (S : Sound setup n s) (accepted :
 
   pending-alike : (client : ℕ) → number (pending client) s ≡ refusal setup n (seen accepted s) (pending client)
   unfolding firstRefusal firstRow refusalTable
-  pending-alike client = rw (S .ok, open-count setup n s S)
+  pending-alike client = rw (S .ok, open-like setup n s S client)
 
   pub alike : (c : Call) → number c s ≡ refusal setup n (seen accepted s) c
   alike (opens w) = open-alike w
@@ -127,3 +145,4 @@ module _ (setup : Setup) (n : ℕ) (s : State) (S : Sound setup n s) (accepted :
   alike (begin client total) = begin-alike client total
   alike (piece client bytes) = piece-alike client bytes
   alike (cancel client) = cancel-alike client
+  alike (close client) = close-alike client

@@ -1,16 +1,22 @@
 -- Demand 3 holds.
-use mathlib.Core.Path.{_≡_}
-use mathlib.Core.List.{List}
+use mathlib.Core.Path.{_≡_, sym, ap, _∙_}
+use mathlib.Core.List.{List, [], _∷_, _++_}
 use Prim.Native.Nat.{ℕ}
 use lib.ListN.{length}
-use Rattle.model.specs.Calls.{Setup, Call}
+use Rattle.model.specs.Windows.{Window, byte}
+use Rattle.model.specs.Calls.{Setup, Call, opens, close}
+use Rattle.model.specs.BatchSemantics.{BatchSemantics}
+use Rattle.model.specs.State.{initialModel}
+use Rattle.model.specs.Model.{step, answers, memories, after, modelAfterAll}
+use Rattle.model.specs.Tenancy.{entered}
 use Rattle.model.specs.Noninterference.{LowEquivalent}
 use Rattle.claims.specs.ModelProperties.{batchSemantics}
-use Rattle.claims.specs.Engine.{SetUpAccepted}
-use Rattle.claims.specs.Demand3.{Isolation, Noninterference, Demand3Holds}
+use Rattle.claims.specs.Engine.{performCall, answersOf, memoriesOf, stateAfter, SetUpAccepted, initialState}
+use Rattle.claims.specs.Demand3.{Isolation, enteredState, leftState, Noninterference, Demand3Holds}
 use Rattle.claims.proofs.OfModel.{of-model}
 use Rattle.claims.proofs.Demand1.{demand1}
-use Rattle.claims.proofs.Follows.{like-model}
+use Rattle.claims.proofs.Related.{Related}
+use Rattle.claims.proofs.Follows.{together, follow, remember, start, at-end, like-model}
 use Rattle.claims.proofs.InTime.{in-time}
 use Rattle.claims.proofs.Cutting.{cutting}
 use Rattle.claims.proofs.Faulted.{stands}
@@ -21,22 +27,61 @@ module _ (setup : Setup) (A : SetUpAccepted setup) where
       let same = like-model setup ring A calls memory .every-byte in
       let q = of-model setup (length ring) .separate calls memory in
       record {
+        resides = q .resides;
+        only = q .only;
+        holds = q .holds;
         window = rw same (q .window);
+        found = λ client t i p. ap (λ (m : List ℕ). byte m i) (like-model setup ring A (t .before) memory .every-byte) ∙ q .found client t i p;
         no-window = rw same (q .no-window);
         common = rw same (q .common);
         size = rw same (q .size);
       }
 
-  unmoved : (client : ℕ) (ring ring′ : List ℕ) (calls calls′ : List Call) (memory memory′ : List ℕ) → length ring ≡ length ring′ →
-      LowEquivalent (batchSemantics setup) setup (length ring) client calls calls′ memory memory′ → Noninterference setup ring client ring′ calls calls′ memory memory′
-  unmoved client ring ring′ calls calls′ memory memory′ long t =
-      let one = like-model setup ring A calls memory in
-      let two = like-model setup ring′ A calls′ memory′ in
-      let q = of-model setup (length ring) .unmoved client calls calls′ memory memory′ t in
+  -- one run, by what it shares with the model
+  module _ (ring : List ℕ) (client : ℕ) (before : List Call) (w : Window) (during : List Call) (memory : List ℕ) where
+    abbrev n : ℕ
+    n = length ring
+
+    abbrev way : BatchSemantics
+    way = batchSemantics setup
+
+    entered-related : Related setup n (entered way setup n (initialModel memory) before w) (enteredState setup ring before w memory)
+    entered-related = together setup n (opens w) (modelAfterAll way setup n before memory) (stateAfter before (initialState setup ring memory)) (at-end setup ring A before memory) .1
+
+    left-related : Related setup n (after way setup n during (entered way setup n (initialModel memory) before w)) (leftState setup ring before w during memory)
+    left-related = follow setup n during _ _ entered-related .1
+
+    told-before : answersOf (before ++ opens w ∷ []) (initialState setup ring memory) ≡ answers way setup n (before ++ opens w ∷ []) (initialModel memory)
+    told-before = like-model setup ring A (before ++ opens w ∷ []) memory .every-answer
+
+    told-during : answersOf during (enteredState setup ring before w memory) ≡ answers way setup n during (entered way setup n (initialModel memory) before w)
+    told-during = follow setup n during _ _ entered-related .0
+
+    throughout : memoriesOf (before ++ opens w ∷ during) (initialState setup ring memory) ≡ memories way setup n (before ++ opens w ∷ during) (initialModel memory)
+    throughout = remember setup n (before ++ opens w ∷ during) (initialModel memory) (initialState setup ring memory) (start setup ring A memory)
+
+    closing-told : (later : List Call) → answersOf (close client ∷ later) (leftState setup ring before w during memory) ≡ answers way setup n (close client ∷ later) (after way setup n during (entered way setup n (initialModel memory) before w))
+    closing-told later = follow setup n (close client ∷ later) _ _ left-related .0
+
+    closing-left : (later : List Call) → memoriesOf (close client ∷ later) (leftState setup ring before w during memory) ≡ memories way setup n (close client ∷ later) (after way setup n during (entered way setup n (initialModel memory) before w))
+    closing-left later = remember setup n (close client ∷ later) _ _ left-related
+
+    closing : performCall (close client) (leftState setup ring before w during memory) .answer ≡ step way setup n (close client) (after way setup n during (entered way setup n (initialModel memory) before w)) .answer
+    closing = together setup n (close client) _ _ left-related .0
+
+  noninterference : (client : ℕ) (ring ring′ : List ℕ) (before : List Call) (w : Window) (during during′ : List Call) (memory memory′ : List ℕ) → length ring ≡ length ring′ →
+      LowEquivalent (batchSemantics setup) setup (length ring) client before w during during′ memory memory′ → Noninterference setup ring client ring′ before w during during′ memory memory′
+  noninterference client ring ring′ before w during during′ memory memory′ long t =
+      let q = of-model setup (length ring) .noninterference client before w during during′ memory memory′ t in
       record {
-        told = rw (one .every-answer, two .every-answer, ← long) (q .told);
-        size = rw (one .every-byte, two .every-byte, ← long) (q .size);
-        bytes = rw (one .every-byte, two .every-byte, ← long) (q .bytes);
+        told-before = told-before ring client before w during memory ∙ q .told-before ∙ sym (rw (← long) at (told-before ring′ client before w during′ memory′));
+        told-during = rw (told-during ring client before w during memory, told-during ring′ client before w during′ memory′, ← long) (q .told-during);
+        throughout = rw (throughout ring client before w during memory, throughout ring′ client before w during′ memory′, ← long) (q .throughout);
+        from-closing = λ later z.
+            let c = q .from-closing later (sym (closing ring client before w during memory) ∙ z) in (
+              rw (closing-told ring client before w during memory later, closing-told ring′ client before w during′ memory′ later, ← long) (c .0),
+              rw (closing-left ring client before w during memory later, closing-left ring′ client before w during′ memory′ later, ← long) (c .1),
+            );
       }
 
 -- the promise, with no premise but that set up was accepted
@@ -44,7 +89,7 @@ pub promise : Demand3Holds
 promise setup ring A = record {
   like-model = like-model setup ring A;
   separate = separate setup A ring;
-  unmoved = λ client ring′. unmoved setup A client ring ring′;
+  noninterference = λ client ring′. noninterference setup A client ring ring′;
   in-time = in-time setup ring A;
   cutting = cutting setup ring A;
   harmless = λ call s. demand1 .calls s .harmless call;

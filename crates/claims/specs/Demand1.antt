@@ -16,10 +16,10 @@ use Rattle.raster.specs.Task.{drawTasks}
 use Rattle.encoder.specs.Forms.{Form, formAllowed, formSize}
 use Rattle.encoder.specs.Encoder.{answerOf, bufferAfter, encodeRefusalOf as encoderNumber}
 use Rattle.queue.specs.Answers.{refusalNumberOf}
-use Rattle.queue.specs.Refusals.{RefusalRow, _when_, firstRefusal, setUpTable, openTable, submitTable, pieceTable, cancelTable, pendingTable}
+use Rattle.queue.specs.Refusals.{RefusalRow, _when_, firstRefusal, setUpTable, openTable, submitTable, pieceTable, cancelTable, closeTable, pendingTable}
 use Rattle.queue.specs.Calls.{setUpResult}
 use Rattle.engine.specs.Run.{runTable, oldest, boundsOfClient, oldestWords, resetOf, oldestVerdict, withoutOldest}
-use Rattle.model.specs.Calls.{Call, opens, submit, run, pending, begin, piece, cancel, completed, refused}
+use Rattle.model.specs.Calls.{Call, opens, submit, run, pending, begin, piece, cancel, close, completed, refused}
 use Rattle.claims.specs.Engine.{State, mkState, performCall}
 
 -- the rows of the paper's table that a call can be refused by, in its order
@@ -31,6 +31,7 @@ refusalTableOf (pending client) s = pendingTable (s .engine) client
 refusalTableOf (begin client total) s = submitTable (s .engine) (length (s .ring)) client total
 refusalTableOf (piece client bytes) s = pieceTable (s .engine) (length (s .ring)) client (length bytes)
 refusalTableOf (cancel client) s = cancelTable (s .engine) client
+refusalTableOf (close client) s = closeTable (s .engine) (length (s .memory)) client
 
 -- and the encoder, in either form (02, request 3: "12 under 100 bytes for the second form"); size: the length of the buffer that is lent
 abbrev pub encoderTable : Form → (size : ℕ) → List RefusalRow
@@ -47,7 +48,7 @@ standing s = tasksDrawn (decodeBatch (boundsOfClient (s .engine) (oldest (s .eng
 abbrev pub RefusalNoOp : Call → State → Type 0
 RefusalNoOp call s = (number : ℕ) → performCall call s .answer ≡ refused number → performCall call s .after ≡ s
 
--- the seven calls on a record
+-- the eight calls on a record
 pub record OfCalls (s : State) : Type 0 where
   -- "A refusal comes exactly under its listed condition, in the listed order": it is the first row whose condition holds; without one there is none
   pub listed : (call : Call) (n : ℕ) → ¬ (n ≡ 0) → firstRefusal (refusalTableOf call s) ≡ n → performCall call s .answer ≡ refused n

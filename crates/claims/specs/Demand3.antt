@@ -2,6 +2,7 @@
 -- included, from an accepted set up, with any ring and memory at the start. `batchSemantics setup` is reading, judging and drawing by demand 2's
 -- definitions, with the reset rule of the set up (ModelProperties). The model is in crates/model/specs. One hypothesis: set up was accepted. proofs/Theorem.antt proves it.
 use mathlib.Core.Path.{_≡_}
+use mathlib.Core.Bool.{true}
 use mathlib.Core.List.{List, [], _∷_, _++_, map, flatten, List·Memᴰ}
 use Prim.Native.Nat.{ℕ, _/_, _≤_, _<_}
 use lib.ListN.{length, take}
@@ -9,14 +10,14 @@ use Rattle.raster.specs.Task.{drawTasks}
 use Rattle.record.specs.Queue.{waiting}
 use Rattle.queue.specs.Refusals.{firstRefusal}
 use Rattle.engine.specs.Run.{oldest}
-use Rattle.model.specs.Windows.{byte}
-use Rattle.model.specs.Calls.{Setup, Call, submit, run, begin, piece, CompletionStatus, Answer, opened, accepted, completed, ready, missing, done, refused, completions}
-use Rattle.model.specs.State.{Model, initialModel, Owns}
-use Rattle.model.specs.Model.{answers, modelAfterAll}
-use Rattle.model.specs.ReplayedAlone.{replayedAlone}
-use Rattle.model.specs.Noninterference.{Pointwise, LowEqualAnswer, LowEquivalent}
+use Rattle.model.specs.Windows.{Window, In, byte}
+use Rattle.model.specs.Calls.{Setup, Call, opens, submit, run, begin, piece, close, CompletionStatus, Answer, opened, accepted, completed, ready, missing, done, refused, completions}
+use Rattle.model.specs.State.{Model, initialModel, isOpen, windowOf, Owns}
+use Rattle.model.specs.Model.{answers, closed, modelAfterAll}
+use Rattle.model.specs.Tenancy.{leftOver, Current, replayedAlone}
+use Rattle.model.specs.Noninterference.{Pointwise, LowEqualAnswer, AgreeOutside, LowEquivalent}
 use Rattle.claims.specs.ModelProperties.{batchSemantics}
-use Rattle.claims.specs.Engine.{State, CallResult, performCall, answersOf, stateAfter, SetUpAccepted, initialState}
+use Rattle.claims.specs.Engine.{State, CallResult, performCall, answersOf, memoriesOf, stateAfter, SetUpAccepted, initialState}
 use Rattle.claims.specs.Demand1.{refusalTableOf, RefusalNoOp, standing}
 
 -- the completions among the answers, in order: the successful runs
@@ -29,6 +30,13 @@ completedOf (ready n ∷ rest) = completedOf rest
 completedOf (missing n ∷ rest) = completedOf rest
 completedOf (done ∷ rest) = completedOf rest
 completedOf (refused n ∷ rest) = completedOf rest
+
+-- the state as the opening after `before` leaves it, and as the calls `during` leave that
+abbrev pub enteredState : Setup → (ring : List ℕ) (before : List Call) → Window → (memory : List ℕ) → State
+enteredState setup ring before w memory = performCall (opens w) (stateAfter before (initialState setup ring memory)) .after
+
+abbrev pub leftState : Setup → (ring : List ℕ) (before : List Call) → Window → (during : List Call) (memory : List ℕ) → State
+leftState setup ring before w during memory = stateAfter during (enteredState setup ring before w memory)
 
 module _ (setup : Setup) (ring : List ℕ) where
   module _ (calls : List Call) (memory : List ℕ) where
@@ -44,11 +52,25 @@ module _ (setup : Setup) (ring : List ℕ) where
       pub every-answer : answersOf calls (initialState setup ring memory) ≡ answers (batchSemantics setup) setup (length ring) calls (initialModel memory)
       pub every-byte : finalState .memory ≡ finalModel .memory
 
-    -- b: each open client's window holds what that client's own executed batches, drawn alone and in order, make of the starting memory; bytes
-    -- in no window, common among them, are as at the start
+    -- short for a client's tenancy at the end, and for what the calls closed
+    abbrev pub CurrentTenancy : (client : ℕ) → Type 0
+    CurrentTenancy client = Current (batchSemantics setup) setup (length ring) (initialModel memory) calls client
+
+    abbrev pub closedBefore : List Call → List Window
+    closedBefore before = closed (batchSemantics setup) setup (length ring) before (initialModel memory)
+
+    -- b, by tenancies (02, 11: "one stay at a desk, from opening to closing"). Each open client has one tenancy, and its window is that tenancy's. The
+    -- window holds what the tenancy's own executed batches, drawn alone and in order, make of memory as its opening found it; there it found "zeros or
+    -- starting bytes that no earlier stay owned". "A byte in no window is zero if a closed stay owned it, else as at the start". Common is as at the start.
     pub record Isolation : Type 0 where
-      pub window : (client i : ℕ) → Owns finalModel client i → byte (finalState .memory) i ≡ byte (replayedAlone (batchSemantics setup) setup (length ring) client calls memory) i
-      pub no-window : (i : ℕ) → ((client : ℕ) → ¬ (Owns finalModel client i)) → byte (finalState .memory) i ≡ byte memory i
+      pub resides : (client : ℕ) → isOpen finalModel client ≡ true → CurrentTenancy client
+      pub only : (client : ℕ) (t u : CurrentTenancy client) → (t .before ≡ u .before) × (t .window ≡ u .window) × (t .during ≡ u .during)
+      pub holds : (client : ℕ) (t : CurrentTenancy client) → (isOpen finalModel client ≡ true) × (windowOf finalModel client ≡ t .window)
+      pub window : (client : ℕ) (t : CurrentTenancy client) (i : ℕ) → In (t .window) i →
+          byte (finalState .memory) i ≡ byte (replayedAlone (batchSemantics setup) setup (length ring) (initialModel memory) (t .before) (t .window) (t .during) client) i
+      pub found : (client : ℕ) (t : CurrentTenancy client) (i : ℕ) → In (t .window) i →
+          byte (stateAfter (t .before) (initialState setup ring memory) .memory) i ≡ leftOver (closedBefore (t .before)) memory i
+      pub no-window : (i : ℕ) → ((client : ℕ) → ¬ (Owns finalModel client i)) → byte (finalState .memory) i ≡ leftOver (closedBefore calls) memory i
       pub common : (i : ℕ) → i < setup .common → byte (finalState .memory) i ≡ byte memory i
       pub size : length (finalState .memory) ≡ length memory
 
@@ -81,20 +103,26 @@ module _ (setup : Setup) (ring : List ℕ) where
         × (length (standing finalState) ≡ v .status / 65536)
         × (waiting (finalState .engine) ≡ oldest (finalState .engine) ∷ waiting (performCall run finalState .after .engine))
 
-  -- c: two runs that differ only in the bytes of one client's batches and in what its window holds at the start, and in what the rings hold. Every
-  -- answer is the same but for status, fault and offset of that client's own batches, and so is every byte of memory outside that one window. Both
+  -- c, by tenancies (02, 11): two runs that differ only in one tenancy's batches, in those starting bytes of its window "that no earlier stay owned", and
+  -- in what the rings hold. Every answer is the same but for status, fault and offset of that tenancy's own batches; "memory outside that window agrees
+  -- throughout", that is after every call; "and all of memory agrees from the stay's closing on", and so does every answer, whatever calls follow. Both
   -- start from the same set up, so they have the same reset rule (02, request 2: "Demand 3 compares runs with the same choice").
-  pub record Noninterference (client : ℕ) (ring′ : List ℕ) (calls calls′ : List Call) (memory memory′ : List ℕ) : Type 0 where
-    pub told : Pointwise (LowEqualAnswer client) (answersOf calls (initialState setup ring memory)) (answersOf calls′ (initialState setup ring′ memory′))
-    pub size : length (finalState calls memory .memory) ≡ length (stateAfter calls′ (initialState setup ring′ memory′) .memory)
-    pub bytes : (i : ℕ) → ¬ (Owns (finalModel calls memory) client i) →
-        byte (finalState calls memory .memory) i ≡ byte (stateAfter calls′ (initialState setup ring′ memory′) .memory) i
+  pub record Noninterference (client : ℕ) (ring′ : List ℕ) (before : List Call) (w : Window) (during during′ : List Call) (memory memory′ : List ℕ) : Type 0 where
+    pub told-before : answersOf (before ++ opens w ∷ []) (initialState setup ring memory) ≡ answersOf (before ++ opens w ∷ []) (initialState setup ring′ memory′)
+    pub told-during : Pointwise (LowEqualAnswer client) (answersOf during (enteredState setup ring before w memory)) (answersOf during′ (enteredState setup ring′ before w memory′))
+    pub throughout : Pointwise (AgreeOutside w)
+        (memoriesOf (before ++ opens w ∷ during) (initialState setup ring memory))
+        (memoriesOf (before ++ opens w ∷ during′) (initialState setup ring′ memory′))
+    pub from-closing : (later : List Call) → performCall (close client) (leftState setup ring before w during memory) .answer ≡ done →
+        (answersOf (close client ∷ later) (leftState setup ring before w during memory) ≡ answersOf (close client ∷ later) (leftState setup ring′ before w during′ memory′))
+        × (memoriesOf (close client ∷ later) (leftState setup ring before w during memory) ≡ memoriesOf (close client ∷ later) (leftState setup ring′ before w during′ memory′))
 
 pub record Demand3 (setup : Setup) (ring : List ℕ) : Type 0 where
   pub like-model : (calls : List Call) (memory : List ℕ) → RefinesModel setup ring calls memory
   pub separate : (calls : List Call) (memory : List ℕ) → Isolation setup ring calls memory
-  pub unmoved : (client : ℕ) (ring′ : List ℕ) (calls calls′ : List Call) (memory memory′ : List ℕ) → length ring ≡ length ring′ →
-      LowEquivalent (batchSemantics setup) setup (length ring) client calls calls′ memory memory′ → Noninterference setup ring client ring′ calls calls′ memory memory′
+  pub noninterference : (client : ℕ) (ring′ : List ℕ) (before : List Call) (w : Window) (during during′ : List Call) (memory memory′ : List ℕ) → length ring ≡ length ring′ →
+      LowEquivalent (batchSemantics setup) setup (length ring) client before w during during′ memory memory′ →
+      Noninterference setup ring client ring′ before w during during′ memory memory′
   pub in-time : (calls later : List Call) (memory : List ℕ) → BoundedWaiting setup ring calls memory later
   pub cutting : (calls : List Call) (memory : List ℕ) (client : ℕ) (pieces : List (List ℕ)) (last : List ℕ) → Cutting setup ring calls memory client pieces last
   -- e: a refused call changes nothing (demand 1)

@@ -9,11 +9,12 @@ use Rattle.queue.specs.declared.Answer.{Answer as Told}
 use Rattle.queue.specs.declared.Answer.the-variants.{Refused, Done, Opened, Accepted, Ready, Missing}
 use Rattle.queue.specs.declared.Reply.{Reply}
 use Rattle.queue.specs.Answers.{refusalNumberOf, valueOf}
-use Rattle.queue.specs.Calls.{setUpResult, openResult, submitResult, submitRing, beginResult, pieceResult, pieceRing, cancelResult, pendingAnswer}
+use Rattle.queue.specs.Calls.{setUpResult, openResult, submitResult, submitRing, beginResult, pieceResult, pieceRing, cancelResult, closeResult, pendingAnswer}
 use Rattle.engine.specs.declared.Ran.{Ran}
 use Rattle.engine.specs.Outcome.{CompletionValues, runRefusalOf as refusalOf, valuesOf}
 use Rattle.engine.specs.Run.{runResult, runMemory}
-use Rattle.model.specs.Calls.{Setup, Call, opens, submit, run, pending, begin, piece, cancel, Answer, opened, accepted, completed, ready, missing, done, refused}
+use Rattle.engine.specs.Close.{closeMemory}
+use Rattle.model.specs.Calls.{Setup, Call, opens, submit, run, pending, begin, piece, cancel, close, Answer, opened, accepted, completed, ready, missing, done, refused}
 
 -- the engine record, and the ring and memory that are lent to every call
 pub record State : Type 0 where
@@ -79,6 +80,13 @@ performCall (cancel client) s =
     let r : Reply = cancelResult (s .engine) client in
     record { answer = answerOrRefusal (refusalNumberOf (r .answer)) done; after = mkState (r .engine) (s .ring) (s .memory) }
 
+performCall (close client) s =
+    let r : Reply = closeResult (s .engine) (length (s .memory)) client in
+    record {
+      answer = answerOrRefusal (refusalNumberOf (r .answer)) done;
+      after = mkState (r .engine) (s .ring) (closeMemory (s .engine) (s .memory) client);
+    }
+
 -- ---- a list of calls
 
 unfoldable pub answersOf : List Call → State → List Answer
@@ -88,6 +96,11 @@ answersOf (c ∷ cs) s = performCall c s .answer ∷ answersOf cs (performCall c
 unfoldable pub stateAfter : List Call → State → State
 stateAfter [] s = s
 stateAfter (c ∷ cs) s = stateAfter cs (performCall c s .after)
+
+-- the memory after each call, in order
+unfoldable pub memoriesOf : List Call → State → List (List ℕ)
+memoriesOf [] s = []
+memoriesOf (c ∷ cs) s = performCall c s .after .memory ∷ memoriesOf cs (performCall c s .after)
 
 -- ---- the start
 

@@ -1,14 +1,14 @@
 -- Order between clients (02, 9: "Order between desks"), whole: of the model at the real definitions of reading, judging and drawing, and of the engine
--- itself. The words are those of crate model, specs/Order (`SameSequences`, `submitted`, `verdictsOf`) and specs/Properties (the statements of the model).
+-- itself. The words are those of crate model, specs/Order (`Reordered`, `executions`, `submissions`, `AllRun`, `verdictsOf`) and specs/Properties (the statements of the model).
 -- proofs/Order.antt proves `Promise`; no premise is left over but that set up was accepted.
 use mathlib.Core.Path.{_≡_}
-use mathlib.Core.List.{List, []}
+use mathlib.Core.List.{List}
 use Prim.Native.Nat.{ℕ}
 use lib.ListN.{length}
 use Rattle.model.specs.Calls.{Setup, Call}
 use Rattle.model.specs.State.{initialModel}
-use Rattle.model.specs.Order.{SameSequences, submitted, verdictsOf}
-use Rattle.model.specs.Properties.{finalModel, executedBatches, Exchange, AnyOrder, AnySubmissions, ReorderedByHand}
+use Rattle.model.specs.Order.{Reordered, executions, submissions, AllRun, verdictsOf}
+use Rattle.model.specs.Properties.{Exchange, AnyOrder, AnySubmissions, ReorderedByHand}
 use Rattle.claims.specs.ModelProperties.{batchSemantics}
 use Rattle.claims.specs.Engine.{State, answersOf, stateAfter, SetUpAccepted, initialState}
 
@@ -21,20 +21,15 @@ module _ (setup : Setup) (ring : List ℕ) (calls calls′ : List Call) (memory 
     pub every-byte : stateAfter calls (initialState setup ring memory) .memory ≡ stateAfter calls′ (initialState setup ring memory) .memory
     pub verdicts : (client : ℕ) → verdictsOf client (answersOf calls (initialState setup ring memory)) ≡ verdictsOf client (answersOf calls′ (initialState setup ring memory))
 
-  -- The same windows are opened in the same order.
-  abbrev pub SameWindows : Type 0
-  SameWindows = finalModel (batchSemantics setup) setup (length ring) calls memory .windows ≡ finalModel (batchSemantics setup) setup (length ring) calls′ memory .windows
-
-  -- "any order that keeps each desk's own sequence", of executed batches
+  -- "any order that keeps each desk's own sequence", of executed batches; no batch moves "past an opening or a closing" (02, 11)
   abbrev pub EngineOrder : Type 0
-  EngineOrder = SameWindows →
-      SameSequences (executedBatches (batchSemantics setup) setup (length ring) calls memory) (executedBatches (batchSemantics setup) setup (length ring) calls′ memory) → SameOutcome
+  EngineOrder =
+      Reordered (executions (batchSemantics setup) setup (length ring) calls (initialModel memory)) (executions (batchSemantics setup) setup (length ring) calls′ (initialModel memory)) → SameOutcome
 
-  -- and of accepted batches, "where every batch is accepted and run in both": none waits at the end
+  -- and of accepted batches, "where every batch is accepted and run in both": none waits at an opening, at a closing or at the end
   abbrev pub EngineSubmissions : Type 0
-  EngineSubmissions = SameWindows →
-      finalModel (batchSemantics setup) setup (length ring) calls memory .waiting ≡ [] → finalModel (batchSemantics setup) setup (length ring) calls′ memory .waiting ≡ [] →
-      SameSequences (submitted (batchSemantics setup) setup (length ring) calls (initialModel memory)) (submitted (batchSemantics setup) setup (length ring) calls′ (initialModel memory)) → SameOutcome
+  EngineSubmissions = AllRun (batchSemantics setup) setup (length ring) calls (initialModel memory) → AllRun (batchSemantics setup) setup (length ring) calls′ (initialModel memory) →
+      Reordered (submissions (batchSemantics setup) setup (length ring) calls (initialModel memory)) (submissions (batchSemantics setup) setup (length ring) calls′ (initialModel memory)) → SameOutcome
 
 pub record Order (setup : Setup) (ring : List ℕ) : Type 0 where
   -- "two faultless or faulty batches of different desks, taken one right after the other", at any moment: "either order leaves the same memory and gives

@@ -3,21 +3,21 @@
 use mathlib.Core.Path.{_≡_}
 use mathlib.Core.Bool.{true, false}
 use mathlib.Core.List.{List, [], _∷_, _++_}
-use Prim.Native.Nat.{ℕ, _+_, _-_}
+use Prim.Native.Nat.{ℕ, _+_, _-_, _<_}
 use lib.ListN.{length}
 use Rattle.word.specs.Word.{words}
 use Rattle.ring.specs.Segment.{segment, wrapOffset}
 use Rattle.record.specs.declared.Batch.{Batch}
 use Rattle.record.specs.Slots.{totalLength}
-use Rattle.record.specs.Clients.{openWindows}
 use Rattle.record.specs.Staged.{noStaged}
+use Rattle.record.specs.Clients.{clientAt, isOpen, lowestClosed}
 use Rattle.record.specs.Queue.{freeBytes, writeOffset, waiting}
 use Rattle.record.specs.Rules.{valid}
 use Rattle.queue.specs.Refusals.{firstRefusal}
 use Rattle.queue.specs.Calls.{newBatch, begun, more, isLast}
 use Rattle.engine.specs.Run.{oldest, oldestWords}
-use Rattle.model.specs.Windows.{Window}
-use Rattle.model.specs.Calls.{Setup, Call, opens, submit, run, begin, piece, cancel}
+use Rattle.model.specs.Windows.{Window, In, window, byte}
+use Rattle.model.specs.Calls.{Setup, Call, opens, submit, run, begin, piece, cancel, close, opened, done}
 use Rattle.claims.specs.Engine.{State, performCall, SetUpAccepted}
 use Rattle.claims.specs.Demand1.{refusalTableOf}
 use Rattle.claims.specs.Demand3.{finalState}
@@ -75,12 +75,45 @@ pub record Taken (s after : State) : Type 0 where
   pub staged : after .engine .staged ≡ s .engine .staged
   pub so-far : bytesSoFar after ≡ bytesSoFar s
 
+-- the set up, slots, read offset, next ticket and open hand-over are as they were
+pub record SameQueue (s after : State) : Type 0 where
+  pub setup : after .engine .setup ≡ s .engine .setup
+  pub slots : after .engine .slots ≡ s .engine .slots
+  pub read : after .engine .read ≡ s .engine .read
+  pub next : after .engine .next ≡ s .engine .next
+  pub staged : after .engine .staged ≡ s .engine .staged
+
+-- before and after an accepted opening: it takes "the lowest free id" (02, 11), and all else is as it was
+pub record Opened (w : Window) (s after : State) : Type 0 where
+  pub free : isOpen (s .engine) (lowestClosed (s .engine .clients)) ≡ false
+  pub lowest : (k : ℕ) → k < lowestClosed (s .engine .clients) → isOpen (s .engine) k ≡ true
+  pub window : clientAt (after .engine) (lowestClosed (s .engine .clients)) ≡ record { window = record { start = w .start; length = w .length }; pending = 0; opened = true }
+  pub others : (k : ℕ) → ¬ (k ≡ lowestClosed (s .engine .clients)) → clientAt (after .engine) k ≡ clientAt (s .engine) k
+  pub queue : SameQueue s after
+  pub ring : after .ring ≡ s .ring
+  pub memory : after .memory ≡ s .memory
+
+-- before and after an accepted closing: "Its window is filled with zeros and the id and window are free" (02, 11). Every other client, every other byte of
+-- memory, the ring and what waits are as they were
+pub record Closed (client : ℕ) (s after : State) : Type 0 where
+  pub free : isOpen (after .engine) client ≡ false
+  pub others : (k : ℕ) → ¬ (k ≡ client) → clientAt (after .engine) k ≡ clientAt (s .engine) k
+  pub zeros : (i : ℕ) → In (window (clientAt (s .engine) client .window .start) (clientAt (s .engine) client .window .length)) i → byte (after .memory) i ≡ 0
+  pub rest : (i : ℕ) → ¬ (In (window (clientAt (s .engine) client .window .start) (clientAt (s .engine) client .window .length)) i) → byte (after .memory) i ≡ byte (s .memory) i
+  pub size : length (after .memory) ≡ length (s .memory)
+  pub ring : after .ring ≡ s .ring
+  pub queue : SameQueue s after
+  pub waits : waiting (after .engine) ≡ waiting (s .engine)
+
 pub record Queue (s : State) : Type 0 where
   -- the record keeps its rules: 11 never comes
   pub sound : valid (s .engine) ≡ true
-  -- "A desk is opened with a window": it is the last
-  pub opened : (w : Window) → firstRefusal (refusalTableOf (opens w) s) ≡ 0 →
-      openWindows (performCall (opens w) s .after .engine) ≡ openWindows (s .engine) ++ record { start = w .start; length = w .length } ∷ []
+  -- "A desk is opened with a window"; its id is answered
+  pub opens : (w : Window) → firstRefusal (refusalTableOf (opens w) s) ≡ 0 →
+      (performCall (opens w) s .answer ≡ opened (lowestClosed (s .engine .clients))) × Opened w s (performCall (opens w) s .after)
+  -- 02, 11: "Add closing"; it answers nothing
+  pub closes : (client : ℕ) → firstRefusal (refusalTableOf (close client) s) ≡ 0 →
+      (performCall (close client) s .answer ≡ done) × Closed client s (performCall (close client) s .after)
   -- "Submit copies the batch into the ring after the newest one (at the read offset if none is ready)"
   pub after-newest : (batches : List Batch) (newest : Batch) → waiting (s .engine) ≡ batches ++ newest ∷ [] →
       writeOffset (s .engine) ≡ wrapOffset (s .engine .setup .ring) (newest .offset + newest .length)

@@ -3,3 +3,4 @@ pub mod Oldest
 pub mod Refusals
 pub mod Calls
 pub mod Stays
+pub mod Zeros

@@ -6,7 +6,7 @@ use Prim.Native.Nat.{ℕ, zero, suc, _+_, _-_, _≤_, _<_}
 use native.Mathlib.Omega.{arith}
 use lib.ListN.{length, set}
 use lib.Dec.{eqb}
-use borrow.Author.Tests.{ltb-true, eq-eqb}
+use borrow.Author.Tests.{eq-eqb}
 use Rattle.word.proofs.Tests.{and-true}
 use Rattle.ring.specs.Segment.{wrapOffset}
 use Rattle.rules.specs.declared.task.Bounds.{Bounds}
@@ -24,6 +24,7 @@ use Rattle.record.proofs.Slots.{ready-most}
 use Rattle.record.proofs.Order.{oldest as is-oldest}
 use Rattle.record.proofs.Rules.{LengthGood, Valid, valid-facts, sum-waiting}
 use Rattle.record.proofs.Taken.{first, waiting-first, first-good}
+use Rattle.record.proofs.Clients.{open-place}
 use Rattle.record.proofs.Windows.{window-placed}
 use Rattle.queue.proofs.Room.{pending-right}
 use Rattle.engine.specs.Run.{oldestTicket, oldest, boundsOfClient, pendingLowered, withoutOldest}
@@ -42,7 +43,7 @@ owner-open engine ok some = go (readySlots engine) refl some
 -- it is one of the four
 pub owner-small : (engine : Record) → valid engine ≡ true → 0 < readySlots engine → oldest engine .client < 4
 owner-small engine ok some =
-    omega (arith, ltb-true (oldest engine .client) (engine .opened) (owner-open engine ok some), valid-facts engine ok .numbers .clients)
+    open-place engine (oldest engine .client) (owner-open engine ok some) .0
 
 -- its slot is one of the eight
 pub slot-below : (engine : Record) → valid engine ≡ true → 0 < readySlots engine → length (engine .slots) ≡ 8 → slotOfTicket (oldestTicket engine) (engine .slots) < 8
@@ -99,7 +100,7 @@ takes engine ok some four eight =
     record {
       slot = slot-below engine ok some eight;
       client = owner-small engine ok some;
-      counted = rw (pending-right engine ok (oldest engine .client) (owner-open engine ok some) four) (owned engine ok k more four eight);
+      counted = rw (pending-right engine ok (oldest engine .client) (owner-open engine ok some)) (owned engine ok k more four eight);
       offset = omega (arith, good engine ok k more four eight .within, v .numbers .ring .small, v .numbers .below);
     }
 
@@ -107,14 +108,13 @@ takes engine ok some four eight =
 pub without-made : (engine : Record) (at : ℕ) → at ≡ slotOfTicket (oldestTicket engine) (engine .slots) → (b : Batch) → b ≡ oldest engine →
     (clients : List Client) → clients ≡ pendingLowered (engine .clients) (b .client) → (slots : List Slot) → slots ≡ set (engine .slots) at free →
     (read : ℕ) → read ≡ wrapOffset (engine .setup .ring) (engine .read + b .length) →
-    record { setup = engine .setup; clients = clients; opened = engine .opened; slots = slots; read = read; next = engine .next; staged = engine .staged } ≡ withoutOldest engine
+    record { setup = engine .setup; clients = clients; slots = slots; read = read; next = engine .next; staged = engine .staged } ≡ withoutOldest engine
 unfolding withoutOldest
 without-made engine at ea b eb clients ec slots es read er = rw (ec, es, er, ea, eb)
 
 -- its client's window and common lie in memory
-pub oldest-room : (engine : Record) → valid engine ≡ true → 0 < readySlots engine → length (engine .clients) ≡ 4 →
+pub oldest-room : (engine : Record) → valid engine ≡ true → 0 < readySlots engine →
     (n : ℕ) → n ≡ engine .setup .memory → (b : Batch) → b ≡ oldest engine → (bounds : Bounds) → bounds ≡ boundsOfClient engine (b .client) → BoundsInMemory bounds n
-oldest-room engine ok some four n en b eb bounds is =
+oldest-room engine ok some n en b eb bounds is =
     let v = valid-facts engine ok in
-    let owner = ltb-true (oldest engine .client) (engine .opened) (owner-open engine ok some) in
-    rw (is, eb, en) (record { window = window-placed engine v four (oldest engine .client) owner .fits; common = v .numbers .memory .shared })
+    rw (is, eb, en) (record { window = window-placed engine v (oldest engine .client) (owner-open engine ok some) .fits; common = v .numbers .memory .shared })

@@ -6,8 +6,6 @@ use mathlib.Core.Bool.{true}
 use Prim.Native.Nat.{ℕ, zero, suc, _-_, _<_}
 use native.Mathlib.Omega.{arith}
 use lib.ListN.{length, getD, length-set}
-use lib.Seq.{getD-take, take-set-lt}
-use borrow.Author.Tests.{ltb-true}
 use Rattle.word.specs.Word.{words}
 use Rattle.ring.specs.Segment.{segment, LiesInRing}
 use Rattle.ring.proofs.Segment.{batch-words}
@@ -16,7 +14,7 @@ use Rattle.record.specs.declared.Batch.{Batch}
 use Rattle.record.specs.declared.Record.{Record}
 use Rattle.record.specs.Slots.{free}
 use Rattle.record.specs.Tickets.{slotOfTicket}
-use Rattle.record.specs.Clients.{noClient, openClients, openWindows}
+use Rattle.record.specs.Clients.{noClient, isOpen, openWindows}
 use Rattle.record.specs.Queue.{readySlots, waiting}
 use Rattle.record.specs.Rules.{valid}
 use Rattle.record.proofs.Line.{held}
@@ -57,7 +55,7 @@ run-same engine ring memory z =
 pub run-sized : (engine : Record) → Sized engine → Sized (withoutOldest engine)
 unfolding withoutOldest
 run-sized engine s = record {
-  clients = length-set (engine .clients) (oldest engine .client) (record { window = getD (engine .clients) (oldest engine .client) noClient .window; pending = getD (engine .clients) (oldest engine .client) noClient .pending - 1 }) ∙ s .clients;
+  clients = length-set (engine .clients) (oldest engine .client) (record { window = getD (engine .clients) (oldest engine .client) noClient .window; pending = getD (engine .clients) (oldest engine .client) noClient .pending - 1; opened = getD (engine .clients) (oldest engine .client) noClient .opened }) ∙ s .clients;
   slots = length-set (engine .slots) (slotOfTicket (oldestTicket engine) (engine .slots)) free ∙ s .slots;
   next = s .next;
 }
@@ -83,10 +81,10 @@ module _ (engine : Record) (s : Sized engine) (ok : valid engine ≡ true) (k : 
   at-read : oldest engine .offset ≡ engine .read
   at-read = rw is (first-at engine ok k more less (s .clients))
 
--- set-up numbers, open clients, the next ticket and the staged submission are as they were
-pub run-kept : (engine : Record) → (withoutOldest engine .setup ≡ engine .setup) × (withoutOldest engine .opened ≡ engine .opened) × (withoutOldest engine .next ≡ engine .next) × (withoutOldest engine .staged ≡ engine .staged)
+-- set-up numbers, the next ticket and the staged submission are as they were
+pub run-kept : (engine : Record) → (withoutOldest engine .setup ≡ engine .setup) × (withoutOldest engine .next ≡ engine .next) × (withoutOldest engine .staged ≡ engine .staged)
 unfolding withoutOldest
-run-kept engine = (refl, refl, refl, refl)
+run-kept engine = (refl, refl, refl)
 
 module _ (engine : Record) (s : Sized engine) (given lent : ℕ) (a : RunAllowed engine given lent) where
   abbrev behind : ℕ
@@ -111,14 +109,12 @@ module _ (engine : Record) (s : Sized engine) (given lent : ℕ) (a : RunAllowed
   oldest-good = good engine (a .ok) behind more (s .clients) (s .slots)
 
   -- its client is open, and the windows are as they were
-  pub oldest-owner : oldest engine .client < engine .opened
-  oldest-owner = ltb-true (oldest engine .client) (engine .opened) (owner-open engine (a .ok) (a .some))
+  pub oldest-owner : isOpen engine (oldest engine .client) ≡ true
+  oldest-owner = owner-open engine (a .ok) (a .some)
 
   pub run-windows : openWindows (withoutOldest engine) ≡ openWindows engine
   unfolding withoutOldest
-  run-windows =
-      rw (take-set-lt (engine .opened) (engine .clients) (oldest engine .client) (record { window = getD (engine .clients) (oldest engine .client) noClient .window; pending = getD (engine .clients) (oldest engine .client) noClient .pending - 1 }) oldest-owner, ← getD-take (engine .opened) (engine .clients) (oldest engine .client) noClient oldest-owner)
-      (windows-set (openClients engine) (oldest engine .client) _)
+  run-windows = windows-set (engine .clients) (oldest engine .client) _
 
 -- ---- the batch in the ring
 

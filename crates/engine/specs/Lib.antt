@@ -1,3 +1,4 @@
--- Run, and what it answers.
+-- Run, and what it answers; memory after close.
 pub mod Run
+pub mod Close
 pub mod Outcome

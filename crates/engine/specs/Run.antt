@@ -67,14 +67,13 @@ oldestVerdict engine ring = verdictOf (decodeBatch (boundsOfClient engine (oldes
 
 -- the clients with one batch fewer pending for one of them
 abbrev pub pendingLowered : List Client → ℕ → List Client
-pendingLowered clients client = set clients client (record { window = getD clients client noClient .window; pending = getD clients client noClient .pending - 1 })
+pendingLowered clients client = set clients client (record { window = getD clients client noClient .window; pending = getD clients client noClient .pending - 1; opened = getD clients client noClient .opened })
 
 -- its slot is free, and "each run moves" the read offset "past its batch"
 unfoldable pub withoutOldest : Record → Record
 withoutOldest engine = record {
   setup = engine .setup;
   clients = pendingLowered (engine .clients) (oldest engine .client);
-  opened = engine .opened;
   slots = set (engine .slots) (slotOfTicket (oldestTicket engine) (engine .slots)) free;
   read = wrapOffset (engine .setup .ring) (engine .read + oldest engine .length);
   next = engine .next;

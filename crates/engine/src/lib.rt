@@ -1,17 +1,18 @@
-// The engine's public face: set up, open, submit, begin, piece, cancel, run and pending. No call has a `requires`: any record, ring, memory and batch
-// may be handed in.
+// The engine's public face: set up, open, submit, begin, piece, cancel, run, pending and close. No call has a `requires`: any record, ring, memory and
+// batch may be handed in.
 ghost use mathlib.Core.Path.{_≡_};
 ghost use mathlib.Core.Bool.{true};
 ghost use Prim.Native.Nat.{_≤_, _<_};
-ghost use lib.ListN.{length, getD, set};
+ghost use lib.ListN.{length, getD, set, replicate};
 ghost use Rattle.record.specs.Slots.{free};
 ghost use Rattle.record.specs.Tickets.{slotOfTicket};
 ghost use Rattle.record.specs.Clients.{noClient, windowRange};
 ghost use Rattle.record.specs.Queue.{readySlots};
 ghost use Rattle.record.specs.Rules.{valid};
 ghost use Rattle.queue.specs.Refusals.{firstRefusal};
-ghost use Rattle.queue.specs.Calls.{setUpResult, openResult, submitResult, submitRing, beginResult, pieceResult, pieceRing, cancelResult, pendingAnswer};
+ghost use Rattle.queue.specs.Calls.{setUpResult, openResult, submitResult, submitRing, beginResult, pieceResult, pieceRing, cancelResult, closeResult, pendingAnswer};
 ghost use Rattle.engine.specs.Run.{runTable, oldestTicket, oldest, boundsOfClient, resetOf, pendingLowered, withoutOldest, runResult, runMemory};
+ghost use Rattle.engine.specs.Close.{closeMemory};
 use batch::Verdict;
 use queue::Answer;
 use queue::Reply;
@@ -150,6 +151,7 @@ fn lower(clients: [Client; 4], client: u32) -> [Client; 4]
     after[at] = Client {
         window: window,
         pending: old.pending - 1,
+        opened: old.opened,
     };
     after
 }
@@ -235,4 +237,38 @@ pub fn run(engine: Record, ring: &[u8], memory: &mut [u8]) -> Ran
         × (now (memory .exit) ≡ runMemory engine (now (ring .entry)) (now (memory .entry))) ⌝ }
 {
     run_by(engine, ring, memory, false)
+}
+
+// Fills bytes with zeros.
+fn clear(bytes: &mut [u8])
+    ensures { λ _. ⌜ now (bytes .exit) ≡ replicate (length (now (bytes .entry))) 0 ⌝ }
+{
+    let mut i: usize = 0;
+    while i < bytes.len() {
+        bytes[i] = 0;
+        i += 1;
+    }
+}
+
+// Closes a client: its window is filled with zeros, and its id and window are free. Either engine closes so: nothing is drawn.
+pub fn close(engine: Record, memory: &mut [u8], client: u32) -> Reply
+    ensures { λ r. ⌜ (r ≡ closeResult engine (length (now (memory .entry))) client)
+        × (now (memory .exit) ≡ closeMemory engine (now (memory .entry)) client) ⌝ }
+{
+    let number = queue::close_refusal(engine, memory.len(), client);
+    if number != 0 {
+        return Reply {
+            answer: Answer::Refused(number),
+            engine: engine,
+        };
+    }
+    let clients = engine.clients;
+    let window = window_of(clients, client);
+    let start = window.start;
+    let end = window.end;
+    clear(&mut memory[start..end]);
+    Reply {
+        answer: Answer::Done,
+        engine: queue::without_client(engine, client),
+    }
 }

@@ -6,7 +6,7 @@ use mathlib.Core.Logic.{⊎-elim}
 use mathlib.Core.List.{List, [], _∷_}
 use Prim.Native.Nat.{ℕ, zero, suc, _+_, _%_, _≤_, _<_}
 use native.Mathlib.Omega.{arith}
-use lib.ListN.{length, replicate, length-replicate}
+use lib.ListN.{length, getD, replicate, length-replicate}
 use lib.Dec.{ltb, eqb, eqb·suc-zero}
 use borrow.Author.Tests.{lt-ltb, le-ltb, ltb-false}
 use Rattle.word.proofs.Tests.{split}
@@ -15,7 +15,7 @@ use Rattle.queue.specs.Refusals.{firstRefusal as firstRow}
 use Rattle.queue.specs.Calls.{setUpResult}
 use Rattle.model.specs.Windows.{Window, window, overlapAny}
 use Rattle.model.specs.Calls.{submit, run, accepted, completed}
-use Rattle.model.specs.State.{Model, idle, totalBytes, windowOf as windowIn}
+use Rattle.model.specs.State.{Model, Place, free, taken as held, isTaken, lowestFree, windowsIn, idle, totalBytes, windowOf as windowIn}
 use Rattle.model.specs.Refusals.{refusalTable, firstHolding, refusal as refusalIn, badLength}
 use Rattle.model.specs.Model.{refuse, enqueue, runStep, refuseOr, effect, step, after, modelAfterAll}
 use Rattle.claims.specs.ModelProperties.{batchSemantics}
@@ -31,11 +31,11 @@ use Rattle.lines.proofs.LineFeeds.{feeds-append, one-feed, answer-one}
 
 -- ---- the model between two records
 
-abbrev windows : List Window
-windows = window 16384 12288 ∷ window 28672 12288 ∷ window 40960 12288 ∷ window 53248 12288 ∷ []
+abbrev places : List Place
+places = held (window 16384 12288) ∷ held (window 28672 12288) ∷ held (window 40960 12288) ∷ held (window 53248 12288) ∷ []
 
 abbrev resting : ℕ → List ℕ → Model
-resting count memory = record { windows = windows; waiting = []; staged = idle; accepted = count; memory = memory }
+resting count memory = record { places = places; waiting = []; staged = idle; accepted = count; memory = memory }
 
 -- and with a record's batch
 abbrev holding : ℕ → List ℕ → Entry → Model
@@ -52,9 +52,12 @@ memory-is r = ap (λ (m : Model). m .memory) (r .is)
 
 -- ---- what the table says of a record
 
-open-like : (client : ℕ) → not (ltb client 4) ≡ ltb 3 client
-open-like client =
-    ⊎-elim (λ (p : client < 4). rw (lt-ltb client 4 p, le-ltb 3 client (omega arith))) (λ (p : 4 ≤ client). rw (le-ltb client 4 p, lt-ltb 3 client (omega arith))) (split client 4)
+open-like : (client : ℕ) → not (isTaken (getD places client free)) ≡ ltb 3 client
+open-like zero = refl
+open-like (suc zero) = refl
+open-like (suc (suc zero)) = refl
+open-like (suc (suc (suc zero))) = refl
+open-like (suc (suc (suc (suc client)))) = sym (lt-ltb 3 (suc (suc (suc (suc client)))) (omega arith))
 
 -- 8 cannot come behind 6, as the ring is empty
 never-eight : (a over : Bool) → _≡_ {A = ℕ} (cond (a || over) 6 (cond over 8 0)) (cond (a || over) 6 0)
@@ -214,7 +217,7 @@ unfolding setUpResult answerUnlessRefused firstRow
 set-up = refl
 
 opens-four : (n : ℕ) (memory : List ℕ) → modelAfterAll (batchSemantics setup) setup n opening memory ≡ resting 0 memory
-unfolding after effect refuseOr refusalTable firstHolding overlapAny
+unfolding after effect refuseOr refusalTable firstHolding overlapAny lowestFree windowsIn
 opens-four n memory = refl
 
 starts : (ring memory : List ℕ) → length ring ≡ 32768 → length memory ≡ 65536 → Stands 0 (engineOpened ring memory)

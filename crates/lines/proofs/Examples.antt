@@ -4,7 +4,7 @@ use mathlib.Core.List.{[], _∷_}
 use Rattle.word.specs.Word.{byteOf, be32At, beBytes}
 use Rattle.record.specs.Slots.{readyBatches, sumOver}
 use Rattle.record.specs.Tickets.{ticketsConsecutive, inTicketOrder}
-use Rattle.record.specs.Clients.{windowsOf, overlapsAny, windowsValid, pendingCountsMatch}
+use Rattle.record.specs.Clients.{windowsOf, lowestClosed, overlapsAny, windowsValid, pendingCountsMatch}
 use Rattle.record.specs.Rules.{endToEnd, lengthsAllowed, clientsOpen, valid}
 use Rattle.queue.specs.Answers.{answerUnlessRefused}
 use Rattle.queue.specs.Refusals.{firstRefusal}
@@ -80,5 +80,5 @@ longest = refl
 
 -- set up is accepted, and the four windows are opened
 pub opens-four : answersOf opening (initialState setup [] []) ≡ opened 0 ∷ opened 1 ∷ opened 2 ∷ opened 3 ∷ []
-unfolding answersOf performCall answerOrRefusal setUpResult openResult initialRecord withClient unlessRefused firstRefusal answerUnlessRefused valid windowsOf overlapsAny windowsValid pendingCountsMatch endToEnd lengthsAllowed clientsOpen ticketsConsecutive inTicketOrder readyBatches sumOver
+unfolding answersOf performCall answerOrRefusal setUpResult openResult initialRecord withClient unlessRefused firstRefusal answerUnlessRefused valid windowsOf lowestClosed overlapsAny windowsValid pendingCountsMatch endToEnd lengthsAllowed clientsOpen ticketsConsecutive inTicketOrder readyBatches sumOver
 opens-four = refl

@@ -2,7 +2,8 @@
 -- order, so it is held fast here. The way to draw is a small one that reads common and window and draws in the window.
 use mathlib.Core.Path.{_≡_, refl}
 use mathlib.Core.List.{List, [], _∷_, _++_}
-use mathlib.Core.Bool.{Bool, cond}
+use mathlib.Core.Bool.{Bool, false, cond}
+use mathlib.Core.Logic.{inl, inr}
 use Prim.Native.Nat.{ℕ, zero, suc, _+_, _%_}
 use native.Mathlib.Omega.{arith}
 use lib.ListN.{take, getD, set, length-set, replicate}
@@ -10,14 +11,14 @@ use lib.Dec.{ltb}
 use borrow.Author.Tests.{ne-eqb}
 use borrow.Rule.Slice.PartMut.{midOf, putMid}
 use Rattle.reset.specs.declared.ResetRule.the-variants.{SrcOver}
-use Rattle.model.specs.Windows.{window, byte, overlapAny}
-use Rattle.model.specs.Calls.{Setup, Call, opens, submit, run, pending, begin, piece, cancel, CompletionStatus, opened, accepted, completed, ready, missing, done, refused}
+use Rattle.model.specs.Windows.{window, In, byte, containsAny, overlapAny}
+use Rattle.model.specs.Calls.{Setup, Call, opens, submit, run, pending, begin, piece, cancel, close, CompletionStatus, opened, accepted, completed, ready, missing, done, refused}
 use Rattle.model.specs.BatchSemantics.{BatchSemantics, Confined}
-use Rattle.model.specs.State.{Model, idle, initialModel, Owns, takenSlots, totalBytes, countOf}
+use Rattle.model.specs.State.{Batch, batch, Model, taken, idle, initialModel, lowestFree, windowsIn, takenSlots, totalBytes, countOf}
 use Rattle.model.specs.Refusals.{freeBytes, refusalTable, firstHolding}
-use Rattle.model.specs.Model.{refuseOr, effect, answers, after, executed, modelAfterAll}
-use Rattle.model.specs.ReplayedAlone.{batchesOf, drawBatches, replayedAlone}
-use Rattle.model.specs.Order.{SameSequences, submitted, SameOutcome}
+use Rattle.model.specs.Model.{refuseOr, effect, answers, after, closed, modelAfterAll}
+use Rattle.model.specs.Tenancy.{batchesOf}
+use Rattle.model.specs.Order.{Event, opening, closing, job, jobs, seenBy, Reordered, changes, submissions, AllRun, SameOutcome, Exchanged, ByHand}
 use Rattle.model.specs.Noninterference.{none, more, same, rewritten, repieced, LowEquivalent}
 use Rattle.model.specs.Properties.{Noninterference}
 use Rattle.model.proofs.Locality.{local-if, local-window}
@@ -72,7 +73,7 @@ opened-so : answers toy setup 128 openings (initialModel memory) ≡
     refused 9 ∷ refused 5 ∷ refused 5 ∷
     refused 4 ∷ refused 4 ∷ refused 4 ∷ opened 0 ∷ refused 4 ∷
     opened 1 ∷ opened 2 ∷ opened 3 ∷ refused 3 ∷ []
-unfolding answers refuseOr effect refusalTable firstHolding overlapAny totalBytes countOf
+unfolding answers refuseOr effect refusalTable firstHolding overlapAny lowestFree windowsIn totalBytes countOf
 opened-so = refl
 
 abbrev batches : List Call
@@ -95,44 +96,46 @@ submitted-so : answers toy setup 128 batches (modelAfterAll toy setup 128 openin
     refused 5 ∷ refused 6 ∷ refused 7 ∷ ready 2 ∷
     completed 0 1 good ∷ refused 8 ∷ accepted 9 ∷
     completed 1 2 good ∷ completed 2 3 good ∷ completed 3 4 good ∷ completed 0 5 good ∷ completed 1 6 bad ∷ completed 2 7 good ∷ completed 3 8 good ∷ completed 2 9 good ∷ refused 9 ∷ refused 5 ∷ []
-unfolding answers after refuseOr effect refusalTable firstHolding overlapAny totalBytes countOf
+unfolding answers after refuseOr effect refusalTable firstHolding overlapAny lowestFree windowsIn totalBytes countOf
 submitted-so = refl
 
 drawn-so : modelAfterAll toy setup 128 (openings ++ batches) memory .memory ≡ eight 100 ++ eight 58 ++ eight 104 ++ eight 66 ++ eight 216
-unfolding after refuseOr effect refusalTable firstHolding overlapAny totalBytes countOf
+unfolding after refuseOr effect refusalTable firstHolding overlapAny lowestFree windowsIn totalBytes countOf
 drawn-so = refl
-
--- client 1 replayed alone: its window as above, the others' as at the start
-alone-so : replayedAlone toy setup 128 1 (openings ++ batches) memory ≡ eight 100 ++ eight 1 ++ eight 104 ++ eight 3 ++ eight 4
-unfolding after executed refuseOr effect refusalTable firstHolding overlapAny totalBytes countOf batchesOf drawBatches
-alone-so = refl
 
 -- ---- 10: a lent ring or memory of another length, before all else
 
 abbrev few : List Call
 few =
-    submit 0 (1 ∷ []) ∷ run ∷ opens (window 8 8) ∷ submit 0 (replicate 4 7) ∷ run ∷ pending 0 ∷ pending 1 ∷
-    begin 0 4 ∷ piece 0 (1 ∷ 2 ∷ []) ∷ cancel 0 ∷ []
+    submit 0 (1 ∷ []) ∷ run ∷ begin 0 4 ∷ piece 0 [] ∷ cancel 0 ∷ close 0 ∷
+    opens (window 8 8) ∷ submit 0 (replicate 4 7) ∷ run ∷ pending 0 ∷ pending 1 ∷
+    begin 0 4 ∷ piece 0 [] ∷ cancel 0 ∷ close 0 ∷ []
 
-ring-so : answers toy setup 127 few (initialModel memory) ≡ refused 10 ∷ refused 10 ∷ opened 0 ∷ refused 10 ∷ refused 10 ∷ ready 0 ∷ refused 5 ∷ refused 10 ∷ refused 10 ∷ refused 14 ∷ []
-unfolding answers refuseOr effect refusalTable firstHolding overlapAny totalBytes countOf
+ring-so : answers toy setup 127 few (initialModel memory) ≡
+    refused 10 ∷ refused 10 ∷ refused 10 ∷ refused 10 ∷ refused 5 ∷ refused 5 ∷
+    opened 0 ∷ refused 10 ∷ refused 10 ∷ ready 0 ∷ refused 5 ∷
+    refused 10 ∷ refused 10 ∷ refused 14 ∷ done ∷ []
+unfolding answers refuseOr effect refusalTable firstHolding overlapAny lowestFree windowsIn totalBytes countOf
 ring-so = refl
 
-memory-so : answers toy setup 128 few (initialModel (memory ++ (0 ∷ []))) ≡ refused 5 ∷ refused 10 ∷ opened 0 ∷ accepted 0 ∷ refused 10 ∷ ready 1 ∷ refused 5 ∷ done ∷ missing 2 ∷ done ∷ []
-unfolding answers refuseOr effect refusalTable firstHolding overlapAny totalBytes countOf
+memory-so : answers toy setup 128 few (initialModel (memory ++ (0 ∷ []))) ≡
+    refused 5 ∷ refused 10 ∷ refused 5 ∷ refused 5 ∷ refused 5 ∷ refused 10 ∷
+    opened 0 ∷ accepted 0 ∷ refused 10 ∷ ready 1 ∷ refused 5 ∷
+    done ∷ missing 4 ∷ done ∷ refused 10 ∷ []
+unfolding answers refuseOr effect refusalTable firstHolding overlapAny lowestFree windowsIn totalBytes countOf
 memory-so = refl
 
 -- ---- tickets go on from 4,294,967,295 to 0
 
 abbrev late : Model
-late = record { windows = window 8 8 ∷ []; waiting = []; staged = idle; accepted = 4294967295; memory = memory }
+late = record { places = taken (window 8 8) ∷ []; waiting = []; staged = idle; accepted = 4294967295; memory = memory }
 
 wraps-so : answers toy setup 128 (submit 0 (replicate 4 7) ∷ submit 0 (replicate 4 8) ∷ run ∷ run ∷ []) late ≡
     accepted 4294967295 ∷ accepted 0 ∷ completed 0 4294967295 good ∷ completed 0 0 good ∷ []
-unfolding answers refuseOr effect refusalTable firstHolding overlapAny totalBytes countOf
+unfolding answers refuseOr effect refusalTable firstHolding overlapAny lowestFree windowsIn totalBytes countOf
 wraps-so = refl
 
--- ---- 13 and 14: a batch handed over by pieces
+-- ---- 13, 14 and 18: a batch handed over by pieces
 
 abbrev staged : List Call
 staged =
@@ -140,20 +143,20 @@ staged =
     begin 4 0 ∷ begin 0 0 ∷ begin 0 6 ∷ begin 0 132 ∷ piece 0 [] ∷ piece 4 [] ∷ cancel 0 ∷ cancel 4 ∷
     begin 0 8 ∷ begin 1 8 ∷ begin 1 3 ∷ begin 4 8 ∷ submit 1 (replicate 4 7) ∷ submit 0 [] ∷ submit 4 [] ∷
     piece 1 [] ∷ cancel 1 ∷ piece 0 [] ∷ piece 0 (replicate 9 1) ∷ piece 0 (5 ∷ 6 ∷ 7 ∷ []) ∷
-    run ∷ pending 0 ∷
-    piece 0 (replicate 5 8) ∷ piece 0 [] ∷ pending 0 ∷ run ∷ pending 0 ∷ []
+    run ∷ pending 0 ∷ close 0 ∷ close 1 ∷ close 1 ∷
+    piece 0 (replicate 5 8) ∷ piece 0 [] ∷ pending 0 ∷ close 0 ∷ run ∷ close 0 ∷ pending 0 ∷ []
 
 -- 5 before 6; 6 for 0, 6 and 132 bytes; 14 with none open, 5 before it; one is open: 13 for every client, before 6, and 5 before 13; 14 for another
--- client; an empty piece; 14 for a piece that is too long; 9 and no batch ready till the last piece; the
--- last piece, and none open then
+-- client; an empty piece; 14 for a piece that is too long; 9 and no batch ready till the last piece; 18 for its client alone; 5 when closed; the
+-- last piece, and none open then; 18 while it waits
 staged-so : answers toy setup 128 staged (initialModel memory) ≡
     opened 0 ∷ opened 1 ∷
     refused 5 ∷ refused 6 ∷ refused 6 ∷ refused 6 ∷ refused 14 ∷ refused 5 ∷ refused 14 ∷ refused 5 ∷
     done ∷ refused 13 ∷ refused 13 ∷ refused 5 ∷ refused 13 ∷ refused 13 ∷ refused 5 ∷
     refused 14 ∷ refused 14 ∷ missing 8 ∷ refused 14 ∷ missing 5 ∷
-    refused 9 ∷ ready 0 ∷
-    accepted 0 ∷ refused 14 ∷ ready 1 ∷ completed 0 0 good ∷ ready 0 ∷ []
-unfolding answers refuseOr effect refusalTable firstHolding overlapAny totalBytes countOf
+    refused 9 ∷ ready 0 ∷ refused 18 ∷ done ∷ refused 5 ∷
+    accepted 0 ∷ refused 14 ∷ ready 1 ∷ refused 18 ∷ completed 0 0 good ∷ done ∷ refused 5 ∷ []
+unfolding answers refuseOr effect refusalTable firstHolding overlapAny lowestFree windowsIn totalBytes countOf
 staged-so = refl
 
 -- while it is open it holds a slot and its whole length, beside what waits
@@ -161,27 +164,46 @@ abbrev holding : Model
 holding = modelAfterAll toy setup 128 (opens (window 8 8) ∷ submit 0 (replicate 4 7) ∷ begin 0 8 ∷ piece 0 (5 ∷ []) ∷ []) memory
 
 held-so : (takenSlots holding ≡ 2) × (freeBytes setup holding ≡ 116)
-unfolding after refuseOr effect refusalTable firstHolding overlapAny totalBytes countOf
+unfolding after refuseOr effect refusalTable firstHolding overlapAny lowestFree windowsIn totalBytes countOf
 held-so = (refl, refl)
 
 -- cancelling frees what was held: the whole ring is there again
 cancelled-so : answers toy setup 128 (opens (window 8 8) ∷ begin 0 128 ∷ piece 0 (1 ∷ []) ∷ cancel 0 ∷ submit 0 (replicate 128 7) ∷ begin 0 4 ∷ run ∷ []) (initialModel memory) ≡
     opened 0 ∷ done ∷ missing 127 ∷ done ∷ accepted 0 ∷ refused 8 ∷ completed 0 0 good ∷ []
-unfolding answers refuseOr effect refusalTable firstHolding overlapAny totalBytes countOf
+unfolding answers refuseOr effect refusalTable firstHolding overlapAny lowestFree windowsIn totalBytes countOf
 cancelled-so = refl
 
--- ---- two runs: other batches of client 0's, a refused one too, and another byte in the window that it opens
+-- ---- clients come and go
 
-abbrev few′ : List Call
-few′ =
-    submit 0 (2 ∷ []) ∷ run ∷ opens (window 8 8) ∷ submit 0 (replicate 4 0) ∷ run ∷ pending 0 ∷ pending 1 ∷
-    begin 0 4 ∷ piece 0 (3 ∷ 4 ∷ []) ∷ cancel 0 ∷ []
+-- client 0 draws in its first byte, 8, and is closed; the next one takes its id and half of its bytes, and some that nobody had
+abbrev earlier : List Call
+earlier = opens (window 8 8) ∷ opens (window 32 8) ∷ submit 0 (replicate 4 7) ∷ run ∷ close 0 ∷ []
+
+abbrev later : List Call
+later = submit 0 (replicate 4 3) ∷ begin 0 4 ∷ piece 0 (9 ∷ 0 ∷ []) ∷ run ∷ piece 0 (0 ∷ 0 ∷ []) ∷ opens (window 24 8) ∷ run ∷ []
+
+tenancies-so : answers toy setup 128 (earlier ++ opens (window 12 10) ∷ later) (initialModel memory) ≡
+    opened 0 ∷ opened 1 ∷ accepted 0 ∷ completed 0 0 good ∷ done ∷
+    opened 0 ∷ accepted 1 ∷ done ∷ missing 2 ∷ completed 0 1 good ∷ accepted 2 ∷ opened 2 ∷ completed 0 2 good ∷ []
+unfolding answers refuseOr effect refusalTable firstHolding overlapAny lowestFree windowsIn totalBytes countOf
+tenancies-so = refl
+
+-- its window begins with what it drew on a zero: 3 and 100, then 9 and 100; before it zeros, and from byte 16 on the starting bytes
+tenancies-drawn : modelAfterAll toy setup 128 (earlier ++ opens (window 12 10) ∷ later) memory .memory ≡
+    eight 100 ++ replicate 4 0 ++ (212 ∷ replicate 3 0) ++ eight 2 ++ eight 3 ++ eight 4
+unfolding after refuseOr effect refusalTable firstHolding overlapAny lowestFree windowsIn totalBytes countOf
+tenancies-drawn = refl
+
+-- ---- two runs: other batches and pieces of the second tenancy's, a refused one too, and another byte 16, which no earlier one owned
+
+abbrev later′ : List Call
+later′ = submit 0 (replicate 4 0) ∷ begin 0 4 ∷ piece 0 (1 ∷ 2 ∷ []) ∷ run ∷ piece 0 (3 ∷ 4 ∷ []) ∷ opens (window 24 8) ∷ run ∷ []
 
 abbrev memory′ : List ℕ
-memory′ = eight 100 ++ eight 50 ++ eight 2 ++ eight 3 ++ eight 4
+memory′ = eight 100 ++ eight 1 ++ eight 50 ++ eight 3 ++ eight 4
 
-other-bytes : (i : ℕ) → ¬ (Owns (modelAfterAll toy setup 128 few memory) 0 i) → byte memory i ≡ byte memory′ i
-unfolding after refuseOr effect refusalTable firstHolding overlapAny totalBytes countOf
+other-bytes : (i : ℕ) → ¬ (In (window 12 10) i × (containsAny (closed toy setup 128 earlier (initialModel memory)) i ≡ false)) → byte memory i ≡ byte memory′ i
+unfolding closed containsAny refuseOr effect refusalTable firstHolding overlapAny lowestFree windowsIn totalBytes countOf
 other-bytes zero n = refl
 other-bytes (suc zero) n = refl
 other-bytes (suc (suc zero)) n = refl
@@ -190,52 +212,129 @@ other-bytes (suc (suc (suc (suc zero)))) n = refl
 other-bytes (suc (suc (suc (suc (suc zero))))) n = refl
 other-bytes (suc (suc (suc (suc (suc (suc zero)))))) n = refl
 other-bytes (suc (suc (suc (suc (suc (suc (suc zero))))))) n = refl
-other-bytes (suc (suc (suc (suc (suc (suc (suc (suc zero)))))))) n = absurd (n (refl, (omega arith, omega arith)))
-other-bytes (suc (suc (suc (suc (suc (suc (suc (suc (suc i))))))))) n = refl
+other-bytes (suc (suc (suc (suc (suc (suc (suc (suc zero)))))))) n = refl
+other-bytes (suc (suc (suc (suc (suc (suc (suc (suc (suc zero))))))))) n = refl
+other-bytes (suc (suc (suc (suc (suc (suc (suc (suc (suc (suc zero)))))))))) n = refl
+other-bytes (suc (suc (suc (suc (suc (suc (suc (suc (suc (suc (suc zero))))))))))) n = refl
+other-bytes (suc (suc (suc (suc (suc (suc (suc (suc (suc (suc (suc (suc zero)))))))))))) n = refl
+other-bytes (suc (suc (suc (suc (suc (suc (suc (suc (suc (suc (suc (suc (suc zero))))))))))))) n = refl
+other-bytes (suc (suc (suc (suc (suc (suc (suc (suc (suc (suc (suc (suc (suc (suc zero)))))))))))))) n = refl
+other-bytes (suc (suc (suc (suc (suc (suc (suc (suc (suc (suc (suc (suc (suc (suc (suc zero))))))))))))))) n = refl
+other-bytes (suc (suc (suc (suc (suc (suc (suc (suc (suc (suc (suc (suc (suc (suc (suc (suc zero)))))))))))))))) n = absurd (n ((omega arith, omega arith), refl))
+other-bytes (suc (suc (suc (suc (suc (suc (suc (suc (suc (suc (suc (suc (suc (suc (suc (suc (suc i))))))))))))))))) n = refl
 
-twins : LowEquivalent toy setup 128 0 few few′ memory memory′
+twins : LowEquivalent toy setup 128 0 earlier (window 12 10) later later′ memory memory′
+unfolding after refuseOr effect refusalTable firstHolding overlapAny lowestFree windowsIn totalBytes countOf
 twins = record {
+  tenancy = record { admitted = refl; lasts = (refl, (refl, (refl, (refl, (refl, (refl, (refl, refl))))))) };
   listed =
-      more (rewritten (1 ∷ []) (2 ∷ []) refl) (more (same _) (more (same _) (more (rewritten (replicate 4 7) (replicate 4 0) refl) (more (same _) (more (same _) (more (same _) (more (same _) (more (repieced (1 ∷ 2 ∷ []) (3 ∷ 4 ∷ []) refl) (more (same _) none)))))))));
+      more (rewritten (replicate 4 3) (replicate 4 0) refl) (more (same _) (more (repieced (9 ∷ 0 ∷ []) (1 ∷ 2 ∷ []) refl) (more (same _) (more (repieced (0 ∷ 0 ∷ []) (3 ∷ 4 ∷ []) refl) (more (same _) (more (same _) none))))));
   size = refl;
   bytes = other-bytes;
 }
 
-unmoved-so : Noninterference toy setup 128 0 few few′ memory memory′
-unmoved-so = claims toy setup 128 .unmoved toy-confined 0 few few′ memory memory′ twins
+unmoved-so : Noninterference toy setup 128 0 earlier (window 12 10) later later′ memory memory′
+unmoved-so = claims toy setup 128 .noninterference toy-confined 0 earlier (window 12 10) later later′ memory memory′ twins
 
--- ---- order: two clients' batches in two orders, and past an opening
+-- ---- order: two clients hand in and are run in two orders, by pieces in one; then the second one goes and a third comes
+
+abbrev stays : List Call
+stays = close 1 ∷ opens (window 20 8) ∷ submit 1 (replicate 4 6) ∷ run ∷ []
 
 abbrev early : List Call
-early = opens (window 8 8) ∷ submit 0 (replicate 4 7) ∷ run ∷ opens (window 16 8) ∷ submit 0 (replicate 4 0) ∷ submit 1 (5 ∷ 6 ∷ 7 ∷ 8 ∷ []) ∷ run ∷ pending 0 ∷ run ∷ []
+early = opens (window 8 8) ∷ opens (window 16 8) ∷ submit 0 (replicate 4 7) ∷ submit 1 (5 ∷ 6 ∷ 7 ∷ 8 ∷ []) ∷ submit 0 (replicate 4 0) ∷ run ∷ pending 0 ∷ run ∷ run ∷ stays
 
-abbrev turned : List Call
-turned = opens (window 8 8) ∷ opens (window 16 8) ∷ submit 1 (5 ∷ 6 ∷ 7 ∷ 8 ∷ []) ∷ submit 0 (replicate 4 7) ∷ run ∷ submit 0 (replicate 4 0) ∷ run ∷ run ∷ run ∷ []
+abbrev mixed : List Call
+mixed =
+    opens (window 8 8) ∷ opens (window 16 8) ∷ begin 1 4 ∷ piece 1 (5 ∷ 6 ∷ []) ∷ submit 0 (replicate 4 7) ∷ piece 1 (7 ∷ 8 ∷ []) ∷ run ∷
+    submit 0 (replicate 4 7) ∷ run ∷ submit 0 (replicate 4 0) ∷ run ∷ stays
 
--- tickets differ
+-- tickets differ, and a submit that is refused stands in one of them only
 early-so : answers toy setup 128 early (initialModel memory) ≡
-    opened 0 ∷ accepted 0 ∷ completed 0 0 good ∷ opened 1 ∷ accepted 1 ∷ accepted 2 ∷ completed 0 1 bad ∷ ready 0 ∷ completed 1 2 good ∷ []
-unfolding answers refuseOr effect refusalTable firstHolding overlapAny totalBytes countOf
+    opened 0 ∷ opened 1 ∷ accepted 0 ∷ accepted 1 ∷ accepted 2 ∷ completed 0 0 good ∷ ready 1 ∷ completed 1 1 good ∷ completed 0 2 bad ∷
+    done ∷ opened 1 ∷ accepted 3 ∷ completed 1 3 good ∷ []
+unfolding answers refuseOr effect refusalTable firstHolding overlapAny lowestFree windowsIn totalBytes countOf
 early-so = refl
 
-turned-so : answers toy setup 128 turned (initialModel memory) ≡
-    opened 0 ∷ opened 1 ∷ accepted 0 ∷ accepted 1 ∷ completed 1 0 good ∷ accepted 2 ∷ completed 0 1 good ∷ completed 0 2 bad ∷ refused 9 ∷ []
-unfolding answers refuseOr effect refusalTable firstHolding overlapAny totalBytes countOf
-turned-so = refl
+mixed-so : answers toy setup 128 mixed (initialModel memory) ≡
+    opened 0 ∷ opened 1 ∷ done ∷ missing 2 ∷ refused 13 ∷ accepted 0 ∷ completed 1 0 good ∷ accepted 1 ∷ completed 0 1 good ∷ accepted 2 ∷ completed 0 2 bad ∷
+    done ∷ opened 1 ∷ accepted 3 ∷ completed 1 3 good ∷ []
+unfolding answers refuseOr effect refusalTable firstHolding overlapAny lowestFree windowsIn totalBytes countOf
+mixed-so = refl
 
-kept-so : SameSequences (submitted toy setup 128 early (initialModel memory)) (submitted toy setup 128 turned (initialModel memory))
-unfolding submitted batchesOf refuseOr effect refusalTable firstHolding overlapAny totalBytes countOf
+early-run : AllRun toy setup 128 early (initialModel memory)
+unfolding changes refuseOr effect refusalTable firstHolding overlapAny lowestFree windowsIn totalBytes countOf
+early-run = (inr refl, (inr refl, (inl refl, (inl refl, (inl refl, (inl refl, (inl refl, (inl refl, (inl refl, (inr refl, (inr refl, (inl refl, (inl refl, refl)))))))))))))
+
+mixed-run : AllRun toy setup 128 mixed (initialModel memory)
+unfolding changes refuseOr effect refusalTable firstHolding overlapAny lowestFree windowsIn totalBytes countOf
+mixed-run = (inr refl, (inr refl, (inl refl, (inl refl, (inl refl, (inl refl, (inl refl, (inl refl, (inl refl, (inl refl, (inl refl, (inr refl, (inr refl, (inl refl, (inl refl, refl)))))))))))))))
+
+-- batches as they are accepted, between openings and closings
+abbrev order : List Event → List Event
+order batches = opening (window 8 8) ∷ opening (window 16 8) ∷ batches ++ (closing 1 ∷ opening (window 20 8) ∷ job 1 (replicate 4 6) ∷ [])
+
+abbrev inOrder : List Event
+inOrder = order (job 0 (replicate 4 7) ∷ job 1 (5 ∷ 6 ∷ 7 ∷ 8 ∷ []) ∷ job 0 (replicate 4 0) ∷ [])
+
+abbrev inAnother : List Event
+inAnother = order (job 1 (5 ∷ 6 ∷ 7 ∷ 8 ∷ []) ∷ job 0 (replicate 4 7) ∷ job 0 (replicate 4 0) ∷ [])
+
+early-order : submissions toy setup 128 early (initialModel memory) ≡ inOrder
+unfolding submissions changes jobs refuseOr effect refusalTable firstHolding overlapAny lowestFree windowsIn totalBytes countOf
+early-order = refl
+
+mixed-order : submissions toy setup 128 mixed (initialModel memory) ≡ inAnother
+unfolding submissions changes jobs refuseOr effect refusalTable firstHolding overlapAny lowestFree windowsIn totalBytes countOf
+mixed-order = refl
+
+kept-so : Reordered inOrder inAnother
+unfolding seenBy
 kept-so zero = refl
 kept-so (suc zero) = refl
 kept-so (suc (suc client)) = rw (ne-eqb 0 (suc (suc client)) (λ e. omega arith), ne-eqb 1 (suc (suc client)) (λ e. omega arith))
 
-same-so : SameOutcome toy setup 128 early turned (initialModel memory) (initialModel memory)
-unfolding after refuseOr effect refusalTable firstHolding overlapAny totalBytes countOf
-same-so = claims toy setup 128 .any-submissions toy-confined early turned memory refl refl refl kept-so
+same-so : SameOutcome toy setup 128 early mixed (initialModel memory) (initialModel memory)
+same-so = claims toy setup 128 .any-submissions toy-confined early mixed memory early-run mixed-run (rw (early-order, mixed-order) kept-so)
 
-early-drawn : modelAfterAll toy setup 128 early memory .memory ≡ eight 100 ++ eight 108 ++ eight 107 ++ eight 3 ++ eight 4
-unfolding after refuseOr effect refusalTable firstHolding overlapAny totalBytes countOf
+early-drawn : modelAfterAll toy setup 128 early memory .memory ≡ eight 100 ++ eight 108 ++ replicate 4 0 ++ (106 ∷ replicate 3 0) ++ eight 3 ++ eight 4
+unfolding after refuseOr effect refusalTable firstHolding overlapAny lowestFree windowsIn totalBytes countOf
 early-drawn = refl
+
+-- no batch moves past a closing: with the same openings and closings, and the same batch, memory would be another
+moved-so : (modelAfterAll toy setup 128 (opens (window 8 8) ∷ submit 0 (replicate 4 7) ∷ run ∷ close 0 ∷ opens (window 8 8) ∷ []) memory .memory ≡ eight 100 ++ eight 0 ++ eight 2 ++ eight 3 ++ eight 4)
+    × (modelAfterAll toy setup 128 (opens (window 8 8) ∷ close 0 ∷ opens (window 8 8) ∷ submit 0 (replicate 4 7) ∷ run ∷ []) memory .memory ≡ eight 100 ++ eight 107 ++ eight 2 ++ eight 3 ++ eight 4)
+unfolding after refuseOr effect refusalTable firstHolding overlapAny lowestFree windowsIn totalBytes countOf
+moved-so = (refl, refl)
+
+-- the queue by hand: the first two change places, then the first goes last but for its client's other one
+abbrev queued : List Call
+queued = opens (window 8 8) ∷ opens (window 16 8) ∷ submit 0 (replicate 4 7) ∷ submit 1 (replicate 4 5) ∷ submit 1 (replicate 4 6) ∷ submit 0 (replicate 4 0) ∷ []
+
+abbrev ahead : Batch
+ahead = batch 0 0 (replicate 4 7)
+
+abbrev behind : Batch
+behind = batch 1 1 (replicate 4 5)
+
+abbrev others : List Batch
+others = batch 1 2 (replicate 4 6) ∷ batch 0 3 (replicate 4 0) ∷ []
+
+exchanged-so : Exchanged toy setup 128 ahead behind good good others (modelAfterAll toy setup 128 queued memory)
+unfolding answers after refuseOr effect refusalTable firstHolding overlapAny lowestFree windowsIn totalBytes countOf
+exchanged-so = claims toy setup 128 .exchange toy-confined queued memory ahead behind good good others refl (λ e. omega arith) refl
+
+abbrev byHand : List Batch
+byHand = behind ∷ batch 1 2 (replicate 4 6) ∷ ahead ∷ batch 0 3 (replicate 4 0) ∷ []
+
+own-kept : (client : ℕ) → batchesOf client byHand ≡ batchesOf client (modelAfterAll toy setup 128 queued memory .waiting)
+unfolding batchesOf after refuseOr effect refusalTable firstHolding overlapAny lowestFree windowsIn totalBytes countOf
+own-kept zero = refl
+own-kept (suc zero) = refl
+own-kept (suc (suc client)) = rw (ne-eqb 0 (suc (suc client)) (λ e. omega arith), ne-eqb 1 (suc (suc client)) (λ e. omega arith))
+
+by-hand-so : ByHand toy setup 128 (modelAfterAll toy setup 128 queued memory) byHand
+by-hand-so = claims toy setup 128 .by-hand toy-confined queued memory byHand own-kept
 
 -- ---- and each premise is needed. Another way: the window's first byte is the last batch's first
 
@@ -257,10 +356,10 @@ stamped x = eight 100 ++ eight x ++ eight 2 ++ eight 3 ++ eight 4
 
 -- a client's own batches change places, or are as many and as long but of other bytes: another memory
 own-so : (modelAfterAll stamp setup 128 (twice 7 9 (run ∷ run ∷ [])) memory .memory ≡ stamped 9) × (modelAfterAll stamp setup 128 (twice 9 7 (run ∷ run ∷ [])) memory .memory ≡ stamped 7)
-unfolding after refuseOr effect refusalTable firstHolding overlapAny totalBytes countOf
+unfolding after refuseOr effect refusalTable firstHolding overlapAny lowestFree windowsIn totalBytes countOf
 own-so = (refl, refl)
 
 -- the same batches, but one is left waiting: another memory
 left-so : modelAfterAll stamp setup 128 (twice 7 9 (run ∷ [])) memory .memory ≡ stamped 7
-unfolding after refuseOr effect refusalTable firstHolding overlapAny totalBytes countOf
+unfolding after refuseOr effect refusalTable firstHolding overlapAny lowestFree windowsIn totalBytes countOf
 left-so = refl

@@ -63,8 +63,8 @@ module _ (way : BatchSemantics) (setup : Setup) (ring : ℕ) where
           tickets = rw (← append-assoc log (model .waiting) (b ∷ [])) (numbered-snoc 0 old b (K .tickets) (ap (λ (n : ℕ). n % 4294967296) (let z : model .accepted ≡ 0 + length old = omega (arith, K .all) in z)));
           fits = f (K .fits);
         });
-    opening = λ w _. rw append-nil (record { all = K .all; tickets = K .tickets; fits = record { slots = K .fits .slots; room = K .fits .room } });
-    running = λ b bs e _.
+    opening = λ w _ _. rw append-nil (record { all = K .all; tickets = K .tickets; fits = record { slots = K .fits .slots; room = K .fits .room } });
+    running = λ b bs _ e _.
         let s = rw e at (K .fits .slots) in
         let r = rw e at (K .fits .room) in
         record {
@@ -72,6 +72,7 @@ module _ (way : BatchSemantics) (setup : Setup) (ring : ℕ) where
           tickets = rw (append-assoc log (b ∷ []) bs) (rw e at (K .tickets));
           fits = record { slots = omega arith; room = omega arith };
         };
+    closing = λ d _ _. rw append-nil (record { all = K .all; tickets = K .tickets; fits = record { slots = K .fits .slots; room = K .fits .room } });
   })
 
   all-kept : (cs : List Call) (log : List Batch) (model : Model) → Kept log model → Kept (log ++ executed way setup ring cs model) (after way setup ring cs model)
@@ -104,8 +105,9 @@ module _ (way : BatchSemantics) (setup : Setup) (ring : ℕ) where
       step-cases way setup ring model (λ s. First model (s .executed) (s .after)) c (record {
         staging = λ a g _ _ _. ([], unmoved);
         entering = λ k x _ _ _. (_, refl);
-        opening = λ w _. ([], unmoved);
-        running = λ b bs e _. ([], sym e ∙ unmoved);
+        opening = λ w _ _. ([], unmoved);
+        running = λ b bs _ e _. ([], sym e ∙ unmoved);
+        closing = λ d _ _. ([], unmoved);
       })
 
   all-first : (cs : List Call) (model : Model) → First model (executed way setup ring cs model) (after way setup ring cs model)
@@ -131,10 +133,11 @@ module _ (way : BatchSemantics) (setup : Setup) (ring : ℕ) where
   step-one : (c : Call) (model : Model) → One (step way setup ring c model)
   unfolding completions
   step-one c model = step-cases way setup ring model One c (record {
-    staging = λ a g p _ _ rest. rw (plain-rest a rest p) (omega arith);
+    staging = λ a g p _ _ rest. rw (plain-rest a rest (p .0)) (omega arith);
     entering = λ k x _ _ _ rest. omega arith;
-    opening = λ w _ rest. omega arith;
-    running = λ b bs e _ rest. omega arith;
+    opening = λ w _ _ rest. omega arith;
+    running = λ b bs _ e _ rest. omega arith;
+    closing = λ d _ _ rest. omega arith;
   })
 
   one-each : (cs : List Call) (model : Model) → completions (answers way setup ring cs model) ≡ length (executed way setup ring cs model)
@@ -153,10 +156,11 @@ module _ (way : BatchSemantics) (setup : Setup) (ring : ℕ) where
 
   entered : (c : Call) (model : Model) (t : ℕ) → Entered c model t (step way setup ring c model)
   entered c model t = step-cases way setup ring model (Entered c model t) c (record {
-    staging = λ a g p _ _ e. absurd (plain-never a t p e);
+    staging = λ a g p _ _ e. absurd (plain-never a t (p .0) e);
     entering = λ k x o _ _ e. (_, o, cc, refl);
-    opening = λ w _ e. let z : _≡_ {A = ℕ} 0 1 = cc in absurd (omega arith);
-    running = λ b bs _ _ e. let z : _≡_ {A = ℕ} 0 1 = cc in absurd (omega arith);
+    opening = λ w _ _ e. let z : _≡_ {A = ℕ} 0 1 = cc in absurd (omega arith);
+    running = λ b bs _ _ _ e. let z : _≡_ {A = ℕ} 0 1 = cc in absurd (omega arith);
+    closing = λ d _ _ e. let z : _≡_ {A = ℕ} 0 1 = cc in absurd (omega arith);
   })
 
   pub in-time : (before later : List Call) (memory : List ℕ) → BoundedWaiting way setup ring before memory later

@@ -9,8 +9,8 @@ use lib.ListN.{length}
 use lib.Dec.{ltb, eqb}
 use borrow.Author.Tests.{ltb-false, leb-false, eqb-true, eqb-false, not-false}
 use Rattle.model.specs.Windows.{Window, window, overlap, overlapAny}
-use Rattle.model.specs.Calls.{Setup, opens, submit, run, Call, pending, begin, piece, cancel, refused}
-use Rattle.model.specs.State.{Model, Staging, idle, staging, isOpen, openWindows, isIdle, stagedBy, missingBytes, takenSlots, takenBytes, Batch}
+use Rattle.model.specs.Calls.{Setup, opens, submit, run, Call, pending, begin, piece, cancel, close, refused}
+use Rattle.model.specs.State.{Model, Staging, idle, staging, isOpen, openWindows, isIdle, stagedBy, missingBytes, takenSlots, takenBytes, countOf, Batch}
 use Rattle.model.specs.Refusals.{RefusalRow, _when_, badLength, batchRows, refusalTable, firstHolding, refusal}
 use Rattle.model.specs.Model.{Step, refuse, refuseOr, runStep, pieceStep, effect}
 use Rattle.model.specs.BatchSemantics.{BatchSemantics}
@@ -51,6 +51,7 @@ clear ((n when true) ∷ rows) e = λ p. absurd (omega arith)
 clear ((n when false) ∷ rows) e = λ p. (refl, clear rows e)
 
 pub record OpenAllowed (setup : Setup) (model : Model) (w : Window) : Type 0 where
+  pub few : length (openWindows model) < 4
   pub filled : 0 < w .length
   pub fits : w .start + w .length ≤ setup .memory
   pub past : setup .common ≤ w .start
@@ -68,6 +69,7 @@ open-allowed setup ring model w e =
     let z = neither empty ends (y .0) in
     let n : ¬ (w .length ≡ 0) = eqb-false _ _ (z .0) in
     record {
+      few = leb-false _ _ (three .0);
       filled = omega arith;
       fits = ltb-false _ _ (z .1);
       past = ⊎-elim (λ (l : w .start < setup .common). absurd (apart-of w (window 0 (setup .common)) (w .start) (y .1) (omega arith) (omega arith)))
@@ -126,6 +128,21 @@ piece-allowed setup ring model client bytes e =
     let x = neither (not own) (ltb (missingBytes (model .staged)) (length bytes)) (five .1 (omega arith) .0) in
     record { client-open = not-false _ (five .0); own = not-false own (x .0); fits = ltb-false _ _ (x .1) }
 
+pub record CloseAllowed (setup : Setup) (model : Model) (client : ℕ) : Type 0 where
+  pub size : length (model .memory) ≡ setup .memory
+  pub client-open : isOpen model client ≡ true
+  pub none-waiting : countOf client (model .waiting) ≡ 0
+  pub none-staged : stagedBy (model .staged) client ≡ false
+
+pub close-allowed : (setup : Setup) (ring : ℕ) (model : Model) (client : ℕ) → refusal setup ring model (close client) ≡ 0 → CloseAllowed setup model client
+unfolding refusalTable
+close-allowed setup ring model client e =
+    let ten = clear (refusalTable setup ring model (close client)) e (omega arith) in
+    let five = ten .1 (omega arith) in
+    let x = neither (ltb 0 (countOf client (model .waiting))) (stagedBy (model .staged) client) (five .1 (omega arith) .0) in
+    let none : countOf client (model .waiting) ≤ 0 = ltb-false _ _ (x .0) in
+    record { size = eqb-true _ _ (not-false _ (ten .0)); client-open = not-false _ (five .0); none-waiting = omega arith; none-staged = x .1 }
+
 -- ---- a refused call
 
 module _ (way : BatchSemantics) (setup : Setup) (ring : ℕ) where
@@ -148,12 +165,13 @@ module _ (way : BatchSemantics) (setup : Setup) (ring : ℕ) where
   numbers (begin k n) model = (refl, (refl, (refl, (refl, (refl, (refl, tt))))))
   numbers (piece k x) model = (refl, (refl, (refl, tt)))
   numbers (cancel k) model = (refl, (refl, tt))
+  numbers (close k) model = (refl, (refl, (refl, tt)))
 
   abbrev Hushed : Model → Step → Type 0
   Hushed model s = (n : ℕ) → s .answer ≡ refused n → Quiet n model s
 
   refuse-quiet : (model : Model) (n : ℕ) → refuses n ≡ true → Hushed model (refuse n model)
-  refuse-quiet model n e k f = let q : n ≡ k = cc in record { kept = refl; executed = refl; listed = rw (← q) e }
+  refuse-quiet model n e k f = let q : n ≡ k = cc in record { kept = refl; executed = refl; closed = refl; listed = rw (← q) e }
 
   piece-quiet : (model : Model) (s : Staging) (x : List ℕ) → Hushed model (pieceStep model s x)
   piece-quiet model idle x = refuse-quiet model 14 refl
@@ -174,6 +192,7 @@ module _ (way : BatchSemantics) (setup : Setup) (ring : ℕ) where
   quiet-effect (begin k m) model n e = let z : _≡_ {A = ℕ} 0 1 = cc in absurd (omega arith)
   quiet-effect (piece k x) model n e = piece-quiet model (model .staged) x n e
   quiet-effect (cancel k) model n e = let z : _≡_ {A = ℕ} 0 1 = cc in absurd (omega arith)
+  quiet-effect (close k) model n e = let z : _≡_ {A = ℕ} 0 1 = cc in absurd (omega arith)
 
   quiet : (n : ℕ) (model : Model) (s : Step) → ((k : ℕ) → n ≡ suc k → refuses (suc k) ≡ true) → Hushed model s → Hushed model (refuseOr n model s)
   unfolding refuseOr

@@ -1,276 +1,272 @@
--- Two runs that differ only in one client's batches and in what its window holds at the start.
+-- Two runs that differ in one tenancy: before its opening, while it lasts, and from its closing on.
 use mathlib.Core.Path.{_≡_, refl, sym, ap, ap₂, _∙_}
 use mathlib.Core.List.{List, [], _∷_, _++_}
-use mathlib.Core.Bool.{Bool, true, false, cond}
-use mathlib.Core.Logic.{⊎-elim}
-use Prim.Native.Nat.{ℕ, suc, _-_, _%_, _<_}
+use mathlib.Core.Bool.{true, false, true≢false}
+use mathlib.Core.Logic.{_⊎_, ⊎-elim, inl, inr}
+use Prim.Native.Nat.{ℕ, _≤_}
 use native.Mathlib.Omega.{arith}
-use lib.ListN.{length, length-append}
-use lib.Dec.{eqb}
-use borrow.Author.Tests.{eqb-true}
-use Rattle.model.specs.Windows.{Window, In, byte}
-use Rattle.model.specs.Calls.{Setup, Call, opens, submit, run, pending, begin, piece, cancel, CompletionStatus, Answer, completed, done}
-use Rattle.model.specs.BatchSemantics.{BatchSemantics, WindowInMemory, Confined}
-use Rattle.model.specs.State.{Batch, Staging, idle, staging, Model, initialModel, isOpen, windowOf, Owns, isIdle, stagedBy, missingBytes, stagedSlots, stagedBytes, totalBytes, countOf}
+use lib.ListN.{set}
+use lib.Seq.{ext-getD}
+use borrow.Author.Tests.{eq-eqb}
+use Rattle.model.specs.Windows.{Window, In, containsAny, zeroed}
+use Rattle.model.specs.Calls.{Setup, Call, opens, close, Answer, done}
+use Rattle.model.specs.BatchSemantics.{BatchSemantics, Confined}
+use Rattle.model.specs.State.{Batch, batch, Place, free, taken, Staging, staging, Model, initialModel, placeOf, isOpen, isTaken, windowOf, Owns, stagedBy, countOf}
 use Rattle.model.specs.Refusals.{refusalTable, refusal}
-use Rattle.model.specs.Model.{Step, plain, refuse, withStaged, enqueue, runStep, pieceStep, effect, step, answers, after}
+use Rattle.model.specs.Model.{Step, closeStep, effect, step, answers, memories, after, closed, modelAfterAll}
+use Rattle.model.specs.Tenancy.{OpenThroughout, entered}
 use Rattle.model.specs.Noninterference.{Pointwise, none, more, LowEqualCall, same, rewritten, repieced, LowEqualAnswer, equal, verdicts, LowEquivalent}
 use Rattle.model.specs.Properties.{Noninterference}
-use Rattle.model.proofs.Tests.{by-eq, by-in}
-use Rattle.model.proofs.Refusals.{unless-both, run-allowed, piece-allowed}
-use Rattle.model.proofs.Sound.{Named, Sound, fresh-sound, within, step-sound, after-sound, after-stays}
+use Rattle.model.proofs.Tests.{by-eq, neither, contains-in, contains-append, apart-of}
+use Rattle.model.proofs.Refusals.{unless-both, OpenAllowed, CloseAllowed, close-allowed}
+use Rattle.model.proofs.Clients.{open-apart, next-in, stays-owned, kept-place}
+use Rattle.model.proofs.Cases.{step-cases}
+use Rattle.model.proofs.Sound.{Sound, fresh-sound, fitted, step-sound, after-sound, step-keeps, none-own}
+use Rattle.model.proofs.Tenancies.{admission, open-now, throughout-place, entered-sound, entered-place}
+use Rattle.model.proofs.Related.{each-append, SameBatch, SameStaging, both-idle, both-staging, View, Rel, Hidden, Both, zeroed-sized, zeroed-same, open-both, submit-both, piece-both, same-both, Runs, runs, same-count, same-shape}
 
-each-snoc : {A : Type 0} (R : A → A → Type 0) (xs ys : List A) (x y : A) → Pointwise R xs ys → R x y → Pointwise R (xs ++ (x ∷ [])) (ys ++ (y ∷ []))
-each-snoc R _ _ x y none r = more r none
-each-snoc R _ _ x y (more {xs = xs} {ys = ys} q qs) r = more q (each-snoc R xs ys x y qs r)
+-- ---- lists in two parts
 
-cond-both : (Q : Step → Step → Type 0) (t t′ : Bool) (a a′ b b′ : Step) → t ≡ t′ → Q a a′ → Q b b′ → Q (cond t a b) (cond t′ a′ b′)
-cond-both Q t t′ a a′ b b′ e f g = rw (← e) (go t)
-  where
-    go : (t : Bool) → Q (cond t a b) (cond t a′ b′)
-    go true = f
-    go false = g
+module _ (way : BatchSemantics) (setup : Setup) (ring : ℕ) where
+  answers-append : (xs ys : List Call) (model : Model) → answers way setup ring (xs ++ ys) model ≡ answers way setup ring xs model ++ answers way setup ring ys (after way setup ring xs model)
+  unfolding answers after
+  answers-append [] ys model = refl
+  answers-append (x ∷ xs) ys model = ap (λ (l : List Answer). step way setup ring x model .answer ∷ l) (answers-append xs ys (step way setup ring x model .after))
 
--- d: the client that differs
+  memories-append : (xs ys : List Call) (model : Model) → memories way setup ring (xs ++ ys) model ≡ memories way setup ring xs model ++ memories way setup ring ys (after way setup ring xs model)
+  unfolding memories after
+  memories-append [] ys model = refl
+  memories-append (x ∷ xs) ys model = ap (λ (l : List (List ℕ)). step way setup ring x model .after .memory ∷ l) (memories-append xs ys (step way setup ring x model .after))
+
+each-equal : {A : Type 0} {xs ys : List A} → Pointwise (λ (x y : A). x ≡ y) xs ys → xs ≡ ys
+each-equal none = refl
+each-equal (more q qs) = ap₂ (λ x xs. x ∷ xs) q (each-equal qs)
+
+each-refl : {A : Type 0} (xs : List A) → Pointwise (λ (x y : A). x ≡ y) xs xs
+each-refl [] = none
+each-refl (x ∷ xs) = more refl (each-refl xs)
+
+each-map : {A : Type 0} {R Q : A → A → Type 0} → ((x y : A) → R x y → Q x y) → {xs ys : List A} → Pointwise R xs ys → Pointwise Q xs ys
+each-map f none = none
+each-map f (more {x = x} {y = y} q qs) = more (f x y q) (each-map f qs)
+
+-- ---- a byte that is owned is still owned after some calls, or lies in a window that they closed
+
+module _ (way : BatchSemantics) (setup : Setup) (ring : ℕ) where
+  owned-next : (c : Call) (model : Model) → Sound setup model → (k i : ℕ) → Owns model k i →
+      Owns (step way setup ring c model .after) k i ⊎ (containsAny (step way setup ring c model .closed) i ≡ true)
+  unfolding containsAny
+  owned-next c model S k i o = step-cases way setup ring model (λ s. Owns (s .after) k i ⊎ (containsAny (s .closed) i ≡ true)) c (record {
+    staging = λ a g _ _ _. inl o;
+    entering = λ j x _ _ _. inl o;
+    opening = λ w _ A. inl (stays-owned model w (next-in model (S .good .four) (A .few)) k i o);
+    running = λ b bs _ _ _. inl o;
+    closing = λ d _ A. ⊎-elim
+        (λ (e : k ≡ d). inr (rw (contains-in (windowOf model d) i (rw e at (o .1)))))
+        (λ (n : ¬ (k ≡ d)). inl (rw (kept-place model d k n) o))
+        (by-eq k d);
+  })
+
+  -- neither, if the calls close no window around it and nobody owns it after them
+  never-owned : (cs : List Call) (model : Model) → Sound setup model → (k i : ℕ) → containsAny (closed way setup ring cs model) i ≡ false → ¬ (Owns (after way setup ring cs model) k i) → ¬ (Owns model k i)
+  unfolding closed after
+  never-owned [] model S k i e f o = f o
+  never-owned (c ∷ cs) model S k i e f o =
+      let s : Step = step way setup ring c model in
+      let n = neither (containsAny (s .closed) i) (containsAny (closed way setup ring cs (s .after)) i) (sym (contains-append (s .closed) (closed way setup ring cs (s .after)) i) ∙ e) in
+      ⊎-elim
+      (λ (p : Owns (s .after) k i). never-owned cs (s .after) (step-sound way setup ring c model S) k i (n .1) f p)
+      (λ (p : containsAny (s .closed) i ≡ true). true≢false (sym p ∙ n .0))
+      (owned-next c model S k i o)
+
+-- ---- models alike but for one client are alike if it has nothing waiting and nothing staged
+
 module _ (d : ℕ) where
-  -- two waiting batches: client, ticket and length are the same, and the bytes too if it is not d's
-  record SameBatch (v w : Batch) : Type 0 where
-    client : v .client ≡ w .client
-    ticket : v .ticket ≡ w .ticket
-    size : length (v .bytes) ≡ length (w .bytes)
-    bytes : ¬ (v .client ≡ d) → v .bytes ≡ w .bytes
+  same-waiting : {vs ws : List Batch} → Pointwise (SameBatch (λ k. k ≡ d)) vs ws → countOf d vs ≡ 0 → vs ≡ ws
+  same-waiting none e = refl
+  same-waiting (more {x = v} {y = w} {xs = vs} {ys = ws} q qs) e =
+      let n = none-own v vs d e in
+      let h : batch (v .client) (v .ticket) (v .bytes) ≡ batch (w .client) (w .ticket) (w .bytes) = rw (q .client, q .ticket, q .bytes (n .0)) in
+      ap₂ (λ (b : Batch) (bs : List Batch). b ∷ bs) h (same-waiting qs (n .1))
 
-  data SameStaging : Staging → Staging → Type 0 where
-    both-idle : SameStaging idle idle
-    both-staging : (client total : ℕ) (x y : List ℕ) → length x ≡ length y → (¬ (client ≡ d) → x ≡ y) → SameStaging (staging client total x) (staging client total y)
+  same-staged : {g h : Staging} → SameStaging (λ k. k ≡ d) g h → stagedBy g d ≡ false → g ≡ h
+  same-staged both-idle e = refl
+  same-staged (both-staging k n x y _ f) e = ap (staging k n) (f (λ q. true≢false (sym (eq-eqb k d q) ∙ e)))
 
-  same-length : {vs ws : List Batch} → Pointwise SameBatch vs ws → length vs ≡ length ws
-  same-length none = refl
-  same-length (more q qs) = ap suc (same-length qs)
+same-model : (m m′ : Model) → m .places ≡ m′ .places → m .waiting ≡ m′ .waiting → m .staged ≡ m′ .staged → m .accepted ≡ m′ .accepted → m .memory ≡ m′ .memory → m ≡ m′
+same-model m m′ p w s a e =
+    let made : List Place → List Batch → Staging → ℕ → List ℕ → Model = λ p w s a e. record { places = p; waiting = w; staged = s; accepted = a; memory = e } in
+    let h : made (m .places) (m .waiting) (m .staged) (m .accepted) (m .memory) ≡ made (m′ .places) (m′ .waiting) (m′ .staged) (m′ .accepted) (m′ .memory) = rw (p, w, s, a, e) in
+    h
 
-  same-total : {vs ws : List Batch} → Pointwise SameBatch vs ws → totalBytes vs ≡ totalBytes ws
-  unfolding totalBytes
-  same-total none = refl
-  same-total (more q qs) = rw (q .size, same-total qs)
+module _ (way : BatchSemantics) (L : Confined way) (setup : Setup) (ring : ℕ) (d : ℕ) (before : List Call) (w : Window) (during during′ : List Call) (m m′ : List ℕ)
+    (T : LowEquivalent way setup ring d before w during during′ m m′) where
+  abbrev start : Model
+  start = modelAfterAll way setup ring before m
 
-  same-count : (k : ℕ) {vs ws : List Batch} → Pointwise SameBatch vs ws → countOf k vs ≡ countOf k ws
-  unfolding countOf
-  same-count k none = refl
-  same-count k (more q qs) = rw (q .client, same-count k qs)
+  abbrev start′ : Model
+  start′ = modelAfterAll way setup ring before m′
 
-  -- what the table asks of a staged submission
-  record Shape (g h : Staging) : Type 0 where
-    idle? : isIdle g ≡ isIdle h
-    by : (k : ℕ) → stagedBy g k ≡ stagedBy h k
-    missing : missingBytes g ≡ missingBytes h
-    slots : stagedSlots g ≡ stagedSlots h
-    bytes : stagedBytes g ≡ stagedBytes h
+  S : Sound setup start
+  S = after-sound way setup ring before (initialModel m) (fresh-sound setup m)
 
-  same-shape : {g h : Staging} → SameStaging g h → Shape g h
-  same-shape both-idle = record { idle? = refl; by = λ k. refl; missing = refl; slots = refl; bytes = refl }
-  same-shape (both-staging client total x y e f) = record { idle? = refl; by = λ k. refl; missing = ap (λ (n : ℕ). total - n) e; slots = refl; bytes = refl }
+  A : OpenAllowed setup start w
+  A = admission way setup ring start w d (T .tenancy .admitted) .allowed
 
-  same-completed : (k k′ t t′ : ℕ) (v v′ : CompletionStatus) → k ≡ k′ → t ≡ t′ → v ≡ v′ → LowEqualAnswer d (completed k t v) (completed k′ t′ v′)
-  same-completed k k′ t t′ v v′ e f g = rw (e, f, g) (equal _)
+  -- ---- before: no client's batches differ; hidden are the bytes of the window to come that nobody owns till then
 
-  own-completed : (k k′ t t′ : ℕ) (v v′ : CompletionStatus) → k ≡ k′ → t ≡ t′ → k ≡ d → LowEqualAnswer d (completed k t v) (completed k′ t′ v′)
-  own-completed k k′ t t′ v v′ e f g = rw (← e, f, g) (verdicts t′ v v′)
+  abbrev Unowned : ℕ → Type 0
+  Unowned i = In w i × (containsAny (closed way setup ring before (initialModel m)) i ≡ false)
 
--- Hid: the bytes that the claim does not speak of
-module _ (way : BatchSemantics) (L : Confined way) (setup : Setup) (ring : ℕ) (d : ℕ) (Hid : ℕ → Type 0) where
-  record Rel (model model′ : Model) : Type 0 where
-    windows : model .windows ≡ model′ .windows
-    waiting : Pointwise (SameBatch d) (model .waiting) (model′ .waiting)
-    staged : SameStaging d (model .staged) (model′ .staged)
-    accepted : model .accepted ≡ model′ .accepted
-    size : length (model .memory) ≡ length (model′ .memory)
-    bytes : (i : ℕ) → ¬ (Hid i) → byte (model .memory) i ≡ byte (model′ .memory) i
+  abbrev X₁ : View
+  X₁ = record { Secret = λ k. ⊥; secret? = λ k. inr (λ z. z); Hid = Unowned; Told = λ a b. a ≡ b; alike = λ a. refl; own-told = λ k t v v′ z. absurd z }
 
-  -- they hold d's window, once it is open, no byte of another's and none of the common area
-  record Hidden (model : Model) : Type 0 where
-    own : (i : ℕ) → Owns model d i → Hid i
-    others : (k i : ℕ) → ¬ (k ≡ d) → Owns model k i → ¬ (Hid i)
-    common : (i : ℕ) → i < setup .common → ¬ (Hid i)
+  abbrev Inv₁ : List Call → Model → Type 0
+  Inv₁ cs model = Sound setup model × ((i : ℕ) → Unowned i → (containsAny (closed way setup ring cs model) i ≡ false) × ((k : ℕ) → ¬ (Owns (after way setup ring cs model) k i)))
 
-  module _ (v : Window) (m m′ : List ℕ) (h : WindowInMemory v (setup .common) m) (size : length m ≡ length m′) (agree : (i : ℕ) → ¬ (Hid i) → byte m i ≡ byte m′ i) where
-    h′ : WindowInMemory v (setup .common) m′
-    h′ = (h .0, rw (← size) (h .1))
+  next₁ : (c : Call) (cs : List Call) (model : Model) → Inv₁ (c ∷ cs) model → Inv₁ cs (step way setup ring c model .after)
+  unfolding closed after
+  next₁ c cs model I = (
+    step-sound way setup ring c model (I .0),
+    λ i f.
+        let s : Step = step way setup ring c model in
+        let rest : List Window = closed way setup ring cs (s .after) in
+        (neither (containsAny (s .closed) i) (containsAny rest i) (sym (contains-append (s .closed) rest i) ∙ I .1 i f .0) .1, I .1 i f .1),
+  )
 
-    own-drawn : (x x′ : List ℕ) → ((i : ℕ) → In v i → Hid i) → (i : ℕ) → ¬ (Hid i) → byte (way .draw v (setup .common) x m) i ≡ byte (way .draw v (setup .common) x′ m′) i
-    own-drawn x x′ f i n =
-        let o : ¬ (In v i) = λ p. n (f i p) in
-        L v (setup .common) x .outside m h i o ∙ agree i n ∙ sym (L v (setup .common) x′ .outside m′ h′ i o)
+  runs₁ : Runs way setup ring X₁ w before before (initialModel m) (initialModel m′)
+  runs₁ = runs way L setup ring X₁ w (λ i f. f .0) (λ c c′. c ≡ c′) Inv₁
+      (λ cs model I. I .0)
+      (λ c cs model I. record {
+        own = λ k i z. absurd z;
+        others = λ k i _ o f. never-owned way setup ring (c ∷ cs) model (I .0) k i (I .1 i f .0) (I .1 i f .1 k) o;
+        common = λ i l f. let past = A .past in omega arith;
+      })
+      next₁
+      (λ c c′ e model model′ S H R. rw e (same-both way L setup ring X₁ model model′ S R H c′))
+      before before (each-refl before) (initialModel m) (initialModel m′)
+      (fresh-sound setup m, λ i f. (f .1, λ k o. apart-of w (windowOf start k) i (open-apart start w (A .apart) k (o .0)) (f .0) (o .1)))
+      (record { places = refl; waiting = none; staged = both-idle; accepted = refl; size = T .size; bytes = T .bytes })
 
-    other-drawn : (x : List ℕ) → ((i : ℕ) → In v i → ¬ (Hid i)) → ((i : ℕ) → i < setup .common → ¬ (Hid i)) →
-        (i : ℕ) → ¬ (Hid i) → byte (way .draw v (setup .common) x m) i ≡ byte (way .draw v (setup .common) x m′) i
-    other-drawn x f g i n =
-        ⊎-elim
-        (λ (p : In v i). L v (setup .common) x .inside m m′ h (record { size = size; window = λ j q. agree j (f j q); shared = λ j q. agree j (g j q) }) i p)
-        (λ (o : ¬ (In v i)). L v (setup .common) x .outside m h i o ∙ agree i n ∙ sym (L v (setup .common) x .outside m′ h′ i o))
-        (by-in v i)
+  -- ---- while it lasts: hidden is its window
 
-  abbrev Both : Step → Step → Type 0
-  Both s s′ = LowEqualAnswer d (s .answer) (s′ .answer) × Rel (s .after) (s′ .after)
+  abbrev X₂ : View
+  X₂ = record { Secret = λ k. k ≡ d; secret? = λ k. by-eq k d; Hid = In w; Told = LowEqualAnswer d; alike = equal; own-told = λ k t v v′ e. rw e (verdicts t v v′) }
 
-  module _ (model model′ : Model) (S : Sound setup model) (H : Hidden model) (R : Rel model model′) where
-    G : Shape d (model .staged) (model′ .staged)
-    G = same-shape d (R .staged)
+  abbrev Inv₂ : List Call → Model → Type 0
+  Inv₂ cs model = Sound setup model × OpenThroughout way setup ring d cs model × (placeOf model d ≡ taken w)
 
-    refused-both : (k : ℕ) → Both (refuse k model) (refuse k model′)
-    refused-both k = (equal _, R)
-
-    staged-both : (a : Answer) (g g′ : Staging) → SameStaging d g g′ → Both (plain a (withStaged model g)) (plain a (withStaged model′ g′))
-    staged-both a g g′ q = (equal a, record { windows = R .windows; waiting = R .waiting; staged = q; accepted = R .accepted; size = R .size; bytes = R .bytes })
-
-    enqueued-both : (k : ℕ) (x y : List ℕ) → length x ≡ length y → (¬ (k ≡ d) → x ≡ y) → Both (enqueue model k x) (enqueue model′ k y)
-    enqueued-both k x y e f =
-        let t : model .accepted % 4294967296 ≡ model′ .accepted % 4294967296 = ap (λ (a : ℕ). a % 4294967296) (R .accepted) in (
-          rw t (equal _),
-          record {
-            windows = R .windows;
-            waiting = each-snoc (SameBatch d) (model .waiting) (model′ .waiting) _ _ (R .waiting) (record { client = refl; ticket = t; size = e; bytes = f });
-            staged = both-idle;
-            accepted = ap suc (R .accepted);
-            size = R .size;
-            bytes = R .bytes;
-          },
-        )
-
-    open-both : (w : Window) → Both (step way setup ring (opens w) model) (step way setup ring (opens w) model′)
-    unfolding effect refusalTable
-    open-both w = unless-both Both (refusal setup ring model (opens w)) (refusal setup ring model′ (opens w)) model model′ _ _
-        (rw (R .windows))
-        (λ e. (
-          rw (R .windows) (equal _),
-          record
-              { windows = ap (λ (ws : List Window). ws ++ (w ∷ [])) (R .windows); waiting = R .waiting; staged = R .staged; accepted = R .accepted; size = R .size; bytes = R .bytes },
-        ))
-        refused-both
-
-    submit-both : (k : ℕ) (x y : List ℕ) → length x ≡ length y → (¬ (k ≡ d) → x ≡ y) → Both (step way setup ring (submit k x) model) (step way setup ring (submit k y) model′)
-    unfolding effect refusalTable
-    submit-both k x y e f = unless-both Both (refusal setup ring model (submit k x)) (refusal setup ring model′ (submit k y)) model model′ _ _
-        (rw (R .windows, same-length d (R .waiting), same-total d (R .waiting), G .idle?, G .slots, G .bytes, e))
-        (λ z. enqueued-both k x y e f)
-        refused-both
-
-    begin-both : (k n : ℕ) → Both (step way setup ring (begin k n) model) (step way setup ring (begin k n) model′)
-    unfolding effect refusalTable
-    begin-both k n = unless-both Both (refusal setup ring model (begin k n)) (refusal setup ring model′ (begin k n)) model model′ _ _
-        (rw (R .windows, same-length d (R .waiting), same-total d (R .waiting), G .idle?, G .slots, G .bytes))
-        (λ z. staged-both done (staging k n []) (staging k n []) (both-staging k n [] [] refl (λ _. refl)))
-        refused-both
-
-    pending-both : (k : ℕ) → Both (step way setup ring (pending k) model) (step way setup ring (pending k) model′)
-    unfolding effect refusalTable
-    pending-both k = unless-both Both (refusal setup ring model (pending k)) (refusal setup ring model′ (pending k)) model model′ _ _
-        (rw (R .windows))
-        (λ e. (rw (same-count d k (R .waiting)) (equal _), R))
-        refused-both
-
-    cancel-both : (k : ℕ) → Both (step way setup ring (cancel k) model) (step way setup ring (cancel k) model′)
-    unfolding effect refusalTable
-    cancel-both k = unless-both Both (refusal setup ring model (cancel k)) (refusal setup ring model′ (cancel k)) model model′ _ _
-        (rw (R .windows, G .by k))
-        (λ e. staged-both done idle idle both-idle)
-        refused-both
-
-    -- one more piece, the last or not
-    pieced-both : (k : ℕ) (x y : List ℕ) → length x ≡ length y → (¬ (k ≡ d) → x ≡ y) → {g g′ : Staging} → SameStaging d g g′ → stagedBy g k ≡ true → Both (pieceStep model g x) (pieceStep model′ g′ y)
-    pieced-both k x y e f both-idle h = refused-both 14
-    pieced-both k x y e f (both-staging j n u v l q) h =
-        let long : length (u ++ x) ≡ length (v ++ y) = length-append u x ∙ omega arith ∙ sym (length-append v y) in
-        let same : ¬ (j ≡ d) → u ++ x ≡ v ++ y = λ s. ap₂ (λ (a b : List ℕ). a ++ b) (q s) (f (λ z. s (rw (eqb-true j k h) z))) in
-        cond-both Both (eqb (length (u ++ x)) n) (eqb (length (v ++ y)) n) _ _ _ _ (rw long)
-        (enqueued-both j (u ++ x) (v ++ y) long same)
-        (rw long (staged-both _ _ _ (both-staging j n (u ++ x) (v ++ y) long same)))
-
-    piece-both : (k : ℕ) (x y : List ℕ) → length x ≡ length y → (¬ (k ≡ d) → x ≡ y) → Both (step way setup ring (piece k x) model) (step way setup ring (piece k y) model′)
-    unfolding effect refusalTable
-    piece-both k x y e f = unless-both Both (refusal setup ring model (piece k x)) (refusal setup ring model′ (piece k y)) model model′ _ _
-        (rw (R .windows, G .by k, G .missing, e))
-        (λ z. pieced-both k x y e f (R .staged) (piece-allowed setup ring model k x z .own))
-        refused-both
-
-    taken-both : length (model .memory) ≡ setup .memory → (b b′ : Batch) (bs bs′ : List Batch) → isOpen model (b .client) ≡ true → SameBatch d b b′ → Pointwise (SameBatch d) bs bs′ →
-        Both (runStep way (setup .common) model (b ∷ bs)) (runStep way (setup .common) model′ (b′ ∷ bs′))
-    taken-both e b b′ bs bs′ h q qs =
-        let v : Window = windowOf model (b .client) in
-        let fits : WindowInMemory v (setup .common) (model .memory) = within setup model S e (b .client) h in
-        let fits′ : WindowInMemory v (setup .common) (model′ .memory) = (fits .0, rw (← R .size) (fits .1)) in
-        let ev : v ≡ windowOf model′ (b′ .client) = rw (R .windows, q .client) in
-        let size : length (way .draw v (setup .common) (b .bytes) (model .memory)) ≡ length (way .draw (windowOf model′ (b′ .client)) (setup .common) (b′ .bytes) (model′ .memory)) =
-        rw (← ev) (L v (setup .common) (b .bytes) .sized (model .memory) fits ∙ R .size ∙ sym (L v (setup .common) (b′ .bytes) .sized (model′ .memory) fits′))
-        in
-        ⊎-elim
-        (λ (own : b .client ≡ d). (
-          own-completed d (b .client) (b′ .client) (b .ticket) (b′ .ticket) _ _ (q .client) (q .ticket) own,
-          record {
-            windows = R .windows;
-            waiting = qs;
-            staged = R .staged;
-            accepted = R .accepted;
-            size = size;
-            bytes = rw (← ev) (own-drawn v (model .memory) (model′ .memory) fits (R .size) (R .bytes) (b .bytes) (b′ .bytes) (λ i p. H .own i (rw (← own) (h, p))));
-          },
-        ))
-        (λ (other : ¬ (b .client ≡ d)). (
-          same-completed d (b .client) (b′ .client) (b .ticket) (b′ .ticket) _ _ (q .client) (q .ticket) (rw (ev, q .bytes other)),
-          record {
-            windows = R .windows;
-            waiting = qs;
-            staged = R .staged;
-            accepted = R .accepted;
-            size = size;
-            bytes = rw (← ev, ← q .bytes other) (other-drawn v (model .memory) (model′ .memory) fits (R .size) (R .bytes) (b .bytes) (λ i p. H .others (b .client) i other (h, p)) (H .common));
-          },
-        ))
-        (by-eq (b .client) d)
-
-    run-both : Both (step way setup ring run model) (step way setup ring run model′)
-    unfolding effect refusalTable
-    run-both = unless-both Both (refusal setup ring model run) (refusal setup ring model′ run) model model′ _ _
-        (rw (R .size, same-length d (R .waiting)))
-        (λ e. go (run-allowed setup ring model e) (S .named) (R .waiting))
-        refused-both
-      where
-        go : length (model .memory) ≡ setup .memory → {bs bs′ : List Batch} → Named (isOpen model) bs → Pointwise (SameBatch d) bs bs′ → Both (runStep way (setup .common) model bs) (runStep way (setup .common) model′ bs′)
-        go e n none = refused-both 9
-        go e n (more {x = b} {y = b′} {xs = bs} {ys = bs′} q qs) = taken-both e b b′ bs bs′ (n .0) q qs
-
-    step-both : (c c′ : Call) → LowEqualCall d c c′ → Both (step way setup ring c model) (step way setup ring c′ model′)
-    step-both _ _ (same (opens w)) = open-both w
-    step-both _ _ (same (submit k x)) = submit-both k x x refl (λ n. refl)
-    step-both _ _ (same run) = run-both
-    step-both _ _ (same (pending k)) = pending-both k
-    step-both _ _ (same (begin k n)) = begin-both k n
-    step-both _ _ (same (piece k x)) = piece-both k x x refl (λ n. refl)
-    step-both _ _ (same (cancel k)) = cancel-both k
-    step-both _ _ (rewritten x y e) = submit-both d x y e (λ n. absurd (n refl))
-    step-both _ _ (repieced x y e) = piece-both d x y e (λ n. absurd (n refl))
-
--- What is hidden is d's window at the end, from the first call on: before d opens it, nobody reads or writes it.
-module _ (way : BatchSemantics) (L : Confined way) (setup : Setup) (ring : ℕ) (d : ℕ) where
-  hidden : (cs : List Call) (model : Model) → Sound setup model → Hidden way L setup ring d (Owns (after way setup ring cs model) d) model
-  hidden cs model S =
-      let G = after-sound way setup ring cs model S .good in
+  hides₂ : (c : Call) (cs : List Call) (model : Model) → Inv₂ (c ∷ cs) model → Hidden setup X₂ model
+  hides₂ c cs model I =
+      let G = I .0 .good in
+      let h : isOpen model d ≡ true = ap isTaken (I .2) in
       record {
-        own = λ i o. let s = after-stays way setup ring cs model d (o .0) in (s .0, rw (s .1) (o .1));
-        others = λ k i n o p. let s = after-stays way setup ring cs model k (o .0) in G .apart k d i (s .0) (p .0) n (rw (s .1) (o .1)) (p .1);
-        common = λ i l p. let z = G .past d (p .0) in omega arith;
+        own = λ k i e o. rw (e, I .2) at (o .1);
+        others = λ k i n o p. G .apart k d i (o .0) h n (o .1) (rw (I .2) p);
+        common = λ i l p. let past : setup .common ≤ w .start = rw (I .2) at (G .past d h) in omega arith;
       }
 
-  both : (cs cs′ : List Call) → Pointwise (LowEqualCall d) cs cs′ → (model model′ : Model) → Sound setup model → Rel way L setup ring d (Owns (after way setup ring cs model) d) model model′ →
-      Pointwise (LowEqualAnswer d) (answers way setup ring cs model) (answers way setup ring cs′ model′)
-      × Rel way L setup ring d (Owns (after way setup ring cs model) d) (after way setup ring cs model) (after way setup ring cs′ model′)
-  unfolding answers after
-  both _ _ none model model′ S R = (none, R)
-  both _ _ (more {x = c} {y = c′} {xs = cs} {ys = cs′} q qs) model model′ S R =
-      let s = step-both way L setup ring d (Owns (after way setup ring (c ∷ cs) model) d) model model′ S (hidden (c ∷ cs) model S) R c c′ q in
-      let t = both cs cs′ qs (step way setup ring c model .after) (step way setup ring c′ model′ .after) (step-sound way setup ring c model S) (s .1) in
-      (more (s .0) (t .0), t .1)
+  pair₂ : (c c′ : Call) → LowEqualCall d c c′ → (model model′ : Model) → Sound setup model → Hidden setup X₂ model → Rel X₂ model model′ → Both X₂ (step way setup ring c model) (step way setup ring c′ model′)
+  pair₂ _ _ (same c) model model′ S H R = same-both way L setup ring X₂ model model′ S R H c
+  pair₂ _ _ (rewritten x y e) model model′ S H R = submit-both way L setup ring X₂ model model′ S R d x y e (λ n. absurd (n refl))
+  pair₂ _ _ (repieced x y e) model model′ S H R = piece-both way L setup ring X₂ model model′ S R d x y e (λ n. absurd (n refl))
 
-  pub unmoved : (cs cs′ : List Call) (m m′ : List ℕ) → LowEquivalent way setup ring d cs cs′ m m′ → Noninterference way setup ring d cs cs′ m m′
-  unmoved cs cs′ m m′ t =
-      let q = both cs cs′ (t .listed) (initialModel m) (initialModel m′) (fresh-sound setup m) (record { windows = refl; waiting = none; staged = both-idle; accepted = refl; size = t .size; bytes = t .bytes }) in
-      record { told = q .0; windows = q .1 .windows; size = q .1 .size; bytes = q .1 .bytes }
+  abbrev inner : Model
+  inner = entered way setup ring (initialModel m) before w
+
+  abbrev inner′ : Model
+  inner′ = entered way setup ring (initialModel m′) before w
+
+  inner-sound : Sound setup inner
+  inner-sound = entered-sound way setup ring (initialModel m) (fresh-sound setup m) before w during d (T .tenancy)
+
+  inner-place : placeOf inner d ≡ taken w
+  inner-place = entered-place way setup ring (initialModel m) (fresh-sound setup m) before w during d (T .tenancy)
+
+  opened-both : Both X₁ (step way setup ring (opens w) start) (step way setup ring (opens w) start′)
+  opened-both = open-both way L setup ring X₁ start start′ S (runs₁ .rel) w
+
+  -- what may differ before may differ now
+  weaker : (model model′ : Model) → Rel X₁ model model′ → Rel X₂ model model′
+  weaker model model′ R = record {
+    places = R .places;
+    waiting = each-map (λ v w q. record { client = q .client; ticket = q .ticket; size = q .size; bytes = λ _. q .bytes (λ z. z) }) (R .waiting);
+    staged = restaged (R .staged);
+    accepted = R .accepted;
+    size = R .size;
+    bytes = λ i o. R .bytes i (λ f. o (f .0));
+  }
+    where
+      restaged : {g h : Staging} → SameStaging (λ k. ⊥) g h → SameStaging (λ k. k ≡ d) g h
+      restaged both-idle = both-idle
+      restaged (both-staging k n x y e f) = both-staging k n x y e (λ _. f (λ z. z))
+
+  runs₂ : Runs way setup ring X₂ w during during′ inner inner′
+  runs₂ = runs way L setup ring X₂ w (λ i p. p) (LowEqualCall d) Inv₂
+      (λ cs model I. I .0)
+      hides₂
+      (λ c cs model I.
+      let next : Model = step way setup ring c model .after in
+      (step-sound way setup ring c model (I .0), I .1 .1, step-keeps way setup ring c model (I .0) d (I .1 .0) (open-now way setup ring d cs next (I .1 .1)) ∙ I .2))
+      pair₂
+      during during′ (T .listed) inner inner′
+      (inner-sound, T .tenancy .lasts, inner-place)
+      (weaker inner inner′ (opened-both .1))
+
+  -- ---- from its closing on: the models are the same
+
+  abbrev left : Model
+  left = after way setup ring during inner
+
+  abbrev left′ : Model
+  left′ = after way setup ring during′ inner′
+
+  left-place : placeOf left d ≡ taken w
+  left-place = throughout-place way setup ring d during inner inner-sound (T .tenancy .lasts) ∙ inner-place
+
+  abbrev Level : Step → Step → Type 0
+  Level s s′ = s .answer ≡ done → (s .answer ≡ s′ .answer) × (s .after ≡ s′ .after)
+
+  closed-level : CloseAllowed setup left d → Level (closeStep left d) (closeStep left′ d)
+  closed-level B a =
+      let R = runs₂ .rel in
+      let fits = fitted setup left (after-sound way setup ring during inner inner-sound) (B .size) d (B .client-open) in
+      let v : Window = windowOf left d in
+      let memory : zeroed v (left .memory) ≡ zeroed (windowOf left′ d) (left′ .memory) = rw (← R .places)
+      (ext-getD 0 (zeroed v (left .memory)) (zeroed v (left′ .memory)) (zeroed-sized way L setup ring X₂ v (left .memory) (left′ .memory) fits (R .size) (R .bytes))
+      (λ i _. zeroed-same way L setup ring X₂ v (left .memory) (left′ .memory) fits (R .size) (R .bytes) i (λ n. R .bytes i (λ p. n (rw left-place p))))) in (
+        refl,
+        same-model (closeStep left d .after) (closeStep left′ d .after)
+            (ap (λ (ps : List Place). set ps d free) (R .places))
+            (same-waiting d (R .waiting) (B .none-waiting))
+            (same-staged d (R .staged) (B .none-staged))
+            (R .accepted)
+            memory,
+      )
+
+  level : Level (step way setup ring (close d) left) (step way setup ring (close d) left′)
+  unfolding effect refusalTable
+  level =
+      let R = runs₂ .rel in
+      unless-both Level (refusal setup ring left (close d)) (refusal setup ring left′ (close d)) left left′ _ _
+      (rw (R .size, R .places, same-count (λ k. k ≡ d) d (R .waiting), same-shape (λ k. k ≡ d) (R .staged) .by d))
+      (λ e. closed-level (close-allowed setup ring left d e))
+      (λ k a. let z : _≡_ {A = ℕ} 0 1 = cc in absurd (omega arith))
+
+  pub noninterference : Noninterference way setup ring d before w during during′ m m′
+  unfolding answers memories after
+  noninterference = record {
+    told-before =
+        answers-append way setup ring before (opens w ∷ []) (initialModel m)
+        ∙ ap₂ (λ (xs : List Answer) (a : Answer). xs ++ (a ∷ [])) (each-equal (runs₁ .told)) (opened-both .0)
+        ∙ sym (answers-append way setup ring before (opens w ∷ []) (initialModel m′));
+    told-during = runs₂ .told;
+    throughout =
+        rw (memories-append way setup ring before (opens w ∷ during) (initialModel m), memories-append way setup ring before (opens w ∷ during′) (initialModel m′))
+        (each-append (runs₁ .seen) (more (record { size = opened-both .1 .size; bytes = λ i o. opened-both .1 .bytes i (λ f. o (f .0)) }) (runs₂ .seen)));
+    from-closing = λ later a.
+        let e = level a in (
+          ap₂ (λ (x : Answer) (model : Model). x ∷ answers way setup ring later model) (e .0) (e .1),
+          ap (λ (model : Model). model .memory ∷ memories way setup ring later model) (e .1),
+        );
+  }

@@ -13,7 +13,7 @@ pub record Setup : Type 0 where
   pub reset : ResetRule
 
 -- The calls after set up, with what the model is fed of them (01, "The book of demand 3": "the calls with their arguments (not record,
--- ring or memory)"; 02, 6: "Demand 3's list gains begin, pieces and cancelling").
+-- ring or memory)"; 02, 6: "Demand 3's list gains begin, pieces and cancelling"; 02, 11: "Closing joins the list").
 pub data Call : Type 0 where
   opens : Window → Call
   submit : (client : ℕ) (bytes : List ℕ) → Call
@@ -22,6 +22,7 @@ pub data Call : Type 0 where
   begin : (client total : ℕ) → Call
   piece : (client : ℕ) (bytes : List ℕ) → Call
   cancel : (client : ℕ) → Call
+  close : (client : ℕ) → Call
 
 -- What validating a batch gives (01, "Faults of a taken batch"): the status word, the fault's number and its offset in the batch
 -- (01: place), the last two 0 without a fault.
@@ -31,7 +32,7 @@ pub record CompletionStatus : Type 0 where
   pub offset : ℕ
 
 -- What is answered (01, "Engine, desks, queue"): by open the client's id, by submit the ticket, by run its completion, by pending the
--- number of the client's ready batches. 02, 6: "A piece answers the bytes still to come, the last its ticket." Begin and cancelling
+-- number of the client's ready batches. 02, 6: "A piece answers the bytes still to come, the last its ticket." Begin, cancelling and closing
 -- have nothing to tell. "A refusal gives only its number."
 pub data Answer : Type 0 where
   opened : (client : ℕ) → Answer

@@ -1,14 +1,16 @@
--- Two runs that differ in one client. 01, "The book of demand 3": "In two runs, one desk's batches are those of all submits that name it,
--- refused ones too; its window is the one it opens in the list, and without one the starting memories are alike."
+-- Two runs that differ in one tenancy. 02, 11: "Two runs may differ only in one stay's batches (those of submits and pieces under its id while
+-- it is open, refused ones too) and in those starting bytes of its window that no earlier stay owned".
 use mathlib.Core.Path.{_≡_}
+use mathlib.Core.Bool.{false}
 use mathlib.Core.List.{List, [], _∷_}
 use Prim.Native.Nat.{ℕ}
 use lib.ListN.{length}
-use Rattle.model.specs.Windows.{byte}
+use Rattle.model.specs.Windows.{Window, In, byte, containsAny}
 use Rattle.model.specs.Calls.{Setup, Call, submit, piece, CompletionStatus, Answer, completed}
 use Rattle.model.specs.BatchSemantics.{BatchSemantics}
-use Rattle.model.specs.State.{Owns}
-use Rattle.model.specs.Model.{modelAfterAll}
+use Rattle.model.specs.State.{initialModel}
+use Rattle.model.specs.Model.{closed}
+use Rattle.model.specs.Tenancy.{Tenancy}
 
 -- Two lists, equally long and related place by place.
 pub data Pointwise {A : Type 0} (R : A → A → Type 0) : List A → List A → Type 0 where
@@ -27,10 +29,15 @@ pub data LowEqualAnswer (client : ℕ) : Answer → Answer → Type 0 where
   equal : (answer : Answer) → LowEqualAnswer client answer answer
   verdicts : (ticket : ℕ) (v v′ : CompletionStatus) → LowEqualAnswer client (completed client ticket v) (completed client ticket v′)
 
--- The two runs (01, the book): the same set up, and with it the same reset rule (02, request 2: "Demand 3 compares runs with the same choice"); the
--- same ring length; the same calls but for that client's bytes; the same starting memory but for the window that it has at the end, which is the one
--- that it opens in the list (`WindowStable` of Properties). If it opens none, it owns no byte.
-pub record LowEquivalent (way : BatchSemantics) (setup : Setup) (ring client : ℕ) (calls calls′ : List Call) (memory memory′ : List ℕ) : Type 0 where
-  pub listed : Pointwise (LowEqualCall client) calls calls′
+-- Two memories of one length, alike outside the window.
+pub record AgreeOutside (w : Window) (memory memory′ : List ℕ) : Type 0 where
   pub size : length memory ≡ length memory′
-  pub bytes : (i : ℕ) → ¬ (Owns (modelAfterAll way setup ring calls memory) client i) → byte memory i ≡ byte memory′ i
+  pub bytes : (i : ℕ) → ¬ (In w i) → byte memory i ≡ byte memory′ i
+
+-- The two runs: the same set up, and with it the same reset rule (02, 2: "Demand 3 compares runs with the same choice"); the same ring length; the same
+-- calls but for that tenancy's bytes; the same starting memory but for bytes of its window that lie in no window closed before.
+pub record LowEquivalent (way : BatchSemantics) (setup : Setup) (ring client : ℕ) (before : List Call) (w : Window) (during during′ : List Call) (memory memory′ : List ℕ) : Type 0 where
+  pub tenancy : Tenancy way setup ring (initialModel memory) before w during client
+  pub listed : Pointwise (LowEqualCall client) during during′
+  pub size : length memory ≡ length memory′
+  pub bytes : (i : ℕ) → ¬ (In w i × (containsAny (closed way setup ring before (initialModel memory)) i ≡ false)) → byte memory i ≡ byte memory′ i

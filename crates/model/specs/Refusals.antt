@@ -1,4 +1,4 @@
--- When a call is refused: the table of 01, "Engine, desks, queue", with 13 and 14 of 02, 6, for the calls after set up. No
+-- When a call is refused: the table of 01, "Engine, desks, queue", with 13 and 14 of 02, 6, and 18 of 02, 11, for the calls after set up. No
 -- engine is asked. A number at the head of a comment is the row's.
 use mathlib.Core.List.{List, [], _∷_}
 use mathlib.Core.Bool.{Bool, _||_, cond, not}
@@ -6,8 +6,8 @@ use Prim.Native.Nat.{ℕ, _+_, _-_, _%_}
 use lib.ListN.{length}
 use lib.Dec.{ltb, eqb, leb}
 use Rattle.model.specs.Windows.{Window, window, overlap, overlapAny}
-use Rattle.model.specs.Calls.{Setup, Call, opens, submit, run, pending, begin, piece, cancel}
-use Rattle.model.specs.State.{Model, isOpen, openWindows, isIdle, stagedBy, missingBytes, takenSlots, takenBytes}
+use Rattle.model.specs.Calls.{Setup, Call, opens, submit, run, pending, begin, piece, cancel, close}
+use Rattle.model.specs.State.{Model, isOpen, openWindows, isIdle, stagedBy, missingBytes, takenSlots, takenBytes, countOf}
 
 infix 70 _when_
 -- A row of the table: its number, and whether its condition holds.
@@ -38,7 +38,7 @@ batchRows setup ring model client size =
     ∷ 8 when ltb (freeBytes setup model) size
     ∷ []
 
--- Each call's rows, in the order below the table: "11 first, then 10, then as listed downward"; 13 and 14 come "after 5". 11 never comes:
+-- Each call's rows, in the order below the table: "11 first, then 10, then as listed downward"; 13, 14 and 18 come "after 5". 11 never comes:
 -- there is no record that could break a rule. ring: the length of the lent ring; the lent memory is the model's.
 unfoldable pub refusalTable : Setup → (ring : ℕ) → Model → Call → List RefusalRow
 refusalTable setup ring model (opens w) =
@@ -62,6 +62,11 @@ refusalTable setup ring model (piece client bytes) =
 refusalTable setup ring model (cancel client) =
     5 when not (isOpen model client)
     ∷ 14 when not (stagedBy (model .staged) client)
+    ∷ []
+refusalTable setup ring model (close client) =
+    10 when not (eqb (length (model .memory)) (setup .memory))
+    ∷ 5 when not (isOpen model client)
+    ∷ 18 when (ltb 0 (countOf client (model .waiting)) || stagedBy (model .staged) client)
     ∷ []
 
 -- The first row whose condition holds; 0 if there is none: the call is not refused.

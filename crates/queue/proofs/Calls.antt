@@ -10,14 +10,15 @@ use Rattle.record.specs.declared.Setup.{Setup}
 use Rattle.record.specs.declared.Window.{Window}
 use Rattle.record.specs.declared.Record.{Record}
 use Rattle.record.specs.Slots.{readyBatches, countOf}
+use Rattle.record.specs.Clients.{lowestClosed}
 use Rattle.record.specs.Staged.{noStaged}
 use Rattle.record.specs.Queue.{writeOffset}
 use Rattle.queue.specs.declared.Answer.{Answer}
 use Rattle.queue.specs.declared.Answer.the-variants.{Refused, Done, Opened, Accepted, Ready, Missing}
 use Rattle.queue.specs.declared.Reply.{Reply}
 use Rattle.queue.specs.Answers.{answerUnlessRefused}
-use Rattle.queue.specs.Refusals.{firstRefusal, setUpTable, openTable, submitTable, cancelTable, pendingTable}
-use Rattle.queue.specs.Calls.{unlessRefused, initialRecord, noSetup, setUpResult, withClient, openResult, submitted, submitNumber, submitResult, submitRing, newBatch, withBatch, withStaged, begun, beginResult, more, isLast, pieceNumber, pieceAnswer, afterPiece, pieceResult, pieceOffset, pieceRing, cancelResult, pendingAnswer}
+use Rattle.queue.specs.Refusals.{firstRefusal, setUpTable, openTable, submitTable, cancelTable, closeTable, pendingTable}
+use Rattle.queue.specs.Calls.{unlessRefused, initialRecord, noSetup, setUpResult, withClient, openResult, submitted, submitNumber, submitResult, submitRing, newBatch, withBatch, withStaged, begun, beginResult, more, isLast, pieceNumber, pieceAnswer, afterPiece, pieceResult, pieceOffset, pieceRing, cancelResult, withoutClient, closeResult, pendingAnswer}
 
 answered-no : (n : ℕ) (a : Answer) → (n ≡ 0 → ⊥) → answerUnlessRefused n a ≡ Refused n
 unfolding answerUnlessRefused
@@ -28,12 +29,12 @@ answered-yes : (n : ℕ) (a : Answer) → n ≡ 0 → answerUnlessRefused n a �
 unfolding answerUnlessRefused
 answered-yes n a e = rw e
 
-unless-no : {A : Type 0} (n : ℕ) (before after : A) → (n ≡ 0 → ⊥) → unlessRefused n before after ≡ before
+pub unless-no : {A : Type 0} (n : ℕ) (before after : A) → (n ≡ 0 → ⊥) → unlessRefused n before after ≡ before
 unfolding unlessRefused
 unless-no zero before after h = absurd (h refl)
 unless-no (suc n) before after h = refl
 
-unless-yes : {A : Type 0} (n : ℕ) (before after : A) → n ≡ 0 → unlessRefused n before after ≡ after
+pub unless-yes : {A : Type 0} (n : ℕ) (before after : A) → n ≡ 0 → unlessRefused n before after ≡ after
 unfolding unlessRefused
 unless-yes n before after e = rw e
 
@@ -54,12 +55,12 @@ module _ (engine : Record) (w : Window) (n : ℕ) (is : n ≡ firstRefusal (open
   pub open-refused : (n ≡ 0 → ⊥) → record { answer = Refused n; engine = engine } ≡ openResult engine w
   unfolding openResult
   open-refused z =
-      reply (ap Refused is ∙ sym (answered-no _ (Opened (engine .opened)) (λ q. z (is ∙ q)))) (sym (unless-no _ engine (withClient engine w) (λ q. z (is ∙ q))))
+      reply (ap Refused is ∙ sym (answered-no _ (Opened (lowestClosed (engine .clients))) (λ q. z (is ∙ q)))) (sym (unless-no _ engine (withClient engine w) (λ q. z (is ∙ q))))
 
-  pub open-done : n ≡ 0 → (after : Record) → after ≡ withClient engine w → record { answer = Opened (engine .opened); engine = after } ≡ openResult engine w
+  pub open-done : n ≡ 0 → (id : ℕ) → id ≡ lowestClosed (engine .clients) → (after : Record) → after ≡ withClient engine w → record { answer = Opened id; engine = after } ≡ openResult engine w
   unfolding openResult
-  open-done z after e =
-      reply (sym (answered-yes _ (Opened (engine .opened)) (sym is ∙ z))) (e ∙ sym (unless-yes _ engine (withClient engine w) (sym is ∙ z)))
+  open-done z id i after e =
+      reply (ap Opened i ∙ sym (answered-yes _ (Opened (lowestClosed (engine .clients))) (sym is ∙ z))) (e ∙ sym (unless-yes _ engine (withClient engine w) (sym is ∙ z)))
 
 module _ (engine : Record) (ring : List ℕ) (client : ℕ) (batch : List ℕ) (n : ℕ) (is : n ≡ submitNumber engine ring client batch) where
   -- a refusal changes neither record nor ring
@@ -117,6 +118,15 @@ module _ (engine : Record) (client n : ℕ) (is : n ≡ firstRefusal (cancelTabl
   pub cancel-done : n ≡ 0 → (after : Record) → after ≡ withStaged engine noStaged → record { answer = Done; engine = after } ≡ cancelResult engine client
   unfolding cancelResult
   cancel-done z after e = reply (sym (answered-yes _ Done (sym is ∙ z))) (e ∙ sym (unless-yes _ engine (withStaged engine noStaged) (sym is ∙ z)))
+
+module _ (engine : Record) (memory client n : ℕ) (is : n ≡ firstRefusal (closeTable engine memory client)) where
+  pub close-refused : (n ≡ 0 → ⊥) → record { answer = Refused n; engine = engine } ≡ closeResult engine memory client
+  unfolding closeResult
+  close-refused z = reply (ap Refused is ∙ sym (answered-no _ Done (λ q. z (is ∙ q)))) (sym (unless-no _ engine (withoutClient engine client) (λ q. z (is ∙ q))))
+
+  pub close-done : n ≡ 0 → (after : Record) → after ≡ withoutClient engine client → record { answer = Done; engine = after } ≡ closeResult engine memory client
+  unfolding closeResult
+  close-done z after e = reply (sym (answered-yes _ Done (sym is ∙ z))) (e ∙ sym (unless-yes _ engine (withoutClient engine client) (sym is ∙ z)))
 
 -- the last piece, and one before it
 module _ (engine : Record) (size : ℕ) where

@@ -1,15 +1,12 @@
 -- A valid record stays valid through every call that is not refused.
 use mathlib.Core.Path.{_≡_, refl, ap, sym, _∙_}
-use mathlib.Core.List.{[], _∷_, _++_}
-use mathlib.Core.Bool.{true, cond, _&&_, false}
+use mathlib.Core.List.{[]}
+use mathlib.Core.Bool.{Bool, true, false, cond, _&&_}
 use Prim.Native.Nat.{ℕ, _+_, _≤_, _<_}
-use native.Mathlib.Numerals.{add-one}
 use native.Mathlib.Omega.{arith}
 use lib.ListN.{length, length-set}
-use lib.Seq.{take-suc-set, length-take-le}
-use lib.Dec.{eqb}
-use borrow.Author.Tests.{lt-ltb, le-leb}
-use Rattle.word.proofs.Tests.{and-true}
+use lib.Dec.{eqb, ltb}
+use borrow.Author.Tests.{lt-ltb, le-leb, eq-eqb, eqb-false}
 use Rattle.record.specs.declared.Setup.{Setup}
 use Rattle.record.specs.declared.Window.{Window}
 use Rattle.record.specs.declared.Client.{Client}
@@ -17,15 +14,17 @@ use Rattle.record.specs.declared.Record.{Record}
 use Rattle.record.specs.declared.Staged.{Staged}
 use Rattle.record.specs.Slots.{readyBatches, sumOver, totalLength, countOf}
 use Rattle.record.specs.Tickets.{ticketsConsecutive, inTicketOrder}
-use Rattle.record.specs.Clients.{openClients, openWindows, windowsOf, windowsValid, pendingCountsMatch}
+use Rattle.record.specs.Clients.{noClient, clientAt, isOpen, openWindows, windowsOf, lowestClosed, badWindow, windowsValid, pendingCountsMatch}
+use Rattle.record.specs.Staged.{stagedBy}
 use Rattle.record.specs.Queue.{readySlots, waiting}
-use Rattle.record.specs.Rules.{ringRule, memoryRule, clientsRule, readRule, numberRules, windowsRule, ticketsRule, endToEnd, endToEndRule, lengthsAllowed, lengthsRule, clientsOpen, ownersRule, pendingRule, stagedRule, valid}
+use Rattle.record.specs.Rules.{numberRules, windowsRule, ticketsRule, endToEnd, endToEndRule, lengthsAllowed, lengthsRule, clientsOpen, ownersRule, pendingRule, stagedRule, valid}
 use Rattle.record.proofs.Slots.{ready-most}
-use Rattle.record.proofs.Opened.{windows-snoc, none-snoc, open-more, open-none, counts-snoc}
+use Rattle.record.proofs.Clients.{closed-is, open-place, place-open}
+use Rattle.record.proofs.Opened.{opened-more, opened-other, none-put, open-more, open-none, open-fewer, counts-put}
 use Rattle.record.proofs.Unfinished.{staged-stays}
 use Rattle.record.proofs.Rules.{ring-good, Valid, valid-facts, valid-made, numbers-kept, sum-waiting}
-use Rattle.queue.specs.Calls.{initialRecord, noSetup, withClient, withStaged}
-use Rattle.queue.proofs.Refusals.{SetUpAllowed, OpenAllowed}
+use Rattle.queue.specs.Calls.{initialRecord, noSetup, withClient, withoutClient, withStaged}
+use Rattle.queue.proofs.Refusals.{SetUpAllowed, OpenAllowed, CloseAllowed}
 
 -- what every record of the code has
 pub record Sized (engine : Record) : Type 0 where
@@ -61,75 +60,124 @@ fresh-waiting setup = refl
 -- ---- open
 
 module _ (engine : Record) (w : Window) (s : Sized engine) where
+  -- the new client and its id
+  abbrev newClient : Client
+  newClient = record { window = w; pending = 0; opened = true }
+
+  abbrev id : ℕ
+  id = lowestClosed (engine .clients)
+
   pub open-sized : Sized (withClient engine w)
   unfolding withClient
-  open-sized = record { clients = length-set (engine .clients) (engine .opened) (record { window = w; pending = 0 }) ∙ s .clients; slots = s .slots; next = s .next }
+  open-sized = record { clients = length-set (engine .clients) id newClient ∙ s .clients; slots = s .slots; next = s .next }
 
-  module _ (few : engine .opened < 4) where
-    abbrev newClient : Client
-    newClient = record { window = w; pending = 0 }
-
-    clients-more : openClients (withClient engine w) ≡ openClients engine ++ (newClient ∷ [])
-    unfolding withClient
-    clients-more = rw (add-one (engine .opened)) (take-suc-set (engine .clients) (engine .opened) newClient (omega (arith, s .clients)))
-
-    -- the new window is the last
-    pub open-windows : openWindows (withClient engine w) ≡ openWindows engine ++ (w ∷ [])
-    open-windows = rw clients-more (windows-snoc (openClients engine) newClient)
-
-  -- and the batches are as they were
+  -- the batches are as they were
   pub open-waiting : waiting (withClient engine w) ≡ waiting engine
   unfolding withClient
   open-waiting = refl
 
   number-rules : OpenAllowed engine w → numberRules (withClient engine w) ≡ true
   unfolding withClient
-  number-rules a =
-      let x = and-true (ringRule engine && memoryRule engine && clientsRule engine) (readRule engine) (numbers-kept engine (a .ok)) in
-      let y = and-true (ringRule engine && memoryRule engine) (clientsRule engine) (x .0) in
-      rw (y .0, le-leb (engine .opened + 1) 4 (omega (arith, a .few)), x .1)
+  number-rules a = numbers-kept engine (a .ok)
+
+  still-open : (k : ℕ) → isOpen engine k ≡ true → isOpen (withClient engine w) k ≡ true
+  unfolding withClient
+  still-open k e = let o = open-place engine k e in place-open (withClient engine w) k (o .0) (opened-more (engine .clients) id k newClient refl (o .1))
 
   owner-rule : clientsOpen engine (waiting engine) ≡ true → ownersRule (withClient engine w) ≡ true
   unfolding withClient
-  owner-rule e = open-more engine (withClient engine w) (waiting engine) (omega arith) e
+  owner-rule e = open-more engine (withClient engine w) (waiting engine) still-open e
 
-  window-rule : windowsValid (engine .setup) (openWindows (withClient engine w)) ≡ true → windowsRule (withClient engine w) ≡ true
+  window-rule : windowsRule engine ≡ true → badWindow (engine .setup) (openWindows engine) w ≡ false → windowsRule (withClient engine w) ≡ true
   unfolding withClient
-  window-rule e = e
+  window-rule e good = none-put (engine .setup) (engine .clients) id newClient e good
 
-  count-rule : pendingCountsMatch 0 (openClients (withClient engine w)) (readyBatches (engine .slots)) ≡ true → pendingRule (withClient engine w) ≡ true
+  count-rule : pendingRule engine ≡ true → countOf id (readyBatches (engine .slots)) ≡ 0 → pendingRule (withClient engine w) ≡ true
   unfolding withClient
-  count-rule e = e
+  count-rule e none = counts-put 0 id (engine .clients) newClient (readyBatches (engine .slots)) e (eq-eqb 0 (countOf (0 + id) (readyBatches (engine .slots))) (sym (ap (λ (x : ℕ). countOf x (readyBatches (engine .slots))) (let z : 0 + id ≡ id = omega arith in z) ∙ none)))
 
   staged-rule : stagedRule engine ≡ true → stagedRule (withClient engine w) ≡ true
   unfolding withClient
-  staged-rule e = staged-stays engine (withClient engine w) refl refl (omega arith) (omega arith) (λ i h. h) e
+  staged-rule e = staged-stays engine (withClient engine w) refl refl (λ _. still-open (engine .staged .client)) (omega arith) (λ i h. h) e
 
   batch-rules : Valid engine → (ticketsRule (withClient engine w) ≡ true) × (endToEndRule (withClient engine w) ≡ true) × (lengthsRule (withClient engine w) ≡ true)
       × (totalLength (waiting (withClient engine w)) ≤ withClient engine w .setup .ring)
   unfolding withClient
   batch-rules v = (v .given, v .ends, v .lengths, v .within)
 
+  -- no client has the id yet
+  closed-id : (b : Bool) → (b && clientAt engine id .opened) ≡ false
+  closed-id true = closed-is (engine .clients)
+  closed-id false = refl
+
   pub open-valid : OpenAllowed engine w → valid (withClient engine w) ≡ true
   open-valid a =
       let v = valid-facts engine (a .ok) in
       let b = batch-rules v in
-      let long : length (openClients engine) ≡ engine .opened = length-take-le (engine .opened) (engine .clients) (omega (arith, a .few, s .clients)) in
-      let none : countOf (engine .opened) (readyBatches (engine .slots)) ≡ 0 =
-      sum-waiting engine v (few-taken engine s) (λ b. cond (eqb (b .client) (engine .opened)) 1 0) ∙ open-none engine (engine .opened) (waiting engine) (omega arith) (v .owners)
+      let none : countOf id (readyBatches (engine .slots)) ≡ 0 =
+      sum-waiting engine v (few-taken engine s) (λ b. cond (eqb (b .client) id) 1 0) ∙ open-none engine id (waiting engine) (closed-id (ltb id 4)) (v .owners)
       in
-      let z : 0 + length (openClients engine) ≡ engine .opened = omega arith in
-      let counts = counts-snoc 0 (openClients engine) (record { window = w; pending = 0 }) (readyBatches (engine .slots)) (v .counts) (sym (ap (λ (x : ℕ). countOf x (readyBatches (engine .slots))) z ∙ none)) in
       valid-made (withClient engine w)
       (number-rules a)
-      (window-rule (rw (open-windows (a .few)) (none-snoc (engine .setup) (openWindows engine) w (v .windows) (a .good))))
+      (window-rule (v .windows) (a .good))
       (b .0)
       (b .1)
       (b .2)
       (b .3)
       (owner-rule (v .owners))
-      (count-rule (rw (clients-more (a .few)) counts))
+      (count-rule (v .counts) none)
       (staged-rule (v .staged))
+
+-- ---- close
+
+module _ (engine : Record) (client : ℕ) where
+  pub close-sized : Sized engine → Sized (withoutClient engine client)
+  unfolding withoutClient
+  close-sized s = record { clients = length-set (engine .clients) client noClient ∙ s .clients; slots = s .slots; next = s .next }
+
+  -- the batches are as they were
+  pub close-waiting : waiting (withoutClient engine client) ≡ waiting engine
+  unfolding withoutClient
+  close-waiting = refl
+
+  others-open : (k : ℕ) → ¬ (k ≡ client) → isOpen engine k ≡ true → isOpen (withoutClient engine client) k ≡ true
+  unfolding withoutClient
+  others-open k n e = let o = open-place engine k e in place-open (withoutClient engine client) k (o .0) (opened-other (engine .clients) client k noClient n (o .1))
+
+  closed-rules : Valid engine → (windowsRule (withoutClient engine client) ≡ true) × (ticketsRule (withoutClient engine client) ≡ true) × (endToEndRule (withoutClient engine client) ≡ true)
+      × (lengthsRule (withoutClient engine client) ≡ true) × (totalLength (waiting (withoutClient engine client)) ≤ withoutClient engine client .setup .ring) × (pendingRule (withoutClient engine client) ≡ true)
+  unfolding withoutClient
+  closed-rules v = (
+    none-put (engine .setup) (engine .clients) client noClient (v .windows) refl,
+    v .given,
+    v .ends,
+    v .lengths,
+    v .within,
+    counts-put 0 client (engine .clients) noClient (readyBatches (engine .slots)) (v .counts) refl,
+  )
+
+  closed-numbers : valid engine ≡ true → numberRules (withoutClient engine client) ≡ true
+  unfolding withoutClient
+  closed-numbers ok = numbers-kept engine ok
+
+  closed-owners : countOf client (waiting engine) ≡ 0 → ownersRule engine ≡ true → ownersRule (withoutClient engine client) ≡ true
+  unfolding withoutClient
+  closed-owners none e = open-fewer engine (withoutClient engine client) client (waiting engine) others-open none e
+
+  -- another client's staged submission stays
+  closed-staged : stagedBy (engine .staged) client ≡ false → stagedRule engine ≡ true → stagedRule (withoutClient engine client) ≡ true
+  unfolding withoutClient
+  closed-staged other e =
+      staged-stays engine (withoutClient engine client) refl refl
+      (λ i o. others-open (engine .staged .client) (eqb-false _ _ (rw i at other)) o)
+      (omega arith) (λ i h. h) e
+
+  pub close-valid : Sized engine → (given : ℕ) → CloseAllowed engine given client → valid (withoutClient engine client) ≡ true
+  close-valid s given a =
+      let v = valid-facts engine (a .ok) in
+      let r = closed-rules v in
+      let none : countOf client (waiting engine) ≡ 0 = sym (sum-waiting engine v (few-taken engine s) (λ b. cond (eqb (b .client) client) 1 0)) ∙ a .none in
+      valid-made (withoutClient engine client) (closed-numbers (a .ok)) (r .0) (r .1) (r .2) (r .3) (r .4) (closed-owners none (v .owners)) (r .5) (closed-staged (a .idle) (v .staged))
 
 -- ---- another staged submission, or none
 
@@ -150,7 +198,7 @@ module _ (engine : Record) (g : Staged) where
 
   owners : Valid engine → ownersRule (withStaged engine g) ≡ true
   unfolding withStaged
-  owners v = open-more engine (withStaged engine g) (waiting engine) (omega arith) (v .owners)
+  owners v = open-more engine (withStaged engine g) (waiting engine) (λ k e. e) (v .owners)
 
   numbers-stay : valid engine ≡ true → numberRules (withStaged engine g) ≡ true
   unfolding withStaged

@@ -4,12 +4,14 @@ use mathlib.Core.List.{List, [], _∷_}
 use mathlib.Core.Bool.{Bool, true, false, not, cond}
 use Prim.Native.Nat.{ℕ, _+_, _≤_, _<_}
 use native.Mathlib.Omega.{arith}
+use lib.ListN.{length}
 use lib.Dec.{eqb, ltb}
 use borrow.Author.Tests.{ltb-false, leb-false, eqb-true, not-false}
 use Rattle.record.specs.declared.Setup.{Setup}
 use Rattle.record.specs.declared.Window.{Window}
 use Rattle.record.specs.declared.Record.{Record}
 use Rattle.record.specs.Setup.{badRing, badMemory, badLength}
+use Rattle.record.specs.Slots.{readyBatches, countOf}
 use Rattle.record.specs.Clients.{isOpen, openWindows, badWindow}
 use Rattle.record.specs.Staged.{noStaged, isIdle, stagedBy, missingBytes}
 use Rattle.record.specs.Queue.{readySlots, takenSlots, freeBytes}
@@ -17,7 +19,7 @@ use Rattle.record.specs.Rules.{valid}
 use Rattle.record.proofs.Rules.{valid-facts}
 use Rattle.record.proofs.Unfinished.{Unfinished, staged-idle, staged-open}
 use Rattle.word.proofs.Tests.{or-false}
-use Rattle.queue.specs.Refusals.{RefusalRow, _when_, firstRefusal, setUpTable, openTable, submitTable, pieceTable, cancelTable, pendingTable}
+use Rattle.queue.specs.Refusals.{RefusalRow, _when_, firstRefusal, setUpTable, openTable, submitTable, pieceTable, cancelTable, closeTable, pendingTable}
 
 -- a record that breaks a rule
 pub eleven : (rows : List RefusalRow) (v : Bool) → v ≡ false → 11 ≡ firstRefusal (11 when not v ∷ rows)
@@ -46,7 +48,7 @@ set-up-allowed setup e =
 
 pub record OpenAllowed (engine : Record) (w : Window) : Type 0 where
   pub ok : valid engine ≡ true
-  pub few : engine .opened < 4
+  pub few : length (openWindows engine) < 4
   pub good : badWindow (engine .setup) (openWindows engine) w ≡ false
 
 pub open-allowed : (engine : Record) (w : Window) → firstRefusal (openTable engine w) ≡ 0 → OpenAllowed engine w
@@ -122,6 +124,28 @@ cancel-allowed engine client e =
     let first = clear (cancelTable engine client) e (omega arith) in
     let five = first .1 (omega arith) in
     own engine client (not-false (valid engine) (first .0)) (not-false (isOpen engine client) (five .0)) (not-false (stagedBy (engine .staged) client) (five .1 (omega arith) .0))
+
+pub record CloseAllowed (engine : Record) (given client : ℕ) : Type 0 where
+  pub ok : valid engine ≡ true
+  pub memory : given ≡ engine .setup .memory
+  pub owner : isOpen engine client ≡ true
+  pub none : countOf client (readyBatches (engine .slots)) ≡ 0
+  pub idle : stagedBy (engine .staged) client ≡ false
+
+pub close-allowed : (engine : Record) (given client : ℕ) → firstRefusal (closeTable engine given client) ≡ 0 → CloseAllowed engine given client
+close-allowed engine given client e =
+    let first = clear (closeTable engine given client) e (omega arith) in
+    let ten = first .1 (omega arith) in
+    let five = ten .1 (omega arith) in
+    let last = or-false (ltb 0 (countOf client (readyBatches (engine .slots)))) (stagedBy (engine .staged) client) (five .1 (omega arith) .0) in
+    let few : countOf client (readyBatches (engine .slots)) ≤ 0 = ltb-false _ _ (last .0) in
+    record {
+      ok = not-false (valid engine) (first .0);
+      memory = eqb-true _ _ (not-false (eqb given (engine .setup .memory)) (ten .0));
+      owner = not-false (isOpen engine client) (five .0);
+      none = omega arith;
+      idle = last .1;
+    }
 
 pub record PendingAllowed (engine : Record) (client : ℕ) : Type 0 where
   pub ok : valid engine ≡ true

@@ -5,20 +5,19 @@ use mathlib.Core.Bool.{true, false}
 use mathlib.Core.Logic.{⊎-elim}
 use Prim.Native.Nat.{ℕ, _+_, _≤_, _<_}
 use native.Mathlib.Omega.{arith}
-use lib.ListN.{length, length-take}
-use lib.Seq.{getD-take}
-use borrow.Author.Tests.{ltb-true}
+use lib.ListN.{length}
 use Rattle.ring.specs.Segment.{LiesInRing}
 use Rattle.ring.proofs.Wrapped.{wrapped-below}
 use Rattle.ring.proofs.Segment.{lies-wrapped}
 use Rattle.record.specs.declared.Record.{Record}
 use Rattle.record.specs.Slots.{readyBatches, countOf}
-use Rattle.record.specs.Clients.{isOpen, noClient, openClients, clientAt}
+use Rattle.record.specs.Clients.{isOpen, clientAt}
 use Rattle.record.specs.Staged.{noStaged, isIdle}
 use Rattle.record.specs.Queue.{readySlots, readyBytes, takenBytes, writeOffset}
 use Rattle.record.specs.Rules.{valid}
 use Rattle.record.specs.Tickets.{inTicketOrder}
 use Rattle.record.proofs.Rules.{Valid, valid-facts, ready-within, write-first}
+use Rattle.record.proofs.Clients.{open-place}
 use Rattle.record.proofs.Opened.{counts-at, counts-small}
 use Rattle.record.proofs.Unfinished.{Unfinished, staged-cases}
 use Rattle.queue.specs.Calls.{pieceOffset}
@@ -53,20 +52,16 @@ module _ (engine : Record) (ok : valid engine ≡ true) where
 
   module _ (client : ℕ) (owner : isOpen engine client ≡ true) where
     pub client-small : client < 4
-    client-small = omega (arith, ltb-true client (engine .opened) owner, facts .numbers .clients)
+    client-small = open-place engine client owner .0
 
     pub pending-small : clientAt engine client .pending ≤ readySlots engine
-    pending-small =
-        rw (getD-take (engine .opened) (engine .clients) client noClient (ltb-true client (engine .opened) owner)) at
-        (counts-small 0 client (openClients engine) (readyBatches (engine .slots)) (facts .counts))
+    pending-small = counts-small client (engine .clients) (readyBatches (engine .slots)) (facts .counts) (open-place engine client owner .1)
 
     -- an open client's count is that of its ready batches
-    pub pending-right : length (engine .clients) ≡ 4 → clientAt engine client .pending ≡ countOf client (readyBatches (engine .slots))
-    pending-right long =
-        let below = ltb-true client (engine .opened) owner in
+    pub pending-right : clientAt engine client .pending ≡ countOf client (readyBatches (engine .slots))
+    pending-right =
         let z : 0 + client ≡ client = omega arith in
-        rw (getD-take (engine .opened) (engine .clients) client noClient below, z) at
-        (counts-at 0 client (openClients engine) (readyBatches (engine .slots)) (facts .counts) (simp length-take (omega (arith, facts .numbers .clients))))
+        rw z at (counts-at 0 client (engine .clients) (readyBatches (engine .slots)) (facts .counts) (open-place engine client owner .1))
 
 -- a batch that is accepted lies in the ring
 pub submit-lies : (engine : Record) (ring : List ℕ) (client size : ℕ) → SubmitAllowed engine (length ring) client size → LiesInRing ring (writeOffset engine) size

@@ -10,6 +10,7 @@ use Rattle.record.specs.declared.Setup.{Setup}
 use Rattle.record.specs.declared.Window.{Window}
 use Rattle.record.specs.declared.Record.{Record}
 use Rattle.record.specs.Slots.{lowestFree}
+use Rattle.record.specs.Clients.{lowestClosed}
 use Rattle.record.specs.Staged.{noStaged, missingBytes}
 use Rattle.record.specs.Rules.{stagedRule, valid}
 use Rattle.record.proofs.Rules.{length-good}
@@ -17,11 +18,11 @@ use Rattle.record.proofs.Unfinished.{unfinished-kept, idle-kept}
 use Rattle.queue.specs.declared.Answer.{Answer}
 use Rattle.queue.specs.declared.Answer.the-variants.{Refused, Done, Opened, Accepted, Ready, Missing}
 use Rattle.queue.specs.Answers.{refusalNumberOf, valueOf, answerUnlessRefused}
-use Rattle.queue.specs.Refusals.{firstRefusal, setUpTable, openTable, submitTable, cancelTable, pendingTable}
-use Rattle.queue.specs.Calls.{unlessRefused, setUpResult, withClient, openResult, newBatch, withBatch, submitted, submitNumber, submitResult, submitRing, withStaged, begun, beginResult, more, isLast, pieceNumber, pieceAnswer, afterPiece, pieceResult, pieceRing, cancelResult, pendingAnswer}
-use Rattle.queue.proofs.Refusals.{set-up-allowed, open-allowed, SubmitAllowed, submit-allowed, PieceAllowed, piece-allowed}
-use Rattle.queue.proofs.Calls.{open-refused, submit-refused, begin-refused, piece-refused, cancel-refused}
-use Rattle.queue.proofs.Kept.{Sized, fresh-valid, open-sized, open-valid, staged-sized, staged-valid}
+use Rattle.queue.specs.Refusals.{firstRefusal, setUpTable, openTable, submitTable, cancelTable, closeTable, pendingTable}
+use Rattle.queue.specs.Calls.{unlessRefused, setUpResult, withClient, openResult, newBatch, withBatch, submitted, submitNumber, submitResult, submitRing, withStaged, begun, beginResult, more, isLast, pieceNumber, pieceAnswer, afterPiece, pieceResult, pieceRing, cancelResult, withoutClient, closeResult, pendingAnswer}
+use Rattle.queue.proofs.Refusals.{set-up-allowed, open-allowed, SubmitAllowed, submit-allowed, PieceAllowed, piece-allowed, close-allowed}
+use Rattle.queue.proofs.Calls.{open-refused, submit-refused, begin-refused, piece-refused, cancel-refused, close-refused}
+use Rattle.queue.proofs.Kept.{Sized, fresh-valid, open-sized, open-valid, staged-sized, staged-valid, close-sized, close-valid}
 use Rattle.queue.proofs.Submitted.{added-sized, added-valid, submit-addable, staged-addable}
 
 -- ---- the paper's numbers
@@ -42,7 +43,7 @@ set-up-number setup = number-answered (firstRefusal (setUpTable setup)) Done ref
 
 pub open-number : (engine : Record) (w : Window) → refusalNumberOf (openResult engine w .answer) ≡ firstRefusal (openTable engine w)
 unfolding openResult
-open-number engine w = number-answered (firstRefusal (openTable engine w)) (Opened (engine .opened)) refl
+open-number engine w = number-answered (firstRefusal (openTable engine w)) (Opened (lowestClosed (engine .clients))) refl
 
 pub submit-number : (engine : Record) (ring : List ℕ) (client : ℕ) (batch : List ℕ) → refusalNumberOf (submitResult engine ring client batch .answer) ≡ submitNumber engine ring client batch
 unfolding submitResult
@@ -66,6 +67,10 @@ piece-number engine ring client piece = number-answered (pieceNumber engine ring
 pub cancel-number : (engine : Record) (client : ℕ) → refusalNumberOf (cancelResult engine client .answer) ≡ firstRefusal (cancelTable engine client)
 unfolding cancelResult
 cancel-number engine client = number-answered (firstRefusal (cancelTable engine client)) Done refl
+
+pub close-number : (engine : Record) (memory client : ℕ) → refusalNumberOf (closeResult engine memory client .answer) ≡ firstRefusal (closeTable engine memory client)
+unfolding closeResult
+close-number engine memory client = number-answered (firstRefusal (closeTable engine memory client)) Done refl
 
 pub pending-number : (engine : Record) (client : ℕ) → refusalNumberOf (pendingAnswer engine client) ≡ firstRefusal (pendingTable engine client)
 unfolding pendingAnswer
@@ -96,6 +101,10 @@ piece-same engine ring client piece z =
 pub cancel-same : (engine : Record) (client : ℕ) → (firstRefusal (cancelTable engine client) ≡ 0 → ⊥) →
     cancelResult engine client ≡ record { answer = Refused (firstRefusal (cancelTable engine client)); engine = engine }
 cancel-same engine client z = sym (cancel-refused engine client (firstRefusal (cancelTable engine client)) refl z)
+
+pub close-same : (engine : Record) (memory client : ℕ) → (firstRefusal (closeTable engine memory client) ≡ 0 → ⊥) →
+    closeResult engine memory client ≡ record { answer = Refused (firstRefusal (closeTable engine memory client)); engine = engine }
+close-same engine memory client z = sym (close-refused engine memory client (firstRefusal (closeTable engine memory client)) refl z)
 
 -- ---- a valid record stays valid
 
@@ -173,3 +182,9 @@ module _ (engine : Record) (s : Sized engine) (ok : valid engine ≡ true) where
   cancel-stays client =
       unless-keeps (λ e. (valid e ≡ true) × Sized e) (firstRefusal (cancelTable engine client)) engine (withStaged engine noStaged) (ok, s)
       (λ z. (staged-valid engine noStaged ok none-rule, staged-sized engine noStaged s))
+
+  pub close-stays : (memory client : ℕ) → (valid (closeResult engine memory client .engine) ≡ true) × Sized (closeResult engine memory client .engine)
+  unfolding closeResult
+  close-stays memory client =
+      unless-keeps (λ e. (valid e ≡ true) × Sized e) (firstRefusal (closeTable engine memory client)) engine (withoutClient engine client) (ok, s)
+      (λ z. (close-valid engine client s memory (close-allowed engine memory client z), close-sized engine client s))

@@ -4,10 +4,8 @@ use mathlib.Core.List.{List, [], _∷_, _++_}
 use mathlib.Core.Bool.{true, false, cond}
 use Prim.Native.Nat.{ℕ, suc, _+_, _≤_, _<_}
 use native.Mathlib.Omega.{arith}
-use lib.ListN.{length, take, getD, set, length-set}
-use lib.Seq.{getD-take, take-set-lt, length-take-le}
+use lib.ListN.{length, getD, set, length-set}
 use lib.Dec.{eqb}
-use borrow.Author.Tests.{ltb-true}
 use Rattle.ring.specs.Segment.{wrapOffset}
 use Rattle.ring.specs.Copied.{copiedIn}
 use Rattle.record.specs.declared.Batch.{Batch}
@@ -17,12 +15,13 @@ use Rattle.record.specs.declared.SlotState.the-variants.{Free}
 use Rattle.record.specs.Setup.{badLength}
 use Rattle.record.specs.Slots.{free, readyWith, readyBatches, totalLength, countOf, lowestFree}
 use Rattle.record.specs.Tickets.{ticketAfter, slotOfTicket, inTicketOrder}
-use Rattle.record.specs.Clients.{isOpen, noClient, openClients, openWindows, pendingCountsMatch}
+use Rattle.record.specs.Clients.{isOpen, noClient, openWindows, pendingCountsMatch}
 use Rattle.record.specs.Queue.{readySlots, readyBytes, writeOffset, waiting}
 use Rattle.record.specs.Rules.{numberRules, windowsRule, ticketsRule, endToEndRule, lengthsRule, ownersRule, pendingRule, stagedRule, valid}
 use Rattle.record.proofs.Added.{lowest-below, lowest-free, sum-new, length-new, order-new, given-more, next-absent}
 use Rattle.record.proofs.Line.{sum-snoc, lengths-snoc, open-snoc, end-last, held, held-new}
-use Rattle.record.proofs.Opened.{windows-set, open-more, counts-raised}
+use Rattle.record.proofs.Clients.{open-place, place-open}
+use Rattle.record.proofs.Opened.{windows-set, opened-set, open-more, counts-raised}
 use Rattle.record.proofs.Unfinished.{idle-kept}
 use Rattle.record.proofs.Rules.{Valid, valid-facts, valid-made, numbers-kept, sum-waiting, ready-within}
 use Rattle.queue.specs.Calls.{newBatch, pendingRaised, withBatch}
@@ -32,7 +31,7 @@ use Rattle.queue.proofs.Kept.{Sized, few-taken}
 pub added-sized : (engine : Record) (at : ℕ) (b : Batch) → Sized engine → Sized (withBatch engine at b)
 unfolding withBatch
 added-sized engine at b s = record {
-  clients = length-set (engine .clients) (b .client) (record { window = getD (engine .clients) (b .client) noClient .window; pending = getD (engine .clients) (b .client) noClient .pending + 1 }) ∙ s .clients;
+  clients = length-set (engine .clients) (b .client) (record { window = getD (engine .clients) (b .client) noClient .window; pending = getD (engine .clients) (b .client) noClient .pending + 1; opened = getD (engine .clients) (b .client) noClient .opened }) ∙ s .clients;
   slots = length-set (engine .slots) at (readyWith b) ∙ s .slots;
   next = omega arith;
 }
@@ -107,25 +106,21 @@ module _ (engine : Record) (s : Sized engine) (at client size : ℕ) (a : Addabl
   -- the windows and the open clients are as they were
   pub added-windows : openWindows (withBatch engine at b) ≡ openWindows engine
   unfolding withBatch
-  added-windows =
-      let below = ltb-true client (engine .opened) (a .owner) in
-      rw (take-set-lt (engine .opened) (engine .clients) client (record { window = getD (engine .clients) client noClient .window; pending = getD (engine .clients) client noClient .pending + 1 }) below, ← getD-take (engine .opened) (engine .clients) client noClient below)
-      (windows-set (openClients engine) client _)
+  added-windows = windows-set (engine .clients) client _
+
+  -- the same clients are open
+  added-open : (k : ℕ) → isOpen engine k ≡ true → isOpen (withBatch engine at b) k ≡ true
+  unfolding withBatch
+  added-open k e = let o = open-place engine k e in place-open (withBatch engine at b) k (o .0) (opened-set (engine .clients) client _ k ∙ o .1)
 
   window-rule : windowsRule engine ≡ true → windowsRule (withBatch engine at b) ≡ true
   unfolding withBatch
   window-rule e = rw added-windows e
 
-  counts : pendingCountsMatch 0 (take (engine .opened) (pendingRaised (engine .clients) client)) (readyBatches slots) ≡ true
+  counts : pendingCountsMatch 0 (pendingRaised (engine .clients) client) (readyBatches slots) ≡ true
   counts =
-      let below = ltb-true client (engine .opened) (a .owner) in
-      let long : length (openClients engine) ≡ engine .opened = length-take-le (engine .opened) (engine .clients) (omega (arith, v .numbers .clients, s .clients)) in
-      let z : 0 + client ≡ client = omega arith in
-      let more : (j : ℕ) → countOf j (readyBatches slots) ≡ cond (eqb (0 + client) j) 1 0 + countOf j (readyBatches (engine .slots)) =
-      λ j. sum-new b (λ x. cond (eqb (x .client) j) 1 0) (engine .slots) at inside (a .unused) ∙ rw z
-      in
-      rw (take-set-lt (engine .opened) (engine .clients) client (record { window = getD (engine .clients) client noClient .window; pending = getD (engine .clients) client noClient .pending + 1 }) below, ← getD-take (engine .opened) (engine .clients) client noClient below)
-      (counts-raised 0 client (openClients engine) (readyBatches (engine .slots)) (readyBatches slots) _ (omega arith) more (v .counts))
+      counts-raised client (engine .clients) (readyBatches (engine .slots)) (readyBatches slots) (open-place engine client (a .owner) .1)
+      (λ j. sum-new b (λ x. cond (eqb (x .client) j) 1 0) (engine .slots) at inside (a .unused)) (v .counts)
 
   number-rule : numberRules (withBatch engine at b) ≡ true
   unfolding withBatch
@@ -142,7 +137,7 @@ module _ (engine : Record) (s : Sized engine) (at client size : ℕ) (a : Addabl
     rw order (end-last (engine .setup .ring) (engine .read) (v .numbers .below) (waiting engine) b (v .within) (v .ends) placed),
     rw order (lengths-snoc (engine .setup .ring) (waiting engine) b (v .lengths) (a .allowed)),
     rw order (omega (arith, sum-snoc (λ x. x .length) (waiting engine) b, fits)),
-    rw order (open-more engine (withBatch engine at b) (waiting engine ++ (b ∷ [])) (omega arith) (open-snoc engine (waiting engine) b (v .owners) (a .owner))),
+    rw order (open-more engine (withBatch engine at b) (waiting engine ++ (b ∷ [])) added-open (open-snoc engine (waiting engine) b (v .owners) (a .owner))),
   )
 
   count-rule : pendingRule (withBatch engine at b) ≡ true

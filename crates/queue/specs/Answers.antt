@@ -13,7 +13,7 @@ refusalNumberOf (Ready count) = 0
 refusalNumberOf (Missing bytes) = 0
 
 -- what else is answered: by open the client's id, by submit the ticket, by pending the number of the client's ready batches. "A piece answers the bytes
--- still to come, the last its ticket" (02, 6). Set up, begin and cancel answer nothing. "A refusal gives only its number."
+-- still to come, the last its ticket" (02, 6). Set up, begin, cancel and close answer nothing. "A refusal gives only its number."
 abbrev pub valueOf : Answer → ℕ
 valueOf (Refused number) = 0
 valueOf Done = 0

@@ -1,7 +1,7 @@
 -- What each call answers, and record and ring after it, for every record, ring and batch (01, "Engine, desks, queue"). A refusal leaves
--- record and ring as they were. Batches handed over by pieces: 02, 6.
+-- record and ring as they were. Batches handed over by pieces: 02, 6. Closing: 02, 11.
 use mathlib.Core.List.{List, [], _∷_}
-use mathlib.Core.Bool.{Bool, cond}
+use mathlib.Core.Bool.{Bool, true, cond}
 use Prim.Native.Nat.{ℕ, zero, suc, _+_}
 use lib.ListN.{length, getD, set}
 use lib.Dec.{eqb}
@@ -17,14 +17,14 @@ use Rattle.record.specs.declared.Record.{Record}
 use Rattle.record.specs.declared.Staged.{Staged}
 use Rattle.record.specs.Slots.{free, readyWith, readyBatches, countOf, lowestFree}
 use Rattle.record.specs.Tickets.{ticketAfter}
-use Rattle.record.specs.Clients.{noClient}
+use Rattle.record.specs.Clients.{noClient, lowestClosed}
 use Rattle.record.specs.Staged.{noStaged, missingBytes}
 use Rattle.record.specs.Queue.{writeOffset}
 use Rattle.queue.specs.declared.Answer.{Answer}
 use Rattle.queue.specs.declared.Answer.the-variants.{Done, Opened, Accepted, Ready, Missing}
 use Rattle.queue.specs.declared.Reply.{Reply}
 use Rattle.queue.specs.Answers.{answerUnlessRefused}
-use Rattle.queue.specs.Refusals.{firstRefusal, setUpTable, openTable, submitTable, pieceTable, cancelTable, pendingTable}
+use Rattle.queue.specs.Refusals.{firstRefusal, setUpTable, openTable, submitTable, pieceTable, cancelTable, closeTable, pendingTable}
 
 -- a refusal number, 0 for none: what was there, or else what comes of the call
 unfoldable pub unlessRefused : {A : Type 0} → (number : ℕ) → A → A → A
@@ -38,7 +38,6 @@ unfoldable pub initialRecord : Setup → Record
 initialRecord setup = record {
   setup = setup;
   clients = noClient ∷ noClient ∷ noClient ∷ noClient ∷ [];
-  opened = 0;
   slots = free ∷ free ∷ free ∷ free ∷ free ∷ free ∷ free ∷ free ∷ [];
   read = 0;
   next = 0;
@@ -58,23 +57,22 @@ setUpResult ring memory common reset =
 
 -- ---- open
 
--- the record with one client more; its id is the number of clients before it
+-- the record with one client more, at the lowest place that is closed
 unfoldable pub withClient : Record → Window → Record
 withClient engine w = record {
   setup = engine .setup;
-  clients = set (engine .clients) (engine .opened) (record { window = w; pending = 0 });
-  opened = engine .opened + 1;
+  clients = set (engine .clients) (lowestClosed (engine .clients)) (record { window = w; pending = 0; opened = true });
   slots = engine .slots;
   read = engine .read;
   next = engine .next;
   staged = engine .staged;
 }
 
--- "ids are 0 to 3 in order of opening"
+-- "ids are 0 to 3"; "opening takes the lowest free id" (02, 11)
 unfoldable pub openResult : Record → Window → Reply
 openResult engine w =
     let number : ℕ = firstRefusal (openTable engine w) in
-    record { answer = answerUnlessRefused number (Opened (engine .opened)); engine = unlessRefused number engine (withClient engine w) }
+    record { answer = answerUnlessRefused number (Opened (lowestClosed (engine .clients))); engine = unlessRefused number engine (withClient engine w) }
 
 -- ---- submit
 
@@ -84,14 +82,13 @@ newBatch engine client size = record { client = client; ticket = engine .next; o
 
 -- the clients with one batch more pending for one of them
 abbrev pub pendingRaised : List Client → ℕ → List Client
-pendingRaised clients client = set clients client (record { window = getD clients client noClient .window; pending = getD clients client noClient .pending + 1 })
+pendingRaised clients client = set clients client (record { window = getD clients client noClient .window; pending = getD clients client noClient .pending + 1; opened = getD clients client noClient .opened })
 
 -- the record with the batch in the slot `at`. No submission is staged then: a submit with one is refused (13), and the last piece ends it
 unfoldable pub withBatch : Record → (at : ℕ) → Batch → Record
 withBatch engine at batch = record {
   setup = engine .setup;
   clients = pendingRaised (engine .clients) (batch .client);
-  opened = engine .opened;
   slots = set (engine .slots) at (readyWith batch);
   read = engine .read;
   next = ticketAfter (engine .next);
@@ -123,7 +120,6 @@ unfoldable pub withStaged : Record → Staged → Record
 withStaged engine staged = record {
   setup = engine .setup;
   clients = engine .clients;
-  opened = engine .opened;
   slots = engine .slots;
   read = engine .read;
   next = engine .next;
@@ -185,6 +181,25 @@ unfoldable pub cancelResult : Record → (client : ℕ) → Reply
 cancelResult engine client =
     let number : ℕ = firstRefusal (cancelTable engine client) in
     record { answer = answerUnlessRefused number Done; engine = unlessRefused number engine (withStaged engine noStaged) }
+
+-- ---- close (02, 11)
+
+-- the record without a client: "the id and window are free"
+unfoldable pub withoutClient : Record → (client : ℕ) → Record
+withoutClient engine client = record {
+  setup = engine .setup;
+  clients = set (engine .clients) client noClient;
+  slots = engine .slots;
+  read = engine .read;
+  next = engine .next;
+  staged = engine .staged;
+}
+
+-- close answers nothing. `memory`: the length of the memory that is lent; what becomes of it is the engine's `closeMemory`
+unfoldable pub closeResult : Record → (memory client : ℕ) → Reply
+closeResult engine memory client =
+    let number : ℕ = firstRefusal (closeTable engine memory client) in
+    record { answer = answerUnlessRefused number Done; engine = unlessRefused number engine (withoutClient engine client) }
 
 -- ---- pending
 

@@ -1,13 +1,15 @@
--- When a call is refused (01, "Engine, desks, queue", the table and the order below it: "11 first, then 10, then as listed downward"; 02, 6: 13 and 14
--- stand "after 5").
+-- When a call is refused (01, "Engine, desks, queue", the table and the order below it: "11 first, then 10, then as listed downward"; 02, 6 and 11: 13, 14
+-- and 18 stand "after 5").
 use mathlib.Core.List.{List, [], _∷_}
 use mathlib.Core.Bool.{Bool, cond, not, _||_}
 use Prim.Native.Nat.{ℕ}
+use lib.ListN.{length}
 use lib.Dec.{ltb, eqb, leb}
 use Rattle.record.specs.declared.Setup.{Setup}
 use Rattle.record.specs.declared.Window.{Window}
 use Rattle.record.specs.declared.Record.{Record}
 use Rattle.record.specs.Setup.{badRing, badMemory, badLength}
+use Rattle.record.specs.Slots.{readyBatches, countOf}
 use Rattle.record.specs.Clients.{isOpen, openWindows, badWindow}
 use Rattle.record.specs.Staged.{isIdle, stagedBy, missingBytes}
 use Rattle.record.specs.Queue.{takenSlots, freeBytes}
@@ -30,11 +32,11 @@ setUpTable setup =
     ∷ 2 when badMemory setup
     ∷ []
 
--- open
+-- open; '"Four desks open" counts open ones' (02, 11)
 abbrev pub openTable : Record → Window → List RefusalRow
 openTable engine w =
     11 when not (valid engine)
-    ∷ 3 when leb 4 (engine .opened)
+    ∷ 3 when leb 4 (length (openWindows engine))
     ∷ 4 when badWindow (engine .setup) (openWindows engine) w
     ∷ []
 
@@ -65,6 +67,15 @@ cancelTable engine client =
     11 when not (valid engine)
     ∷ 5 when not (isOpen engine client)
     ∷ 14 when not (stagedBy (engine .staged) client)
+    ∷ []
+
+-- close (02, 11: "It needs no ready batch and no open hand-over of that desk"); lent: the length of the memory that is lent
+abbrev pub closeTable : Record → (lent client : ℕ) → List RefusalRow
+closeTable engine lent client =
+    11 when not (valid engine)
+    ∷ 10 when not (eqb lent (engine .setup .memory))
+    ∷ 5 when not (isOpen engine client)
+    ∷ 18 when (ltb 0 (countOf client (readyBatches (engine .slots))) || stagedBy (engine .staged) client)
     ∷ []
 
 -- pending

@@ -1,16 +1,16 @@
-// The calls that don't draw: set up, open, submit, begin, piece, cancel and pending.
+// The calls that don't draw: set up, open, submit, begin, piece, cancel and pending; and what close does to the record.
 ghost use mathlib.Core.Path.{_≡_};
 ghost use mathlib.Core.Bool.{true, cond};
 ghost use Prim.Native.Nat.{_≤_, _<_};
 ghost use lib.ListN.{length, getD, set};
 ghost use Rattle.record.specs.Slots.{readyWith, readyBatches, lowestFree};
 ghost use Rattle.record.specs.Tickets.{ticketAfter};
-ghost use Rattle.record.specs.Clients.{noClient, clientAt};
+ghost use Rattle.record.specs.Clients.{noClient, clientAt, lowestClosed};
 ghost use Rattle.record.specs.Queue.{readySlots, takenSlots, freeBytes, writeOffset};
 ghost use Rattle.record.specs.Staged.{stagedSlots, stagedBy, missingBytes};
 ghost use Rattle.record.specs.Rules.{valid};
-ghost use Rattle.queue.specs.Refusals.{firstRefusal, setUpTable, openTable, submitTable, pieceTable, cancelTable, pendingTable};
-ghost use Rattle.queue.specs.Calls.{initialRecord, setUpResult, withClient, openResult, pendingRaised, newBatch, withBatch, submitResult, submitRing, withStaged, withReceived, beginResult, pieceResult, pieceRing, cancelResult, pendingAnswer};
+ghost use Rattle.queue.specs.Refusals.{firstRefusal, setUpTable, openTable, submitTable, pieceTable, cancelTable, closeTable, pendingTable};
+ghost use Rattle.queue.specs.Calls.{initialRecord, setUpResult, withClient, openResult, pendingRaised, newBatch, withBatch, submitResult, submitRing, withStaged, withReceived, beginResult, pieceResult, pieceRing, cancelResult, withoutClient, pendingAnswer};
 use record::Batch;
 use record::Client;
 use record::Record;
@@ -43,25 +43,32 @@ pub fn first_refusal(holds: bool, number: u32, rest: u32) -> u32
     if holds { number } else { rest }
 }
 
-// A record of no client and no batch.
-fn fresh_record(setup: Setup) -> Record
-    ensures { λ r. ⌜ r ≡ initialRecord setup ⌝ }
+// A place that is not open.
+fn no_client() -> Client
+    ensures { λ r. ⌜ r ≡ noClient ⌝ }
 {
     let window = Window {
         start: 0,
         length: 0,
     };
-    let clients = [Client {
+    Client {
         window: window,
         pending: 0,
-    }; 4];
+        opened: false,
+    }
+}
+
+// A record of no client and no batch.
+fn fresh_record(setup: Setup) -> Record
+    ensures { λ r. ⌜ r ≡ initialRecord setup ⌝ }
+{
+    let clients = [no_client(); 4];
     let slots = [Slot {
         state: SlotState::Free,
     }; 8];
     Record {
         setup: setup,
         clients: clients,
-        opened: 0,
         slots: slots,
         read: 0,
         next: 0,
@@ -113,24 +120,24 @@ fn open_refusal(engine: Record, w: Window) -> u32
     }
     let setup = engine.setup;
     let clients = engine.clients;
-    let opened = engine.opened;
-    let bad = record::bad_window(setup, clients, 0, opened, w);
-    first_refusal(4 <= opened, 3, first_refusal(bad, 4, 0))
+    let id = record::lowest_closed(clients);
+    let bad = record::bad_window(setup, clients, 0, w);
+    first_refusal(4 <= id, 3, first_refusal(bad, 4, 0))
 }
 
-fn with_client(engine: Record, w: Window) -> Record
-    requires { ⌜ engine .opened < 4 ⌝ }
+// The record with a client more, whose id is the lowest that is free.
+fn with_client(engine: Record, id: usize, w: Window) -> Record
+    requires { ⌜ (id ≡ lowestClosed (engine .clients)) × (id < 4) ⌝ }
     ensures { λ r. ⌜ r ≡ withClient engine w ⌝ }
 {
-    let at = engine.opened;
     let mut clients = engine.clients;
-    clients[at] = Client {
+    clients[id] = Client {
         window: w,
         pending: 0,
+        opened: true,
     };
     let mut after = engine;
     after.clients = clients;
-    after.opened = at + 1;
     after
 }
 
@@ -149,9 +156,11 @@ pub fn open(engine: Record, start: u32, length: u32) -> Reply
             engine: engine,
         };
     }
+    let clients = engine.clients;
+    let id = record::lowest_closed(clients);
     Reply {
-        answer: Answer::Opened(engine.opened as u32),
-        engine: with_client(engine, w),
+        answer: Answer::Opened(id as u32),
+        engine: with_client(engine, id, w),
     }
 }
 
@@ -231,6 +240,7 @@ fn raise(clients: [Client; 4], client: u32) -> [Client; 4]
     after[at] = Client {
         window: window,
         pending: old.pending + 1,
+        opened: old.opened,
     };
     after
 }
@@ -463,6 +473,34 @@ pub fn cancel(engine: Record, client: u32) -> Reply
         answer: Answer::Done,
         engine: with_staged(engine, record::no_staged()),
     }
+}
+
+// What close is refused with, 0 if it is not; `given` is the length of the memory that is lent.
+pub fn close_refusal(engine: Record, given: usize, client: u32) -> u32
+    ensures { λ r. ⌜ r ≡ firstRefusal (closeTable engine given client) ⌝ }
+{
+    let setup = engine.setup;
+    let slots = engine.slots;
+    let staged = engine.staged;
+    let ready = record::count_of(slots, client);
+    let own = staged_by(staged, client);
+    let no18 = first_refusal((0 < ready) | own, 18, 0);
+    let no5 = first_refusal(!record::is_open(engine, client), 5, no18);
+    let no10 = first_refusal(!(given == setup.memory), 10, no5);
+    first_refusal(!record::is_valid(engine), 11, no10)
+}
+
+// The record without a client: its id and its window are free.
+pub fn without_client(engine: Record, client: u32) -> Record
+    requires { ⌜ client < 4 ⌝ }
+    ensures { λ r. ⌜ r ≡ withoutClient engine client ⌝ }
+{
+    let at = client as usize;
+    let mut clients = engine.clients;
+    clients[at] = no_client();
+    let mut after = engine;
+    after.clients = clients;
+    after
 }
 
 // The count at a client's place.

@@ -1,13 +1,13 @@
--- Laws of the open clients when one is added or a count is raised.
+-- Laws of the open clients when one is opened or closed, or a count changes.
 use mathlib.Core.Path.{_≡_, refl, ap, ap₂, sym, _∙_}
-use mathlib.Core.List.{List, [], _∷_, _++_}
-use mathlib.Core.Bool.{Bool, true, false, cond, _||_, not}
-use Prim.Native.Nat.{ℕ, zero, suc, _+_, _≤_, _<_, min, max}
+use mathlib.Core.List.{List, [], _∷_}
+use mathlib.Core.Bool.{Bool, true, false, cond, _||_, _&&_, not}
+use Prim.Native.Nat.{ℕ, zero, suc, _+_, _-_, _≤_, min, max}
 use native.Mathlib.Nat.{add-zero}
 use native.Mathlib.Omega.{arith}
 use lib.ListN.{length, getD, set}
 use lib.Dec.{ltb, eqb}
-use borrow.Author.Tests.{ltb-true, lt-ltb, eqb-true, eq-eqb, ne-eqb, not-true}
+use borrow.Author.Tests.{eqb-true, eq-eqb, ne-eqb, not-true}
 use Rattle.word.proofs.Tests.{and-true, or-false}
 use Rattle.range.specs.declared.Range.{Range}
 use Rattle.range.specs.Range.{containedIn, overlaps}
@@ -19,6 +19,7 @@ use Rattle.record.specs.declared.Record.{Record}
 use Rattle.record.specs.Slots.{sumOver, countOf}
 use Rattle.record.specs.Clients.{isOpen, noClient, windowsOf, windowRange, prefixRange, overlapsAny, badWindow, windowsValid, pendingCountsMatch}
 use Rattle.record.specs.Rules.{clientsOpen}
+use Rattle.record.proofs.Clients.{shares-cons, valid-cons}
 
 -- ---- windows
 
@@ -28,24 +29,49 @@ shared-sym r q =
     let b : min (r .end) (q .end) ≡ min (q .end) (r .end) = omega arith in
     ap₂ ltb a b
 
-pub windows-snoc : (cs : List Client) (c : Client) → windowsOf (cs ++ (c ∷ [])) ≡ windowsOf cs ++ (c .window ∷ [])
-unfolding windowsOf
-windows-snoc [] c = refl
-windows-snoc (d ∷ cs) c = ap (λ (ws : List Window). d .window ∷ ws) (windows-snoc cs c)
-
 -- another count beside the same window
-pub windows-set : (cs : List Client) (k : ℕ) (pending : ℕ) → windowsOf (set cs k (record { window = getD cs k noClient .window; pending = pending })) ≡ windowsOf cs
+abbrev pub recounted : List Client → (k pending : ℕ) → List Client
+recounted cs k pending = set cs k (record { window = getD cs k noClient .window; pending = pending; opened = getD cs k noClient .opened })
+
+pub windows-set : (cs : List Client) (k : ℕ) (pending : ℕ) → windowsOf (recounted cs k pending) ≡ windowsOf cs
 unfolding windowsOf
 windows-set [] k p = refl
 windows-set (c ∷ cs) zero p = refl
-windows-set (c ∷ cs) (suc k) p = ap (λ (ws : List Window). c .window ∷ ws) (windows-set cs k p)
+windows-set (c ∷ cs) (suc k) p = ap (λ (ws : List Window). cond (c .opened) (c .window ∷ ws) ws) (windows-set cs k p)
 
-shares-snoc : (bytes : Range) (ws : List Window) (w : Window) → overlapsAny bytes ws ≡ false → overlaps bytes (windowRange w) ≡ false → overlapsAny bytes (ws ++ (w ∷ [])) ≡ false
-unfolding overlapsAny
-shares-snoc bytes [] w e h = rw h
-shares-snoc bytes (v ∷ ws) w e h =
-    let both = or-false (overlaps bytes (windowRange v)) (overlapsAny bytes ws) e in
-    rw (both .0) (shares-snoc bytes ws w (both .1) h)
+-- the same clients are open
+pub opened-set : (cs : List Client) (k : ℕ) (pending j : ℕ) → getD (recounted cs k pending) j noClient .opened ≡ getD cs j noClient .opened
+opened-set [] k p j = refl
+opened-set (c ∷ cs) zero p zero = refl
+opened-set (c ∷ cs) zero p (suc j) = refl
+opened-set (c ∷ cs) (suc k) p zero = refl
+opened-set (c ∷ cs) (suc k) p (suc j) = opened-set cs k p j
+
+-- an open client at a place leaves the others open, and any one leaves the others as they were
+pub opened-more : (cs : List Client) (k j : ℕ) (new : Client) → new .opened ≡ true → getD cs j noClient .opened ≡ true → getD (set cs k new) j noClient .opened ≡ true
+opened-more [] k j new n e = e
+opened-more (c ∷ cs) zero zero new n e = n
+opened-more (c ∷ cs) zero (suc j) new n e = e
+opened-more (c ∷ cs) (suc k) zero new n e = e
+opened-more (c ∷ cs) (suc k) (suc j) new n e = opened-more cs k j new n e
+
+pub opened-other : (cs : List Client) (k j : ℕ) (new : Client) → ¬ (j ≡ k) → getD cs j noClient .opened ≡ true → getD (set cs k new) j noClient .opened ≡ true
+opened-other [] k j new n e = e
+opened-other (c ∷ cs) zero zero new n e = absurd (n refl)
+opened-other (c ∷ cs) zero (suc j) new n e = e
+opened-other (c ∷ cs) (suc k) zero new n e = e
+opened-other (c ∷ cs) (suc k) (suc j) new n e = opened-other cs k j new (λ q. n (ap suc q)) e
+
+-- another client at a place, one that is closed or apart from the bytes
+shares-put : (bytes : Range) (cs : List Client) (k : ℕ) (new : Client) → overlapsAny bytes (windowsOf cs) ≡ false → (new .opened && overlaps bytes (windowRange (new .window))) ≡ false →
+    overlapsAny bytes (windowsOf (set cs k new)) ≡ false
+shares-put bytes [] k new e h = e
+shares-put bytes (c ∷ cs) zero new e h =
+    let both = or-false (c .opened && overlaps bytes (windowRange (c .window))) (overlapsAny bytes (windowsOf cs)) (sym (shares-cons bytes c cs) ∙ e) in
+    rw (shares-cons bytes new cs, h) (both .1)
+shares-put bytes (c ∷ cs) (suc k) new e h =
+    let both = or-false (c .opened && overlaps bytes (windowRange (c .window))) (overlapsAny bytes (windowsOf cs)) (sym (shares-cons bytes c cs) ∙ e) in
+    rw (shares-cons bytes c (set cs k new), both .0) (shares-put bytes cs k new (both .1) h)
 
 -- the tests behind a window that is not bad
 pub record WindowGood (setup : Setup) (others : List Window) (w : Window) : Type 0 where
@@ -57,39 +83,82 @@ window-good setup others w e =
     let both = or-false (eqb (w .length) 0 || not (containedIn (windowRange w) (prefixRange (setup .memory))) || overlaps (windowRange w) (prefixRange (setup .common))) (overlapsAny (windowRange w) others) e in
     record { alone = both .0; apart = both .1 }
 
-pub none-snoc : (setup : Setup) (ws : List Window) (w : Window) → windowsValid setup ws ≡ true → badWindow setup ws w ≡ false → windowsValid setup (ws ++ (w ∷ [])) ≡ true
-unfolding windowsValid overlapsAny
-none-snoc setup [] w e h = rw h
-none-snoc setup (v ∷ ws) w e h =
-    let both = and-true (not (badWindow setup ws v)) (windowsValid setup ws) e in
-    let mine = window-good setup ws v (not-true (badWindow setup ws v) (both .0)) in
-    let new = window-good setup (v ∷ ws) w h in
-    let near = or-false (overlaps (windowRange w) (windowRange v)) (overlapsAny (windowRange w) ws) (new .apart) in
-    let meet : overlaps (windowRange v) (windowRange w) ≡ false = shared-sym (windowRange v) (windowRange w) ∙ near .0 in
-    let good : badWindow setup (ws ++ (w ∷ [])) v ≡ false = rw (mine .alone) (shares-snoc (windowRange v) ws w (mine .apart) meet) in
-    let rest : badWindow setup ws w ≡ false = rw (new .alone) (near .1) in
-    rw good (none-snoc setup ws w (both .1) rest)
+-- another client at a place, one that is closed or whose window is good beside all of them
+pub none-put : (setup : Setup) (cs : List Client) (k : ℕ) (new : Client) → windowsValid setup (windowsOf cs) ≡ true → (new .opened && badWindow setup (windowsOf cs) (new .window)) ≡ false →
+    windowsValid setup (windowsOf (set cs k new)) ≡ true
+none-put setup [] k new e h = e
+none-put setup (c ∷ cs) k new e h = place k (λ k r o. none-put setup cs k new r o)
+  where
+    rest : windowsValid setup (windowsOf cs) ≡ true
+    rest = and-true (not (c .opened && badWindow setup (windowsOf cs) (c .window))) (windowsValid setup (windowsOf cs)) (sym (valid-cons setup c cs) ∙ e) .1
+
+    mine : (c .opened && badWindow setup (windowsOf cs) (c .window)) ≡ false
+    mine = not-true _ (and-true (not (c .opened && badWindow setup (windowsOf cs) (c .window))) (windowsValid setup (windowsOf cs)) (sym (valid-cons setup c cs) ∙ e) .0)
+
+    -- the new one beside the first, and beside the others
+    beside : badWindow setup (windowsOf (c ∷ cs)) (new .window) ≡ false →
+        ((c .opened && overlaps (windowRange (new .window)) (windowRange (c .window))) ≡ false) × (badWindow setup (windowsOf cs) (new .window) ≡ false)
+    beside b =
+        let good = window-good setup (windowsOf (c ∷ cs)) (new .window) b in
+        let both = or-false (c .opened && overlaps (windowRange (new .window)) (windowRange (c .window))) (overlapsAny (windowRange (new .window)) (windowsOf cs)) (sym (shares-cons (windowRange (new .window)) c cs) ∙ good .apart) in
+        (both .0, rw (good .alone) (both .1))
+
+    others : (new .opened && badWindow setup (windowsOf cs) (new .window)) ≡ false
+    others = go (new .opened) refl
+      where
+        go : (t : Bool) → new .opened ≡ t → (new .opened && badWindow setup (windowsOf cs) (new .window)) ≡ false
+        go false q = rw q
+        go true q = rw q (beside (rw q at h) .1)
+
+    -- the first one beside the new one
+    first : (k : ℕ) → (c .opened && badWindow setup (windowsOf (set cs k new)) (c .window)) ≡ false
+    first k = go (c .opened) refl (new .opened) refl
+      where
+        go : (t : Bool) → c .opened ≡ t → (n : Bool) → new .opened ≡ n → (c .opened && badWindow setup (windowsOf (set cs k new)) (c .window)) ≡ false
+        go false q n p = rw q
+        go true q n p =
+            let good = window-good setup (windowsOf cs) (c .window) (rw q at mine) in
+            let meet : (n : Bool) → new .opened ≡ n → (new .opened && overlaps (windowRange (c .window)) (windowRange (new .window))) ≡ false = apart q in
+            rw (q, good .alone) (shares-put (windowRange (c .window)) cs k new (good .apart) (meet n p))
+          where
+            apart : c .opened ≡ true → (n : Bool) → new .opened ≡ n → (new .opened && overlaps (windowRange (c .window)) (windowRange (new .window))) ≡ false
+            apart q false p = rw p
+            apart q true p = rw p (shared-sym (windowRange (c .window)) (windowRange (new .window)) ∙ (rw q at (beside (rw p at h) .0)))
+
+    place : (k : ℕ) → ((k : ℕ) → windowsValid setup (windowsOf cs) ≡ true → (new .opened && badWindow setup (windowsOf cs) (new .window)) ≡ false → windowsValid setup (windowsOf (set cs k new)) ≡ true) →
+        windowsValid setup (windowsOf (set (c ∷ cs) k new)) ≡ true
+    place zero ih = rw (valid-cons setup new cs, others) rest
+    place (suc k) ih = rw (valid-cons setup c (set cs k new), first k) (ih k rest others)
 
 -- ---- owners
 
--- a record with more clients open
-pub open-more : (engine after : Record) (bs : List Batch) → engine .opened ≤ after .opened → clientsOpen engine bs ≡ true → clientsOpen after bs ≡ true
+-- a record after it, in which the clients of the batches are open
+pub open-more : (engine after : Record) (bs : List Batch) → ((k : ℕ) → isOpen engine k ≡ true → isOpen after k ≡ true) → clientsOpen engine bs ≡ true → clientsOpen after bs ≡ true
 unfolding clientsOpen
 open-more engine after [] h e = refl
 open-more engine after (b ∷ bs) h e =
     let both = and-true (isOpen engine (b .client)) (clientsOpen engine bs) e in
-    let l = ltb-true (b .client) (engine .opened) (both .0) in
-    rw (lt-ltb (b .client) (after .opened) (omega arith)) (open-more engine after bs h (both .1))
+    rw (h (b .client) (both .0)) (open-more engine after bs h (both .1))
 
 -- a client that is not open has no batch
-pub open-none : (engine : Record) (client : ℕ) (bs : List Batch) → engine .opened ≤ client → clientsOpen engine bs ≡ true → countOf client bs ≡ 0
+pub open-none : (engine : Record) (client : ℕ) (bs : List Batch) → isOpen engine client ≡ false → clientsOpen engine bs ≡ true → countOf client bs ≡ 0
 unfolding clientsOpen sumOver
 open-none engine client [] h e = refl
 open-none engine client (b ∷ bs) h e =
     let both = and-true (isOpen engine (b .client)) (clientsOpen engine bs) e in
-    let l = ltb-true (b .client) (engine .opened) (both .0) in
     let none = open-none engine client bs h (both .1) in
-    rw (ne-eqb (b .client) client (omega arith)) (omega arith)
+    let other : ¬ (b .client ≡ client) = λ q. let z : isOpen engine client ≡ true = rw (← q) (both .0) in let n : _≡_ {A = ℕ} 0 1 = cc in absurd (omega arith) in
+    rw (ne-eqb (b .client) client other) (omega arith)
+
+-- the others stay open when one that has no batch is closed
+pub open-fewer : (engine after : Record) (client : ℕ) (bs : List Batch) → ((k : ℕ) → ¬ (k ≡ client) → isOpen engine k ≡ true → isOpen after k ≡ true) → countOf client bs ≡ 0 →
+    clientsOpen engine bs ≡ true → clientsOpen after bs ≡ true
+unfolding clientsOpen sumOver
+open-fewer engine after client [] h n e = refl
+open-fewer engine after client (b ∷ bs) h n e =
+    let both = and-true (isOpen engine (b .client)) (clientsOpen engine bs) e in
+    let other : ¬ (b .client ≡ client) = λ q. let f : _≡_ {A = ℕ} (cond (eqb (b .client) client) 1 0) 1 = rw (eq-eqb (b .client) client q) in omega arith in
+    rw (h (b .client) other (both .0)) (open-fewer engine after client bs h (omega arith) (both .1))
 
 -- ---- counts
 
@@ -102,26 +171,34 @@ count-most client (b ∷ bs) = go (eqb (b .client) client) (count-most client bs
     go true ih = omega arith
     go false ih = omega arith
 
--- an open client's count is that of its ready batches
-pub counts-at : (id k : ℕ) (cs : List Client) (bs : List Batch) → pendingCountsMatch id cs bs ≡ true → k < length cs → getD cs k noClient .pending ≡ countOf (id + k) bs
+-- the client is closed, or its count is that of its ready batches
+abbrev counted : (id : ℕ) → Client → List Batch → Bool
+counted id c bs = not (c .opened) || eqb (c .pending) (countOf id bs)
+
+counted-is : (id : ℕ) (c : Client) (bs : List Batch) → c .opened ≡ true → counted id c bs ≡ true → c .pending ≡ countOf id bs
+counted-is id c bs o e = eqb-true (c .pending) (countOf id bs) (rw o at e)
+
+pub counts-at : (id k : ℕ) (cs : List Client) (bs : List Batch) → pendingCountsMatch id cs bs ≡ true → getD cs k noClient .opened ≡ true → getD cs k noClient .pending ≡ countOf (id + k) bs
 unfolding pendingCountsMatch
-counts-at id k [] bs e h = absurd (omega arith)
-counts-at id zero (c ∷ cs) bs e h =
-    eqb-true _ _ (and-true (eqb (c .pending) (countOf id bs)) (pendingCountsMatch (suc id) cs bs) e .0) ∙ ap (λ (x : ℕ). countOf x bs) (sym (add-zero id))
-counts-at id (suc k) (c ∷ cs) bs e h =
-    counts-at (suc id) k cs bs (and-true (eqb (c .pending) (countOf id bs)) (pendingCountsMatch (suc id) cs bs) e .1) (omega arith)
+counts-at id k [] bs e o = let z : _≡_ {A = ℕ} 0 1 = cc in absurd (omega arith)
+counts-at id zero (c ∷ cs) bs e o =
+    counted-is id c bs o (and-true (counted id c bs) (pendingCountsMatch (suc id) cs bs) e .0) ∙ ap (λ (x : ℕ). countOf x bs) (sym (add-zero id))
+counts-at id (suc k) (c ∷ cs) bs e o =
+    counts-at (suc id) k cs bs (and-true (counted id c bs) (pendingCountsMatch (suc id) cs bs) e .1) o
     ∙ ap (λ (x : ℕ). countOf x bs) (omega arith)
 
-pub counts-snoc : (id : ℕ) (cs : List Client) (c : Client) (bs : List Batch) → pendingCountsMatch id cs bs ≡ true → c .pending ≡ countOf (id + length cs) bs →
-    pendingCountsMatch id (cs ++ (c ∷ [])) bs ≡ true
+-- another client at a place, one that is closed or whose count is right
+pub counts-put : (id k : ℕ) (cs : List Client) (new : Client) (bs : List Batch) → pendingCountsMatch id cs bs ≡ true → counted (id + k) new bs ≡ true →
+    pendingCountsMatch id (set cs k new) bs ≡ true
 unfolding pendingCountsMatch
-counts-snoc id [] c bs e h =
-    let z : c .pending ≡ countOf id bs = h ∙ ap (λ (x : ℕ). countOf x bs) (add-zero id) in
-    rw (eq-eqb (c .pending) (countOf id bs) z)
-counts-snoc id (d ∷ cs) c bs e h =
-    let both = and-true (eqb (d .pending) (countOf id bs)) (pendingCountsMatch (suc id) cs bs) e in
-    let z : id + suc (length cs) ≡ suc id + length cs = omega arith in
-    rw (both .0) (counts-snoc (suc id) cs c bs (both .1) (h ∙ ap (λ (x : ℕ). countOf x bs) z))
+counts-put id k [] new bs e h = e
+counts-put id zero (c ∷ cs) new bs e h =
+    let z : counted id new bs ≡ true = rw (add-zero id) at h in
+    rw z (and-true (counted id c bs) (pendingCountsMatch (suc id) cs bs) e .1)
+counts-put id (suc k) (c ∷ cs) new bs e h =
+    let both = and-true (counted id c bs) (pendingCountsMatch (suc id) cs bs) e in
+    let z : id + suc k ≡ suc id + k = omega arith in
+    rw (both .0) (counts-put (suc id) k cs new bs (both .1) (rw z at h))
 
 -- other batches with the same counts
 pub counts-same : (id : ℕ) (cs : List Client) (bs after : List Batch) → ((j : ℕ) → id ≤ j → countOf j after ≡ countOf j bs) → pendingCountsMatch id cs bs ≡ true →
@@ -129,32 +206,43 @@ pub counts-same : (id : ℕ) (cs : List Client) (bs after : List Batch) → ((j 
 unfolding pendingCountsMatch
 counts-same id [] bs after h e = refl
 counts-same id (c ∷ cs) bs after h e =
-    let both = and-true (eqb (c .pending) (countOf id bs)) (pendingCountsMatch (suc id) cs bs) e in
+    let both = and-true (counted id c bs) (pendingCountsMatch (suc id) cs bs) e in
     rw (h id (omega arith), both .0) (counts-same (suc id) cs bs after (λ j p. h j (omega arith)) (both .1))
 
--- one batch more of one client
-pub counts-raised : (id k : ℕ) (cs : List Client) (bs after : List Batch) (w : Window) → k < length cs →
-    ((j : ℕ) → countOf j after ≡ cond (eqb (id + k) j) 1 0 + countOf j bs) → pendingCountsMatch id cs bs ≡ true →
-    pendingCountsMatch id (set cs k (record { window = w; pending = getD cs k noClient .pending + 1 })) after ≡ true
+-- other batches, of which one client has so many
+pub counts-changed : (id k : ℕ) (cs : List Client) (bs after : List Batch) (n : ℕ) → getD cs k noClient .opened ≡ true → n ≡ countOf (id + k) after →
+    ((j : ℕ) → ¬ (id + k ≡ j) → countOf j after ≡ countOf j bs) → pendingCountsMatch id cs bs ≡ true → pendingCountsMatch id (recounted cs k n) after ≡ true
 unfolding pendingCountsMatch
-counts-raised id k [] bs after w l h e = absurd (omega arith)
-counts-raised id zero (c ∷ cs) bs after w l h e =
-    let both = and-true (eqb (c .pending) (countOf id bs)) (pendingCountsMatch (suc id) cs bs) e in
-    let old = eqb-true (c .pending) (countOf id bs) (both .0) in
-    let one : countOf id after ≡ 1 + countOf id bs = h id ∙ rw (eq-eqb (id + 0) id (omega arith)) in
-    let rest = counts-same (suc id) cs bs after (λ j p. h j ∙ rw (ne-eqb (id + 0) j (omega arith)) (omega arith)) (both .1) in
-    rw (eq-eqb (c .pending + 1) (countOf id after) (omega arith)) rest
-counts-raised id (suc k) (c ∷ cs) bs after w l h e =
-    let both = and-true (eqb (c .pending) (countOf id bs)) (pendingCountsMatch (suc id) cs bs) e in
-    let same : countOf id after ≡ countOf id bs = h id ∙ rw (ne-eqb (id + suc k) id (omega arith)) (omega arith) in
+counts-changed id k [] bs after n o c h e = e
+counts-changed id zero (c ∷ cs) bs after n o q h e =
+    let both = and-true (counted id c bs) (pendingCountsMatch (suc id) cs bs) e in
+    let z : n ≡ countOf id after = q ∙ ap (λ (x : ℕ). countOf x after) (add-zero id) in
+    rw (o, eq-eqb n (countOf id after) z) (counts-same (suc id) cs bs after (λ j p. h j (λ u. omega arith)) (both .1))
+counts-changed id (suc k) (c ∷ cs) bs after n o q h e =
+    let both = and-true (counted id c bs) (pendingCountsMatch (suc id) cs bs) e in
     let z : suc id + k ≡ id + suc k = omega arith in
-    rw (same, both .0) (counts-raised (suc id) k cs bs after w (omega arith) (rw z h) (both .1))
+    rw (h id (λ u. omega arith), both .0) (counts-changed (suc id) k cs bs after n o (rw z q) (rw z h) (both .1))
 
--- no count is over the number of ready batches
-pub counts-small : (id k : ℕ) (cs : List Client) (bs : List Batch) → pendingCountsMatch id cs bs ≡ true → getD cs k noClient .pending ≤ length bs
-unfolding pendingCountsMatch
-counts-small id k [] bs e = omega arith
-counts-small id zero (c ∷ cs) bs e =
-    omega (arith, count-most id bs, eqb-true (c .pending) (countOf id bs) (and-true (eqb (c .pending) (countOf id bs)) (pendingCountsMatch (suc id) cs bs) e .0))
-counts-small id (suc k) (c ∷ cs) bs e =
-    counts-small (suc id) k cs bs (and-true (eqb (c .pending) (countOf id bs)) (pendingCountsMatch (suc id) cs bs) e .1)
+-- one batch more of one client
+pub counts-raised : (k : ℕ) (cs : List Client) (bs after : List Batch) → getD cs k noClient .opened ≡ true →
+    ((j : ℕ) → countOf j after ≡ cond (eqb k j) 1 0 + countOf j bs) → pendingCountsMatch 0 cs bs ≡ true →
+    pendingCountsMatch 0 (recounted cs k (getD cs k noClient .pending + 1)) after ≡ true
+counts-raised k cs bs after o h e =
+    let z : 0 + k ≡ k = omega arith in
+    let old : getD cs k noClient .pending ≡ countOf k bs = rw z at (counts-at 0 k cs bs e o) in
+    let one : countOf k after ≡ 1 + countOf k bs = h k ∙ rw (eq-eqb k k refl) in
+    counts-changed 0 k cs bs after _ o (rw z (omega arith)) (λ j n. h j ∙ rw (ne-eqb k j (rw z at n)) (omega arith)) e
+
+-- one batch fewer of one client
+pub counts-lowered : (k : ℕ) (cs : List Client) (bs after : List Batch) → getD cs k noClient .opened ≡ true →
+    ((j : ℕ) → countOf j bs ≡ cond (eqb k j) 1 0 + countOf j after) → pendingCountsMatch 0 cs bs ≡ true →
+    pendingCountsMatch 0 (recounted cs k (getD cs k noClient .pending - 1)) after ≡ true
+counts-lowered k cs bs after o h e =
+    let z : 0 + k ≡ k = omega arith in
+    let old : getD cs k noClient .pending ≡ countOf k bs = rw z at (counts-at 0 k cs bs e o) in
+    let one : countOf k bs ≡ 1 + countOf k after = h k ∙ rw (eq-eqb k k refl) in
+    counts-changed 0 k cs bs after _ o (rw z (omega arith)) (λ j n. let q : countOf j bs ≡ 0 + countOf j after = h j ∙ rw (ne-eqb k j (rw z at n)) in omega arith) e
+
+-- no open client's count is over the number of ready batches
+pub counts-small : (k : ℕ) (cs : List Client) (bs : List Batch) → pendingCountsMatch 0 cs bs ≡ true → getD cs k noClient .opened ≡ true → getD cs k noClient .pending ≤ length bs
+counts-small k cs bs e o = omega (arith, counts-at 0 k cs bs e o, count-most (0 + k) bs)

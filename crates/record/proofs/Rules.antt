@@ -13,7 +13,7 @@ use Rattle.record.specs.Setup.{badRing, badMemory, badLength}
 use Rattle.record.specs.declared.Batch.{Batch}
 use Rattle.record.specs.Slots.{readyBatches, sumOver, totalLength}
 use Rattle.record.specs.Queue.{readySlots, readyBytes, freeBytes, writeOffset, waiting}
-use Rattle.record.specs.Rules.{ringRule, memoryRule, clientsRule, readRule, numberRules, windowsRule, ticketsRule, endToEndRule, lengthsRule, totalRule, ownersRule, batchRules, pendingRule, stagedRule, valid}
+use Rattle.record.specs.Rules.{ringRule, memoryRule, readRule, numberRules, windowsRule, ticketsRule, endToEndRule, lengthsRule, totalRule, ownersRule, batchRules, pendingRule, stagedRule, valid}
 use Rattle.ring.specs.Segment.{wrapOffset}
 use Rattle.ring.proofs.Wrapped.{wrapped-in}
 use Rattle.record.proofs.Line.{after-last}
@@ -59,20 +59,17 @@ length-good ring size e =
 pub record Numbers (engine : Record) : Type 0 where
   pub ring : RingGood (engine .setup .ring)
   pub memory : MemoryGood (engine .setup)
-  pub clients : engine .opened ≤ 4
   pub four : engine .read % 4 ≡ 0
   pub below : engine .read < engine .setup .ring
 
 pub numbers : (engine : Record) → numberRules engine ≡ true → Numbers engine
 numbers engine e =
-    let x = and-true (ringRule engine && memoryRule engine && clientsRule engine) (readRule engine) e in
-    let y = and-true (ringRule engine && memoryRule engine) (clientsRule engine) (x .0) in
-    let z = and-true (ringRule engine) (memoryRule engine) (y .0) in
+    let x = and-true (ringRule engine && memoryRule engine) (readRule engine) e in
+    let z = and-true (ringRule engine) (memoryRule engine) (x .0) in
     let r = and-true (eqb (engine .read % 4) 0) (ltb (engine .read) (engine .setup .ring)) (x .1) in
     record {
       ring = ring-good (engine .setup) (not-true (badRing (engine .setup)) (z .0));
       memory = memory-good (engine .setup) (not-true (badMemory (engine .setup)) (z .1));
-      clients = leb-true _ _ (y .1);
       four = eqb-true _ _ (r .0);
       below = ltb-true _ _ (r .1);
     }

@@ -7,7 +7,6 @@ use Prim.Native.Nat.{ℕ, zero, suc, _+_, _-_, _%_, _≤_, _<_}
 use native.Mathlib.Nat.{add-zero}
 use native.Mathlib.Omega.{arith}
 use lib.ListN.{length, getD, set}
-use lib.Seq.{getD-take, take-set-lt, length-take-le}
 use lib.Dec.{eqb}
 use borrow.Author.Tests.{ltb-true, lt-ltb, eqb-true, eq-eqb, ne-eqb, not-true}
 use Rattle.word.proofs.Tests.{split, and-true}
@@ -21,33 +20,15 @@ use Rattle.record.specs.declared.Record.{Record}
 use Rattle.record.specs.Setup.{badLength}
 use Rattle.record.specs.Slots.{free, readyBatches, sumOver, totalLength, countOf}
 use Rattle.record.specs.Tickets.{ticketBefore, slotOfTicket, batchOfTicket, inTicketOrder}
-use Rattle.record.specs.Clients.{isOpen, noClient, openClients, pendingCountsMatch}
+use Rattle.record.specs.Clients.{isOpen, noClient}
 use Rattle.record.specs.Queue.{readySlots, waiting}
-use Rattle.record.specs.Rules.{ringRule, memoryRule, clientsRule, readRule, numberRules, windowsRule, ticketsRule, endToEndRule, lengthsAllowed, lengthsRule, clientsOpen, ownersRule, pendingRule, stagedRule, valid}
+use Rattle.record.specs.Rules.{ringRule, memoryRule, readRule, numberRules, windowsRule, ticketsRule, endToEndRule, lengthsAllowed, lengthsRule, clientsOpen, ownersRule, pendingRule, stagedRule, valid}
 use Rattle.record.proofs.Order.{Oldest, oldest, order-freed, sum-split, sum-has}
 use Rattle.record.proofs.Line.{Headed, headed}
-use Rattle.record.proofs.Opened.{windows-set, open-more, counts-same}
+use Rattle.record.proofs.Clients.{open-place, place-open}
+use Rattle.record.proofs.Opened.{windows-set, opened-set, open-more, counts-lowered}
 use Rattle.record.proofs.Unfinished.{staged-stays, freed-free}
 use Rattle.record.proofs.Rules.{LengthGood, length-good, Valid, valid-facts, valid-made, numbers-kept}
-
--- one batch fewer of one client
-counts-lowered : (id k : ℕ) (cs : List Client) (bs after : List Batch) (w : Window) → k < length cs →
-    ((j : ℕ) → countOf j bs ≡ cond (eqb (id + k) j) 1 0 + countOf j after) → pendingCountsMatch id cs bs ≡ true →
-    pendingCountsMatch id (set cs k (record { window = w; pending = getD cs k noClient .pending - 1 })) after ≡ true
-unfolding pendingCountsMatch
-counts-lowered id k [] bs after w l h e = absurd (omega arith)
-counts-lowered id zero (c ∷ cs) bs after w l h e =
-    let both = and-true (eqb (c .pending) (countOf id bs)) (pendingCountsMatch (suc id) cs bs) e in
-    let old = eqb-true (c .pending) (countOf id bs) (both .0) in
-    let one : countOf id bs ≡ 1 + countOf id after = h id ∙ rw (eq-eqb (id + 0) id (omega arith)) in
-    let rest = counts-same (suc id) cs bs after (λ j p. let z = h j in let q : countOf j bs ≡ 0 + countOf j after = z ∙ rw (ne-eqb (id + 0) j (omega arith)) in omega arith) (both .1) in
-    rw (eq-eqb (c .pending - 1) (countOf id after) (omega arith)) rest
-counts-lowered id (suc k) (c ∷ cs) bs after w l h e =
-    let both = and-true (eqb (c .pending) (countOf id bs)) (pendingCountsMatch (suc id) cs bs) e in
-    let same : countOf id bs ≡ 0 + countOf id after = h id ∙ rw (ne-eqb (id + suc k) id (omega arith)) in
-    let like : countOf id after ≡ countOf id bs = omega arith in
-    let z : suc id + k ≡ id + suc k = omega arith in
-    rw (like, both .0) (counts-lowered (suc id) k cs bs after w (omega arith) (rw z h) (both .1))
 
 -- k batches are ready beside the oldest one
 module _ (engine : Record) (ok : valid engine ≡ true) (k : ℕ) (some : readySlots engine ≡ suc k) (few : k < 8) (four : length (engine .clients) ≡ 4) where
@@ -115,26 +96,26 @@ module _ (engine : Record) (ok : valid engine ≡ true) (k : ℕ) (some : readyS
   owned = and-true (isOpen engine (first .client)) (clientsOpen engine rest) (rw waiting-first at (v .owners))
 
   -- its client is open
-  pub first-owner : first .client < engine .opened
-  first-owner = ltb-true (first .client) (engine .opened) (owned .0)
+  pub first-owner : isOpen engine (first .client) ≡ true
+  first-owner = owned .0
 
   -- the record without it
   abbrev pub lowered : Client
-  lowered = record { window = getD (engine .clients) (first .client) noClient .window; pending = getD (engine .clients) (first .client) noClient .pending - 1 }
+  lowered = record { window = getD (engine .clients) (first .client) noClient .window; pending = getD (engine .clients) (first .client) noClient .pending - 1; opened = getD (engine .clients) (first .client) noClient .opened }
 
   abbrev pub taken : Record
   taken = record {
     setup = engine .setup;
     clients = set (engine .clients) (first .client) lowered;
-    opened = engine .opened;
     slots = left;
     read = wrapOffset (engine .setup .ring) (engine .read + first .length);
     next = engine .next;
     staged = engine .staged;
   }
 
-  taken-clients : openClients taken ≡ set (openClients engine) (first .client) lowered
-  taken-clients = take-set-lt (engine .opened) (engine .clients) (first .client) lowered first-owner
+  -- the same clients are open
+  taken-open : (j : ℕ) → isOpen engine j ≡ true → isOpen taken j ≡ true
+  taken-open j h = let o = open-place engine j h in place-open taken j (o .0) (opened-set (engine .clients) (first .client) _ j ∙ o .1)
 
   at-four : wrapOffset (engine .setup .ring) (engine .read + first .length) % 4 ≡ 0
   at-four =
@@ -147,14 +128,13 @@ module _ (engine : Record) (ok : valid engine ≡ true) (k : ℕ) (some : readyS
 
   numbers-taken : numberRules taken ≡ true
   numbers-taken =
-      let x = and-true (ringRule engine && memoryRule engine && clientsRule engine) (readRule engine) (numbers-kept engine ok) in
+      let x = and-true (ringRule engine && memoryRule engine) (readRule engine) (numbers-kept engine ok) in
       let on : ℕ = wrapOffset (engine .setup .ring) (engine .read + first .length) in
       let below : on < engine .setup .ring = wrapped-below (engine .setup .ring) (engine .read + first .length) (omega (arith, v .numbers .below, whole)) in
       rw (x .0, eq-eqb (on % 4) 0 at-four, lt-ltb on (engine .setup .ring) below)
 
   windows-taken : windowsRule taken ≡ true
-  windows-taken =
-      rw (taken-clients, ← getD-take (engine .opened) (engine .clients) (first .client) noClient first-owner, windows-set (openClients engine) (first .client) _) (v .windows)
+  windows-taken = rw (windows-set (engine .clients) (first .client) _) (v .windows)
 
   tickets-taken : ticketsRule taken ≡ true
   tickets-taken = rw left-few (found .rest)
@@ -171,21 +151,15 @@ module _ (engine : Record) (ok : valid engine ≡ true) (k : ℕ) (some : readyS
   total-taken = rw left-order (omega (arith, whole))
 
   owners-taken : ownersRule taken ≡ true
-  owners-taken = rw left-order (open-more engine taken rest (omega arith) (owned .1))
+  owners-taken = rw left-order (open-more engine taken rest taken-open (owned .1))
 
   counts-taken : pendingRule taken ≡ true
   counts-taken =
-      let long : length (openClients engine) ≡ engine .opened = length-take-le (engine .opened) (engine .clients) (omega (arith, v .numbers .clients)) in
-      let z : 0 + first .client ≡ first .client = omega arith in
-      let fewer : (j : ℕ) → countOf j (readyBatches (engine .slots)) ≡ cond (eqb (0 + first .client) j) 1 0 + countOf j (readyBatches left) =
-      λ j. left-sum (λ x. cond (eqb (x .client) j) 1 0) ∙ rw z
-      in
-      rw (taken-clients, ← getD-take (engine .opened) (engine .clients) (first .client) noClient first-owner)
-      (counts-lowered 0 (first .client) (openClients engine) (readyBatches (engine .slots)) (readyBatches left) _ (omega (arith, first-owner)) fewer (v .counts))
+      counts-lowered (first .client) (engine .clients) (readyBatches (engine .slots)) (readyBatches left) (open-place engine (first .client) first-owner .1) (λ j. left-sum (λ x. cond (eqb (x .client) j) 1 0)) (v .counts)
 
   staged-taken : stagedRule taken ≡ true
   staged-taken =
-      staged-stays engine taken refl refl (omega arith) (omega (arith, left-sum (λ b. b .length)))
+      staged-stays engine taken refl refl (λ _. taken-open (engine .staged .client)) (omega (arith, left-sum (λ b. b .length)))
       (λ i. freed-free (engine .slots) (slotOfTicket ticket (engine .slots)) i) (v .staged)
 
   -- it stays valid, and the others wait in their order

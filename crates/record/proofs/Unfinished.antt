@@ -99,8 +99,9 @@ module _ (engine : Record) where
       go true i = inl (staged-idle e i)
       go false i = inr (i, staged-open e i)
 
--- a record after it, with the same staged submission, that opens clients or frees slots and room
-pub staged-stays : (engine after : Record) → after .staged ≡ engine .staged → after .setup .ring ≡ engine .setup .ring → engine .opened ≤ after .opened →
+-- a record after it, with the same staged submission, whose client stays open, that frees slots and room
+pub staged-stays : (engine after : Record) → after .staged ≡ engine .staged → after .setup .ring ≡ engine .setup .ring →
+    (isIdle (engine .staged) ≡ false → isOpen engine (engine .staged .client) ≡ true → isOpen after (engine .staged .client) ≡ true) →
     readyBytes after ≤ readyBytes engine → ((i : ℕ) → getD (engine .slots) i free .state ≡ Free → getD (after .slots) i free .state ≡ Free) →
     stagedRule engine ≡ true → stagedRule after ≡ true
 staged-stays engine after g r o b f e =
@@ -109,7 +110,7 @@ staged-stays engine after g r o b f e =
     (λ (u : (isIdle (engine .staged) ≡ false) × Unfinished engine).
     let v = u .1 in
     unfinished-kept after (record {
-      owner = rw g (lt-ltb (engine .staged .client) (after .opened) (omega (arith, ltb-true (engine .staged .client) (engine .opened) (v .owner))));
+      owner = rw g (o (u .0) (v .owner));
       allowed = rw (g, r) (v .allowed);
       room = rw (g, r) (omega (arith, v .room));
       short = rw g (v .short);

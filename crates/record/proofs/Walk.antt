@@ -6,8 +6,8 @@ use mathlib.Core.Logic.{⊎-elim}
 use Prim.Native.Nat.{ℕ, zero, suc, _+_, _-_, _≤_, _<_}
 use native.Mathlib.Omega.{arith}
 use lib.ListN.{length, getD}
-use lib.Dec.{leb, ltb, eqb}
-use borrow.Author.Tests.{lt-ltb, le-ltb, le-leb, lt-leb, leb-true, eqb-true, ltb-true, not-true}
+use lib.Dec.{leb, eqb}
+use borrow.Author.Tests.{lt-ltb, le-ltb, le-leb, lt-leb, leb-true, eqb-true, not-true}
 use Rattle.word.proofs.Tests.{split, and-true}
 use Rattle.ring.specs.Segment.{wrapOffset}
 use Rattle.record.specs.declared.Batch.{Batch}
@@ -16,23 +16,24 @@ use Rattle.record.specs.declared.Record.{Record}
 use Rattle.record.specs.Setup.{badLength}
 use Rattle.record.specs.Slots.{free, sumOver, totalLength}
 use Rattle.record.specs.Tickets.{ticketBefore, slotOfTicket, isReadyTicket, batchInState, batchOfTicket, ticketsConsecutive, inTicketOrder}
+use Rattle.record.specs.Clients.{isOpen}
 use Rattle.record.specs.Rules.{endToEnd, lengthsAllowed, clientsOpen}
 
 -- the rules of one batch but its ticket
-abbrev pub fitsIn : (ring opened offset room : ℕ) → Batch → Bool
-fitsIn ring opened offset room b = eqb (b .offset) offset && not (badLength ring (b .length)) && leb (b .length) room && ltb (b .client) opened
+abbrev pub fitsIn : (ring : ℕ) (opened : ℕ → Bool) (offset room : ℕ) → Batch → Bool
+fitsIn ring opened offset room b = eqb (b .offset) offset && not (badLength ring (b .length)) && leb (b .length) room && opened (b .client)
 
 -- the batches with the k tickets before the next one keep their rules, from `offset` on, in a room of so many bytes
-unfoldable pub walk : (ring opened k next : ℕ) → List Slot → (offset room : ℕ) → Bool
+unfoldable pub walk : (ring : ℕ) (opened : ℕ → Bool) (k next : ℕ) → List Slot → (offset room : ℕ) → Bool
 walk ring opened zero next slots offset room = true
 walk ring opened (suc k) next slots offset room =
     let b : Batch = batchOfTicket (ticketBefore next (suc k)) slots in
-    isReadyTicket (ticketBefore next (suc k)) slots && eqb (b .offset) offset && not (badLength ring (b .length)) && leb (b .length) room && ltb (b .client) opened
+    isReadyTicket (ticketBefore next (suc k)) slots && eqb (b .offset) offset && not (badLength ring (b .length)) && leb (b .length) room && opened (b .client)
     && walk ring opened k next slots (wrapOffset ring (offset + b .length)) (room - b .length)
 
 -- ---- a turn
 
-module _ (ring opened k next : ℕ) (slots : List Slot) (offset room : ℕ) (some : 0 < k) (i : ℕ) (at : i ≡ slotOfTicket (ticketBefore next k) slots) where
+module _ (ring : ℕ) (opened : ℕ → Bool) (k next : ℕ) (slots : List Slot) (offset room : ℕ) (some : 0 < k) (i : ℕ) (at : i ≡ slotOfTicket (ticketBefore next k) slots) where
   pub walk-missing : length slots ≤ i → false ≡ walk ring opened k next slots offset room
   unfolding walk
   walk-missing h = go k some at
@@ -61,7 +62,7 @@ module _ (ring opened k next : ℕ) (slots : List Slot) (offset room : ℕ) (som
         walk ring opened (k - 1) next slots on (room - b .length) ≡ walk ring opened k next slots offset room
     walk-next e on o = rw (walk-found, e, o)
 
-pub walk-done : (ring opened k next : ℕ) (slots : List Slot) (offset room : ℕ) → k ≤ 0 → true ≡ walk ring opened k next slots offset room
+pub walk-done : (ring : ℕ) (opened : ℕ → Bool) (k next : ℕ) (slots : List Slot) (offset room : ℕ) → k ≤ 0 → true ≡ walk ring opened k next slots offset room
 unfolding walk
 walk-done ring opened k next slots offset room h =
     let e : k ≡ 0 = omega arith in
@@ -69,22 +70,22 @@ walk-done ring opened k next slots offset room h =
 
 -- ---- what a batch that fits keeps
 
-pub record Fitting (ring opened offset room : ℕ) (b : Batch) : Type 0 where
+pub record Fitting (ring : ℕ) (opened : ℕ → Bool) (offset room : ℕ) (b : Batch) : Type 0 where
   pub at : b .offset ≡ offset
   pub allowed : badLength ring (b .length) ≡ false
   pub within : b .length ≤ room
-  pub owner : b .client < opened
+  pub owner : opened (b .client) ≡ true
 
-pub fitting : (ring opened offset room : ℕ) (b : Batch) → fitsIn ring opened offset room b ≡ true → Fitting ring opened offset room b
+pub fitting : (ring : ℕ) (opened : ℕ → Bool) (offset room : ℕ) (b : Batch) → fitsIn ring opened offset room b ≡ true → Fitting ring opened offset room b
 fitting ring opened offset room b e =
-    let x = and-true (eqb (b .offset) offset && not (badLength ring (b .length)) && leb (b .length) room) (ltb (b .client) opened) e in
+    let x = and-true (eqb (b .offset) offset && not (badLength ring (b .length)) && leb (b .length) room) (opened (b .client)) e in
     let y = and-true (eqb (b .offset) offset && not (badLength ring (b .length))) (leb (b .length) room) (x .0) in
     let z = and-true (eqb (b .offset) offset) (not (badLength ring (b .length))) (y .0) in
     record {
       at = eqb-true _ _ (z .0);
       allowed = not-true (badLength ring (b .length)) (z .1);
       within = leb-true _ _ (y .1);
-      owner = ltb-true _ _ (x .1);
+      owner = x .1;
     }
 
 -- ---- the walk decides the rules
@@ -117,7 +118,7 @@ leb-add x y n = ⊎-elim over under (split n x)
         (split n (x + y))
 
 pub walk-rules : (engine : Record) (ring k next : ℕ) (slots : List Slot) (offset room : ℕ) →
-    walk ring (engine .opened) k next slots offset room ≡
+    walk ring (isOpen engine) k next slots offset room ≡
     (ticketsConsecutive k next slots && endToEnd ring offset (inTicketOrder k next slots) && lengthsAllowed ring (inTicketOrder k next slots)
     && leb (totalLength (inTicketOrder k next slots)) room && clientsOpen engine (inTicketOrder k next slots))
 unfolding walk ticketsConsecutive inTicketOrder endToEnd lengthsAllowed clientsOpen sumOver
@@ -127,5 +128,5 @@ walk-rules engine ring (suc k) next slots offset room =
     let rest : List Batch = inTicketOrder k next slots in
     let on : ℕ = wrapOffset ring (offset + b .length) in
     rw (walk-rules engine ring k next slots on (room - b .length), leb-add (b .length) (totalLength rest) room)
-    (shuffle (isReadyTicket (ticketBefore next (suc k)) slots) (eqb (b .offset) offset) (not (badLength ring (b .length))) (leb (b .length) room) (ltb (b .client) (engine .opened))
+    (shuffle (isReadyTicket (ticketBefore next (suc k)) slots) (eqb (b .offset) offset) (not (badLength ring (b .length))) (leb (b .length) room) (isOpen engine (b .client))
     (ticketsConsecutive k next slots) (endToEnd ring on rest) (lengthsAllowed ring rest) (leb (totalLength rest) (room - b .length)) (clientsOpen engine rest))

@@ -1,12 +1,11 @@
 -- What row 4 says of the windows of a valid record: inside memory, past the common area, and apart from each other.
-use mathlib.Core.Path.{_≡_, refl, ap, _∙_}
+use mathlib.Core.Path.{_≡_, sym, _∙_}
 use mathlib.Core.List.{List, [], _∷_}
 use mathlib.Core.Bool.{true, false, _&&_, _||_, not}
 use mathlib.Core.Logic.{⊎-elim}
 use Prim.Native.Nat.{ℕ, zero, suc, _+_, _≤_, _<_, min, max}
 use native.Mathlib.Omega.{arith}
-use lib.ListN.{length, getD, length-take}
-use lib.Seq.{getD-take}
+use lib.ListN.{getD}
 use lib.Dec.{ltb, eqb}
 use borrow.Author.Tests.{ltb-false, lt-ltb, le-ltb, eqb-false, not-true, not-false}
 use Rattle.word.proofs.Tests.{split, and-true, or-false}
@@ -17,7 +16,8 @@ use Rattle.record.specs.declared.Setup.{Setup}
 use Rattle.record.specs.declared.Window.{Window}
 use Rattle.record.specs.declared.Client.{Client}
 use Rattle.record.specs.declared.Record.{Record}
-use Rattle.record.specs.Clients.{noClient, openClients, clientAt, windowsOf, openWindows, windowRange, prefixRange, overlapsAny, badWindow, windowsValid}
+use Rattle.record.specs.Clients.{noClient, clientAt, isOpen, windowsOf, windowRange, prefixRange, overlapsAny, badWindow, windowsValid}
+use Rattle.record.proofs.Clients.{shares-cons, valid-cons, open-place}
 use Rattle.record.proofs.Opened.{window-good}
 use Rattle.record.proofs.Rules.{Valid}
 
@@ -36,57 +36,42 @@ placed setup others w e =
     let clear = ltb-false (max (w .start) 0) (min (w .start + w .length) (setup .common)) (x .1) in
     record { filled = omega arith; fits = ends .1; past = omega arith }
 
-abbrev noWindow : Window
-noWindow = noClient .window
-
 module _ (setup : Setup) where
-  none-placed : (k : ℕ) (ws : List Window) → windowsValid setup ws ≡ true → k < length ws → Placed setup (getD ws k noWindow)
-  unfolding windowsValid
-  none-placed k [] e h = absurd (omega arith)
-  none-placed zero (w ∷ ws) e h = placed setup ws w (not-true (badWindow setup ws w) (and-true (not (badWindow setup ws w)) (windowsValid setup ws) e .0))
-  none-placed (suc k) (w ∷ ws) e h = none-placed k ws (and-true (not (badWindow setup ws w)) (windowsValid setup ws) e .1) (omega arith)
+  both-valid : (c : Client) (cs : List Client) → windowsValid setup (windowsOf (c ∷ cs)) ≡ true →
+      (not (c .opened && badWindow setup (windowsOf cs) (c .window)) ≡ true) × (windowsValid setup (windowsOf cs) ≡ true)
+  both-valid c cs e = and-true (not (c .opened && badWindow setup (windowsOf cs) (c .window))) (windowsValid setup (windowsOf cs)) (sym (valid-cons setup c cs) ∙ e)
 
-  shares-at : (bytes : Range) (k : ℕ) (ws : List Window) → overlapsAny bytes ws ≡ false → k < length ws → overlaps bytes (windowRange (getD ws k noWindow)) ≡ false
-  unfolding overlapsAny
-  shares-at bytes k [] e h = absurd (omega arith)
-  shares-at bytes zero (w ∷ ws) e h = or-false (overlaps bytes (windowRange w)) (overlapsAny bytes ws) e .0
-  shares-at bytes (suc k) (w ∷ ws) e h = shares-at bytes k ws (or-false (overlaps bytes (windowRange w)) (overlapsAny bytes ws) e .1) (omega arith)
+  none-placed : (k : ℕ) (cs : List Client) → windowsValid setup (windowsOf cs) ≡ true → getD cs k noClient .opened ≡ true → Placed setup (getD cs k noClient .window)
+  none-placed k [] e o = let z : _≡_ {A = ℕ} 0 1 = cc in absurd (omega arith)
+  none-placed zero (c ∷ cs) e o = placed setup (windowsOf cs) (c .window) (not-true _ (rw o at (both-valid c cs e .0)))
+  none-placed (suc k) (c ∷ cs) e o = none-placed k cs (both-valid c cs e .1) o
 
-  none-apart : (j k : ℕ) (ws : List Window) → windowsValid setup ws ≡ true → j < k → k < length ws → overlaps (windowRange (getD ws j noWindow)) (windowRange (getD ws k noWindow)) ≡ false
-  unfolding windowsValid
-  none-apart j k [] e h l = absurd (omega arith)
-  none-apart zero zero (w ∷ ws) e h l = absurd (omega arith)
-  none-apart (suc j) zero (w ∷ ws) e h l = absurd (omega arith)
-  none-apart zero (suc k) (w ∷ ws) e h l =
-      let good = window-good setup ws w (not-true (badWindow setup ws w) (and-true (not (badWindow setup ws w)) (windowsValid setup ws) e .0)) in
-      shares-at (windowRange w) k ws (good .apart) (omega arith)
-  none-apart (suc j) (suc k) (w ∷ ws) e h l = none-apart j k ws (and-true (not (badWindow setup ws w)) (windowsValid setup ws) e .1) (omega arith) (omega arith)
+  both-apart : (bytes : Range) (c : Client) (cs : List Client) → overlapsAny bytes (windowsOf (c ∷ cs)) ≡ false →
+      ((c .opened && overlaps bytes (windowRange (c .window))) ≡ false) × (overlapsAny bytes (windowsOf cs) ≡ false)
+  both-apart bytes c cs e = or-false (c .opened && overlaps bytes (windowRange (c .window))) (overlapsAny bytes (windowsOf cs)) (sym (shares-cons bytes c cs) ∙ e)
 
-windows-at : (k : ℕ) (cs : List Client) → getD (windowsOf cs) k noWindow ≡ getD cs k noClient .window
-unfolding windowsOf
-windows-at k [] = refl
-windows-at zero (c ∷ cs) = refl
-windows-at (suc k) (c ∷ cs) = windows-at k cs
+  shares-at : (bytes : Range) (k : ℕ) (cs : List Client) → overlapsAny bytes (windowsOf cs) ≡ false → getD cs k noClient .opened ≡ true →
+      overlaps bytes (windowRange (getD cs k noClient .window)) ≡ false
+  shares-at bytes k [] e o = let z : _≡_ {A = ℕ} 0 1 = cc in absurd (omega arith)
+  shares-at bytes zero (c ∷ cs) e o = rw o at (both-apart bytes c cs e .0)
+  shares-at bytes (suc k) (c ∷ cs) e o = shares-at bytes k cs (both-apart bytes c cs e .1) o
 
-pub length-windows : (cs : List Client) → length (windowsOf cs) ≡ length cs
-unfolding windowsOf
-length-windows [] = refl
-length-windows (c ∷ cs) = ap suc (length-windows cs)
+  none-apart : (j k : ℕ) (cs : List Client) → windowsValid setup (windowsOf cs) ≡ true → j < k → getD cs j noClient .opened ≡ true → getD cs k noClient .opened ≡ true →
+      overlaps (windowRange (getD cs j noClient .window)) (windowRange (getD cs k noClient .window)) ≡ false
+  none-apart j k [] e h o p = let z : _≡_ {A = ℕ} 0 1 = cc in absurd (omega arith)
+  none-apart zero zero (c ∷ cs) e h o p = absurd (omega arith)
+  none-apart (suc j) zero (c ∷ cs) e h o p = absurd (omega arith)
+  none-apart zero (suc k) (c ∷ cs) e h o p =
+      let good = window-good setup (windowsOf cs) (c .window) (not-true _ (rw o at (both-valid c cs e .0))) in
+      shares-at (windowRange (c .window)) k cs (good .apart) p
+  none-apart (suc j) (suc k) (c ∷ cs) e h o p = none-apart j k cs (both-valid c cs e .1) (omega arith) o p
 
-module _ (engine : Record) (v : Valid engine) (four : length (engine .clients) ≡ 4) where
-  open-count : length (openWindows engine) ≡ engine .opened
-  open-count = length-windows (openClients engine) ∙ simp length-take (omega (arith, v .numbers .clients))
+module _ (engine : Record) (v : Valid engine) where
+  pub window-placed : (client : ℕ) → isOpen engine client ≡ true → Placed (engine .setup) (clientAt engine client .window)
+  window-placed client o = none-placed (engine .setup) client (engine .clients) (v .windows) (open-place engine client o .1)
 
-  -- an open client's window
-  pub window-is : (client : ℕ) → client < engine .opened → getD (openWindows engine) client noWindow ≡ clientAt engine client .window
-  window-is client h = windows-at client (openClients engine) ∙ ap (λ (c : Client). c .window) (getD-take (engine .opened) (engine .clients) client noClient h)
-
-  pub window-placed : (client : ℕ) → client < engine .opened → Placed (engine .setup) (clientAt engine client .window)
-  window-placed client h = rw (window-is client h) at (none-placed (engine .setup) client (openWindows engine) (v .windows) (omega (arith, open-count)))
-
-  pub windows-apart : (j k : ℕ) → j < k → k < engine .opened → overlaps (windowRange (clientAt engine j .window)) (windowRange (clientAt engine k .window)) ≡ false
-  windows-apart j k h l =
-      rw (window-is j (omega arith), window-is k l) at (none-apart (engine .setup) j k (openWindows engine) (v .windows) h (omega (arith, open-count)))
+  pub windows-apart : (j k : ℕ) → j < k → isOpen engine j ≡ true → isOpen engine k ≡ true → overlaps (windowRange (clientAt engine j .window)) (windowRange (clientAt engine k .window)) ≡ false
+  windows-apart j k h o p = none-apart (engine .setup) j k (engine .clients) (v .windows) h (open-place engine j o .1) (open-place engine k p .1)
 
 -- ---- sharing as two comparisons, where neither run is empty
 

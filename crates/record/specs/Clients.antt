@@ -1,9 +1,9 @@
--- Clients (01: desks) and their windows (01, "Engine, desks, queue"). Nothing but `isOpen` and `openClients` says which are open: what a
--- place that is not open holds is free.
+-- Clients (01: desks) and their windows (01, "Engine, desks, queue"). A client's id is its place, 0 to 3, and any of them may be open (02, 11:
+-- "Record rules amended for gaps in ids"). What a place that is not open holds is free: no definition looks at it.
 use mathlib.Core.List.{List, [], _∷_}
-use mathlib.Core.Bool.{Bool, true, false, _||_, _&&_, not}
+use mathlib.Core.Bool.{Bool, true, false, _||_, _&&_, not, cond}
 use Prim.Native.Nat.{ℕ, suc}
-use lib.ListN.{getD, take}
+use lib.ListN.{getD}
 use lib.Dec.{ltb, eqb}
 use Rattle.range.specs.declared.Range.{Range}
 use Rattle.range.specs.Range.{rangeOf, containedIn, overlaps}
@@ -14,30 +14,31 @@ use Rattle.record.specs.declared.Batch.{Batch}
 use Rattle.record.specs.declared.Record.{Record}
 use Rattle.record.specs.Slots.{countOf}
 
--- "ids are 0 to 3 in order of opening"
-abbrev pub isOpen : Record → ℕ → Bool
-isOpen engine client = ltb client (engine .opened)
-
--- the open clients, in the order of their ids
-abbrev pub openClients : Record → List Client
-openClients engine = take (engine .opened) (engine .clients)
-
--- what a place holds that was never opened
+-- what a place holds that was never opened, or that was closed
 abbrev pub noClient : Client
-noClient = record { window = record { start = 0; length = 0 }; pending = 0 }
+noClient = record { window = record { start = 0; length = 0 }; pending = 0; opened = false }
 
--- an open client's place
+-- the place of an id
 abbrev pub clientAt : Record → ℕ → Client
 clientAt engine client = getD (engine .clients) client noClient
 
--- the clients' windows
+-- there is such a client; "ids are 0 to 3"
+abbrev pub isOpen : Record → ℕ → Bool
+isOpen engine client = ltb client 4 && clientAt engine client .opened
+
+-- the windows of the open clients, in the order of their ids
 unfoldable pub windowsOf : List Client → List Window
 windowsOf [] = []
-windowsOf (c ∷ cs) = c .window ∷ windowsOf cs
+windowsOf (c ∷ cs) = cond (c .opened) (c .window ∷ windowsOf cs) (windowsOf cs)
 
 -- the windows that are taken
 abbrev pub openWindows : Record → List Window
-openWindows engine = windowsOf (openClients engine)
+openWindows engine = windowsOf (engine .clients)
+
+-- 02, 11: "opening takes the lowest free id"; the number of places if none is free
+unfoldable pub lowestClosed : List Client → ℕ
+lowestClosed [] = 0
+lowestClosed (c ∷ cs) = cond (c .opened) (suc (lowestClosed cs)) 0
 
 -- the bytes of memory that a window holds
 abbrev pub windowRange : Window → Range
@@ -62,7 +63,7 @@ unfoldable pub windowsValid : Setup → List Window → Bool
 windowsValid setup [] = true
 windowsValid setup (w ∷ ws) = not (badWindow setup ws w) && windowsValid setup ws
 
--- the clients, whose ids go on from `id`, have as many batches pending as are theirs
+-- the open ones of the clients, whose ids go on from `id`, have as many batches pending as are theirs
 unfoldable pub pendingCountsMatch : (id : ℕ) → List Client → List Batch → Bool
 pendingCountsMatch id [] batches = true
-pendingCountsMatch id (c ∷ cs) batches = eqb (c .pending) (countOf id batches) && pendingCountsMatch (suc id) cs batches
+pendingCountsMatch id (c ∷ cs) batches = (not (c .opened) || eqb (c .pending) (countOf id batches)) && pendingCountsMatch (suc id) cs batches

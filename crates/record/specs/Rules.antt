@@ -1,4 +1,4 @@
--- The record rules, one by one (01, "Engine, desks, queue", below the table; 02, 6). A call on a record that breaks one is refused with 11.
+-- The record rules, one by one (01, "Engine, desks, queue", below the table; 02, 6 and 11). A call on a record that breaks one is refused with 11.
 use mathlib.Core.List.{List, [], _∷_}
 use mathlib.Core.Bool.{Bool, true, _&&_, cond, not}
 use Prim.Native.Nat.{ℕ, _+_, _%_}
@@ -9,7 +9,7 @@ use Rattle.record.specs.declared.Record.{Record}
 use Rattle.record.specs.Setup.{badRing, badMemory, badLength}
 use Rattle.record.specs.Slots.{readyBatches, totalLength}
 use Rattle.record.specs.Tickets.{ticketsConsecutive}
-use Rattle.record.specs.Clients.{isOpen, openClients, openWindows, windowsValid, pendingCountsMatch}
+use Rattle.record.specs.Clients.{isOpen, openWindows, windowsValid, pendingCountsMatch}
 use Rattle.record.specs.Staged.{isIdle, slotHeld}
 use Rattle.record.specs.Queue.{readySlots, takenBytes, waiting}
 
@@ -21,13 +21,9 @@ ringRule engine = not (badRing (engine .setup))
 abbrev pub memoryRule : Record → Bool
 memoryRule engine = not (badMemory (engine .setup))
 
--- and of 4, for every open client
+-- and of 4, for every open client. "At most four desks": a record has four places
 abbrev pub windowsRule : Record → Bool
 windowsRule engine = windowsValid (engine .setup) (openWindows engine)
-
--- "at most four desks"
-abbrev pub clientsRule : Record → Bool
-clientsRule engine = leb (engine .opened) 4
 
 -- "the read offset is a multiple of 4 below the ring length"
 abbrev pub readRule : Record → Bool
@@ -71,7 +67,7 @@ ownersRule engine = clientsOpen engine (waiting engine)
 
 -- "pending counts equal the ready batches"
 abbrev pub pendingRule : Record → Bool
-pendingRule engine = pendingCountsMatch 0 (openClients engine) (readyBatches (engine .slots))
+pendingRule engine = pendingCountsMatch 0 (engine .clients) (readyBatches (engine .slots))
 
 -- while nothing is staged, no number of a staged submission is there
 abbrev pub idleRule : Record → Bool
@@ -90,7 +86,7 @@ stagedRule engine = cond (isIdle (engine .staged)) (idleRule engine) (unfinished
 
 -- the rules of the numbers
 abbrev pub numberRules : Record → Bool
-numberRules engine = ringRule engine && memoryRule engine && clientsRule engine && readRule engine
+numberRules engine = ringRule engine && memoryRule engine && readRule engine
 
 -- the rules of the ready batches
 abbrev pub batchRules : Record → Bool

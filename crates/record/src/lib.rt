@@ -3,14 +3,14 @@ ghost use mathlib.Core.Path.{_≡_};
 ghost use mathlib.Core.Bool.{true, not, _&&_};
 ghost use mathlib.Core.List.{[]};
 ghost use Prim.Native.Nat.{_+_, _%_, _≤_, _<_};
-ghost use lib.ListN.{length, take, drop};
+ghost use lib.ListN.{length, drop};
 ghost use lib.Dec.{leb, eqb};
 ghost use Rattle.ring.specs.Segment.{wrapOffset};
 ghost use Rattle.record.specs.Setup.{badRing, badMemory, badLength};
 ghost use Rattle.record.specs.Slots.{consIfReady, readyBatches, totalLength, countOf, isFreeState, lowestFree};
 ghost use Rattle.record.specs.Staged.{noStaged, slotHeld};
 ghost use Rattle.record.specs.Tickets.{ticketBefore, hasTicket, slotOfTicket, batchInState};
-ghost use Rattle.record.specs.Clients.{isOpen, windowsOf, overlapsAny, badWindow, windowsValid, pendingCountsMatch};
+ghost use Rattle.record.specs.Clients.{isOpen, windowsOf, lowestClosed, overlapsAny, badWindow, windowsValid, pendingCountsMatch};
 ghost use Rattle.record.specs.Rules.{numberRules, batchRules, stagedRule, valid};
 use range::Range;
 use reset::ResetRule;
@@ -29,10 +29,11 @@ pub struct Window {
     pub length: u32,
 }
 
-// A client (01: desk): its window, and how many of its batches are ready.
+// The place of a client (01: desk): its window, how many of its batches are ready, and whether it is open. What a closed place holds is free.
 pub struct Client {
     pub window: Window,
     pub pending: u32,
+    pub opened: bool,
 }
 
 // A ready batch: whose it is, and where it lies in the ring.
@@ -61,11 +62,10 @@ pub struct Staged {
     pub received: usize,
 }
 
-// The engine record (01: record), handed in and out by value. `opened` clients are open, those at the first places.
+// The engine record (01: record), handed in and out by value. A client's id is its place; any of the four may be open.
 pub struct Record {
     pub setup: Setup,
     pub clients: [Client; 4],
-    pub opened: usize,
     pub slots: [Slot; 8],
     pub read: usize,
     pub next: u32,
@@ -193,7 +193,7 @@ pub fn ready_bytes(slots: [Slot; 8]) -> usize
 }
 
 // How many ready batches are the client's.
-fn count_of(slots: [Slot; 8], client: u32) -> usize
+pub fn count_of(slots: [Slot; 8], client: u32) -> usize
     ensures { λ r. ⌜ r ≡ countOf client (readyBatches slots) ⌝ }
 {
     let mut n: usize = 0;
@@ -241,16 +241,16 @@ pub fn wrap(ring: usize, offset: usize) -> usize
     if offset < ring { offset } else { offset - ring }
 }
 
-// Whether some of the bytes are in a window of the clients at the places `from` up to `n`.
-fn overlaps_any(clients: [Client; 4], from: usize, n: usize, bytes: Range) -> bool
-    requires { ⌜ n ≤ 4 ⌝ }
-    ensures { λ r. ⌜ r ≡ overlapsAny bytes (windowsOf (drop from (take n clients))) ⌝ }
+// Whether some of the bytes are in the window of an open client, from the place `from` on.
+fn overlaps_any(clients: [Client; 4], from: usize, bytes: Range) -> bool
+    ensures { λ r. ⌜ r ≡ overlapsAny bytes (windowsOf (drop from clients)) ⌝ }
 {
     let mut i = from;
-    while i < n {
+    while i < 4 {
         let client = clients[i];
         let other = client.window;
-        if bytes.shares(Range::new(other.start, other.length)) {
+        let shared = bytes.shares(Range::new(other.start, other.length));
+        if client.opened & shared {
             return true;
         }
         i += 1;
@@ -258,10 +258,9 @@ fn overlaps_any(clients: [Client; 4], from: usize, n: usize, bytes: Range) -> bo
     false
 }
 
-// Whether a window is bad beside those of the clients at the places `from` up to `n`.
-pub fn bad_window(setup: Setup, clients: [Client; 4], from: usize, n: usize, w: Window) -> bool
-    requires { ⌜ n ≤ 4 ⌝ }
-    ensures { λ r. ⌜ r ≡ badWindow setup (windowsOf (drop from (take n clients))) w ⌝ }
+// Whether a window is bad beside those of the open clients from the place `from` on.
+pub fn bad_window(setup: Setup, clients: [Client; 4], from: usize, w: Window) -> bool
+    ensures { λ r. ⌜ r ≡ badWindow setup (windowsOf (drop from clients)) w ⌝ }
 {
     let mine = Range::new(w.start, w.length);
     let memory = Range {
@@ -272,19 +271,19 @@ pub fn bad_window(setup: Setup, clients: [Client; 4], from: usize, n: usize, w: 
         start: 0,
         end: setup.common,
     };
-    let crowded = overlaps_any(clients, from, n, mine);
+    let crowded = overlaps_any(clients, from, mine);
     (w.length == 0) | !mine.is_inside(memory) | mine.shares(common) | crowded
 }
 
-fn windows_valid(setup: Setup, clients: [Client; 4], n: usize) -> bool
-    requires { ⌜ n ≤ 4 ⌝ }
-    ensures { λ r. ⌜ r ≡ windowsValid setup (windowsOf (take n clients)) ⌝ }
+fn windows_valid(setup: Setup, clients: [Client; 4]) -> bool
+    ensures { λ r. ⌜ r ≡ windowsValid setup (windowsOf clients) ⌝ }
 {
     let mut k: usize = 0;
-    while k < n {
+    while k < 4 {
         let client = clients[k];
         let w = client.window;
-        if bad_window(setup, clients, k + 1, n, w) {
+        let bad = bad_window(setup, clients, k + 1, w);
+        if client.opened & bad {
             return false;
         }
         k += 1;
@@ -293,14 +292,14 @@ fn windows_valid(setup: Setup, clients: [Client; 4], n: usize) -> bool
 }
 
 // Whether each open client's count is that of its ready batches.
-fn pending_counts_match(clients: [Client; 4], n: usize, slots: [Slot; 8]) -> bool
-    requires { ⌜ n ≤ 4 ⌝ }
-    ensures { λ r. ⌜ r ≡ pendingCountsMatch 0 (take n clients) (readyBatches slots) ⌝ }
+fn pending_counts_match(clients: [Client; 4], slots: [Slot; 8]) -> bool
+    ensures { λ r. ⌜ r ≡ pendingCountsMatch 0 clients (readyBatches slots) ⌝ }
 {
     let mut k: usize = 0;
-    while k < n {
+    while k < 4 {
         let client = clients[k];
-        if !(client.pending as usize == count_of(slots, k as u32)) {
+        let count = count_of(slots, k as u32);
+        if !(!client.opened | (client.pending as usize == count)) {
             return false;
         }
         k += 1;
@@ -308,11 +307,31 @@ fn pending_counts_match(clients: [Client; 4], n: usize, slots: [Slot; 8]) -> boo
     true
 }
 
+// The lowest id that is free, 4 if none is.
+pub fn lowest_closed(clients: [Client; 4]) -> usize
+    ensures { λ r. ⌜ (r ≡ lowestClosed clients) × (r ≤ 4) × (leb 4 r ≡ leb 4 (length (windowsOf clients))) ⌝ }
+{
+    let mut id: usize = 0;
+    while id < 4 {
+        let client = clients[id];
+        if !client.opened {
+            return id;
+        }
+        id += 1;
+    }
+    id
+}
+
 // Whether a client is open.
 pub fn is_open(engine: Record, client: u32) -> bool
     ensures { λ r. ⌜ r ≡ isOpen engine client ⌝ }
 {
-    (client as usize) < engine.opened
+    let clients = engine.clients;
+    if 4 <= client {
+        return false;
+    }
+    let own = clients[client as usize];
+    own.opened
 }
 
 // Whether a batch keeps its rules at `offset`, in the room that is left; `owned` says whether its client is open.
@@ -360,7 +379,7 @@ fn numbers_valid(engine: Record) -> bool
     let setup = engine.setup;
     let ring = setup.ring;
     let read = engine.read;
-    !bad_ring(setup) & !bad_memory(setup) & (engine.opened <= 4) & ((read % 4 == 0) & (read < ring))
+    !bad_ring(setup) & !bad_memory(setup) & ((read % 4 == 0) & (read < ring))
 }
 
 // No staged submission.
@@ -413,11 +432,10 @@ pub fn is_valid(engine: Record) -> bool
     }
     let setup = engine.setup;
     let clients = engine.clients;
-    let opened = engine.opened;
     let slots = engine.slots;
-    let windows = windows_valid(setup, clients, opened);
+    let windows = windows_valid(setup, clients);
     let batches = batches_valid(engine);
-    let counts = pending_counts_match(clients, opened, slots);
+    let counts = pending_counts_match(clients, slots);
     if !(windows & batches & counts) {
         return false;
     }

@@ -5,8 +5,8 @@ use mathlib.Core.List.{List, [], _∷_, _++_}
 use Prim.Native.Nat.{ℕ, zero, suc, _+_, _*_, _/_, _%_, _<_, _^_}
 use native.Mathlib.Omega.{arith}
 use lib.ListN.{length, getD}
-use lib.Dec.{eqb}
-use borrow.Author.Tests.{eqb-true}
+use lib.Dec.{eqb, leb}
+use borrow.Author.Tests.{eqb-true, leb-true}
 use Rattle.word.specs.Word.{byteOf, leBytes, wordsBytes, words}
 use Rattle.word.proofs.Tests.{and-true}
 use Rattle.word.proofs.Words.{length-words}
@@ -16,8 +16,8 @@ use Rattle.record.specs.declared.Record.{Record}
 use Rattle.record.specs.declared.Slot.{Slot}
 use Rattle.record_bytes.specs.declared.write.Row.{Row}
 use Rattle.record_bytes.specs.Layout.{wordAt, low}
-use Rattle.record_bytes.specs.Written.{rowOf, wordsWith, wordsOf, bytesOf}
-use Rattle.record_bytes.specs.Read.{slotRight, slotsRight, spareRight, isRecord, slotIn, clientsIn, slotsIn, recordIn, recordOf}
+use Rattle.record_bytes.specs.Written.{rowOf, flagOf, wordsWith, wordsOf, bytesOf}
+use Rattle.record_bytes.specs.Read.{slotRight, slotsRight, fixedRight, isRecord, slotIn, clientsIn, slotsIn, recordIn, recordOf}
 use Rattle.record_bytes.specs.RoundTrip.{AllBytes, Canonical}
 use Rattle.record_bytes.proofs.Cases.{rows-are, record-size}
 use Rattle.record_bytes.proofs.Words.{low-is}
@@ -89,15 +89,23 @@ zeros ws k h =
     let a1 = and-true (eqb (wordAt ws k) 0) (eqb (wordAt ws (k + 1)) 0) (a2 .0) in
     (eqb-true (wordAt ws k) 0 (a1 .0), eqb-true (wordAt ws (k + 1)) 0 (a1 .1), eqb-true (wordAt ws (k + 2)) 0 (a2 .1), eqb-true (wordAt ws (k + 3)) 0 (a3 .1), eqb-true (wordAt ws (k + 4)) 0 (a4 .1))
 
-spares : (ws : List ℕ) → spareRight ws ≡ true →
-    (wordAt ws 7 ≡ 0) × (wordAt ws 11 ≡ 0) × (wordAt ws 15 ≡ 0) × (wordAt ws 19 ≡ 0) × (wordAt ws 23 ≡ 0)
-unfolding spareRight
-spares ws h =
-    let a5 = and-true (eqb (wordAt ws 7) 0 && eqb (wordAt ws 11) 0 && eqb (wordAt ws 15) 0 && eqb (wordAt ws 19) 0) (eqb (wordAt ws 23) 0) h in
-    let a4 = and-true (eqb (wordAt ws 7) 0 && eqb (wordAt ws 11) 0 && eqb (wordAt ws 15) 0) (eqb (wordAt ws 19) 0) (a5 .0) in
-    let a3 = and-true (eqb (wordAt ws 7) 0 && eqb (wordAt ws 11) 0) (eqb (wordAt ws 15) 0) (a4 .0) in
-    let a2 = and-true (eqb (wordAt ws 7) 0) (eqb (wordAt ws 11) 0) (a3 .0) in
-    (eqb-true (wordAt ws 7) 0 (a2 .0), eqb-true (wordAt ws 11) 0 (a2 .1), eqb-true (wordAt ws 15) 0 (a3 .1), eqb-true (wordAt ws 19) 0 (a4 .1), eqb-true (wordAt ws 23) 0 (a5 .1))
+-- a flag that is read and written again
+flag-back : (n : ℕ) → leb n 1 ≡ true → flagOf (eqb n 1) ≡ n
+flag-back zero h = refl
+flag-back (suc zero) h = refl
+flag-back (suc (suc n)) h = absurd (omega (arith, leb-true (suc (suc n)) 1 h))
+
+fixed : (ws : List ℕ) → fixedRight ws ≡ true →
+    (wordAt ws 4 ≡ 0) × (wordAt ws 7 ≡ 0) × (flagOf (eqb (wordAt ws 11) 1) ≡ wordAt ws 11) × (flagOf (eqb (wordAt ws 15) 1) ≡ wordAt ws 15)
+    × (flagOf (eqb (wordAt ws 19) 1) ≡ wordAt ws 19) × (flagOf (eqb (wordAt ws 23) 1) ≡ wordAt ws 23)
+unfolding fixedRight
+fixed ws h =
+    let a5 = and-true (eqb (wordAt ws 4) 0 && eqb (wordAt ws 7) 0 && leb (wordAt ws 11) 1 && leb (wordAt ws 15) 1 && leb (wordAt ws 19) 1) (leb (wordAt ws 23) 1) h in
+    let a4 = and-true (eqb (wordAt ws 4) 0 && eqb (wordAt ws 7) 0 && leb (wordAt ws 11) 1 && leb (wordAt ws 15) 1) (leb (wordAt ws 19) 1) (a5 .0) in
+    let a3 = and-true (eqb (wordAt ws 4) 0 && eqb (wordAt ws 7) 0 && leb (wordAt ws 11) 1) (leb (wordAt ws 15) 1) (a4 .0) in
+    let a2 = and-true (eqb (wordAt ws 4) 0 && eqb (wordAt ws 7) 0) (leb (wordAt ws 11) 1) (a3 .0) in
+    let a1 = and-true (eqb (wordAt ws 4) 0) (eqb (wordAt ws 7) 0) (a2 .0) in
+    (eqb-true (wordAt ws 4) 0 (a1 .0), eqb-true (wordAt ws 7) 0 (a1 .1), flag-back (wordAt ws 11) (a2 .1), flag-back (wordAt ws 15) (a3 .1), flag-back (wordAt ws 19) (a4 .1), flag-back (wordAt ws 23) (a5 .1))
 
 slots : (ws : List ℕ) → slotsRight ws ≡ true →
     (slotRight ws 24 ≡ true) × (slotRight ws 29 ≡ true) × (slotRight ws 34 ≡ true) × (slotRight ws 39 ≡ true) × (slotRight ws 44 ≡ true) × (slotRight ws 49 ≡ true) × (slotRight ws 54 ≡ true) × (slotRight ws 59 ≡ true)
@@ -126,7 +134,9 @@ module _ (ws : List ℕ) (small : (i : ℕ) → getD ws i 0 < 2 ^ 32) where
           let z = zeros ws k (rw e at h) in
           rw (z .0, z .1, z .2, z .3, z .4)
 
-  plain : isRuleNumber (wordAt ws 3) ≡ true → (wordAt ws 7 ≡ 0) × (wordAt ws 11 ≡ 0) × (wordAt ws 15 ≡ 0) × (wordAt ws 19 ≡ 0) × (wordAt ws 23 ≡ 0) →
+  plain : isRuleNumber (wordAt ws 3) ≡ true →
+      (wordAt ws 4 ≡ 0) × (wordAt ws 7 ≡ 0) × (flagOf (eqb (wordAt ws 11) 1) ≡ wordAt ws 11) × (flagOf (eqb (wordAt ws 15) 1) ≡ wordAt ws 15)
+      × (flagOf (eqb (wordAt ws 19) 1) ≡ wordAt ws 19) × (flagOf (eqb (wordAt ws 23) 1) ≡ wordAt ws 23) →
       wordsWith (recordIn ws) (rowIn ws 24) (rowIn ws 29) (rowIn ws 34) (rowIn ws 39) (rowIn ws 44) (rowIn ws 49) (rowIn ws 54) (rowIn ws 59) ≡ table 68 (λ i. getD ws i 0)
   unfolding wordsWith recordIn clientsIn table
   plain rule z =
@@ -134,35 +144,35 @@ module _ (ws : List ℕ) (small : (i : ℕ) → getD ws i 0 < 2 ^ 32) where
         low-is (wordAt ws 0) (small 0),
         low-is (wordAt ws 1) (small 1),
         low-is (wordAt ws 2) (small 2),
-        low-is (wordAt ws 4) (small 4),
         low-is (wordAt ws 5) (small 5),
         z .0,
         z .1,
         z .2,
         z .3,
         z .4,
+        z .5,
         low-is (wordAt ws 65) (small 65),
         low-is (wordAt ws 66) (small 66),
         low-is (wordAt ws 67) (small 67),
         number-back (wordAt ws 3) rule,
       )
 
-  words-are : length ws ≡ 68 → isRuleNumber (wordAt ws 3) ≡ true → spareRight ws ≡ true → slotsRight ws ≡ true → wordsOf (recordIn ws) ≡ ws
+  words-are : length ws ≡ 68 → isRuleNumber (wordAt ws 3) ≡ true → fixedRight ws ≡ true → slotsRight ws ≡ true → wordsOf (recordIn ws) ≡ ws
   unfolding recordIn slotsIn
   words-are n rule p q =
       let r = slots ws q in
       sym (rows-are (recordIn ws) (row-is 24 (r .0)) (row-is 29 (r .1)) (row-is 34 (r .2)) (row-is 39 (r .3)) (row-is 44 (r .4)) (row-is 49 (r .5)) (row-is 54 (r .6)) (row-is 59 (r .7)))
-      ∙ plain rule (spares ws p)
+      ∙ plain rule (fixed ws p)
       ∙ ap (λ (m : ℕ). table m (λ i. getD ws i 0)) (sym n)
       ∙ table-is ws
 
-rest : (bytes : List ℕ) → isRecord bytes ≡ true → (isRuleNumber (wordAt (words bytes) 3) ≡ true) × (spareRight (words bytes) ≡ true) × (slotsRight (words bytes) ≡ true)
+rest : (bytes : List ℕ) → isRecord bytes ≡ true → (isRuleNumber (wordAt (words bytes) 3) ≡ true) × (fixedRight (words bytes) ≡ true) × (slotsRight (words bytes) ≡ true)
 unfolding isRecord
 rest bytes e =
     let rule : Bool = isRuleNumber (wordAt (words bytes) 3) in
-    let all = and-true (eqb (length bytes) 272) (rule && spareRight (words bytes) && slotsRight (words bytes)) e in
-    let two = and-true (rule && spareRight (words bytes)) (slotsRight (words bytes)) (all .1) in
-    let one = and-true rule (spareRight (words bytes)) (two .0) in
+    let all = and-true (eqb (length bytes) 272) (rule && fixedRight (words bytes) && slotsRight (words bytes)) e in
+    let two = and-true (rule && fixedRight (words bytes)) (slotsRight (words bytes)) (all .1) in
+    let one = and-true rule (fixedRight (words bytes)) (two .0) in
     (one .0, one .1, two .1)
 
 pub canonical : (bytes : List ℕ) → Canonical bytes

@@ -84,7 +84,6 @@ fits r t ok =
       ring = omega arith;
       memory = omega arith;
       common = omega arith;
-      opened = omega (arith, v .numbers .clients);
       read = omega (arith, v .numbers .below);
       slots = all-small (r .slots) none;
       staged = staged-fits r (v .staged) ring;

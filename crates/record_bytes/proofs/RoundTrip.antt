@@ -1,11 +1,11 @@
 -- A record's bytes stand for that record.
 use mathlib.Core.Path.{_≡_, refl, sym, ap, _∙_}
-use mathlib.Core.Bool.{Bool, true, _&&_}
+use mathlib.Core.Bool.{Bool, true, false, _&&_}
 use mathlib.Core.List.{List, [], _∷_}
 use Prim.Native.Nat.{ℕ, _+_, _<_, _^_}
 use native.Mathlib.Omega.{arith}
 use lib.ListN.{length, getD}
-use lib.Dec.{eqb}
+use lib.Dec.{eqb, leb}
 use borrow.Author.Tests.{eq-eqb}
 use Rattle.word.specs.Word.{words}
 use Rattle.reset.specs.Reset.{isRuleNumber}
@@ -19,8 +19,8 @@ use Rattle.record.specs.Slots.{free}
 use Rattle.record.specs.Clients.{noClient}
 use Rattle.record_bytes.specs.declared.write.Row.{Row}
 use Rattle.record_bytes.specs.Layout.{wordAt, low}
-use Rattle.record_bytes.specs.Written.{tagOf, rowOf, rowAt, wordsWith, wordsOf, bytesOf}
-use Rattle.record_bytes.specs.Read.{slotRight, slotsRight, spareRight, isRecord, setupIn, clientIn, slotIn, clientsIn, slotsIn, stagedIn, recordIn, noRecord, recordOf}
+use Rattle.record_bytes.specs.Written.{tagOf, flagOf, rowOf, rowAt, wordsWith, wordsOf, bytesOf}
+use Rattle.record_bytes.specs.Read.{slotRight, slotsRight, fixedRight, isRecord, setupIn, clientIn, slotIn, clientsIn, slotsIn, stagedIn, recordIn, noRecord, recordOf}
 use Rattle.record_bytes.specs.RoundTrip.{AllSlots, StateSmall, Typed, Small}
 use Rattle.record_bytes.proofs.Cases.{length-record}
 use Rattle.record_bytes.proofs.Words.{low-is, slot-at, record-words}
@@ -48,6 +48,16 @@ eight-are (a ∷ b ∷ c ∷ d ∷ e ∷ f ∷ []) n = absurd (omega arith)
 eight-are (a ∷ b ∷ c ∷ d ∷ e ∷ f ∷ g ∷ []) n = absurd (omega arith)
 eight-are (a ∷ b ∷ c ∷ d ∷ e ∷ f ∷ g ∷ h ∷ i ∷ ss) n = absurd (omega arith)
 
+-- ---- a client's flag
+
+flag-small : (opened : Bool) → leb (flagOf opened) 1 ≡ true
+flag-small true = refl
+flag-small false = refl
+
+flag-is : (opened : Bool) → eqb (flagOf opened) 1 ≡ opened
+flag-is true = refl
+flag-is false = refl
+
 -- ---- a slot's row, wherever it stands
 
 abbrev Stands : List ℕ → ℕ → Row → Type 0
@@ -74,9 +84,13 @@ module _ (r : Record) where
   abbrev at : ℕ → Slot
   at i = getD (r .slots) i free
 
-  spare : spareRight (wordsOf r) ≡ true
-  unfolding spareRight wordsOf wordsWith
-  spare = refl
+  -- a client's flag, written and read
+  abbrev flag : ℕ → Bool
+  flag i = getD (r .clients) i noClient .opened
+
+  fixed : fixedRight (wordsOf r) ≡ true
+  unfolding fixedRight wordsOf wordsWith
+  fixed = rw (flag-small (flag 0), flag-small (flag 1), flag-small (flag 2), flag-small (flag 3))
 
   rule : isRuleNumber (wordAt (wordsOf r) 3) ≡ true
   unfolding wordsOf wordsWith
@@ -148,17 +162,16 @@ module _ (r : Record) where
 
   clients-back : length (r .clients) ≡ 4 → clientsIn (wordsOf r) ≡ r .clients
   unfolding clientsIn wordsOf wordsWith
-  clients-back n = four-are (r .clients) n
+  clients-back n = rw (flag-is (flag 0), flag-is (flag 1), flag-is (flag 2), flag-is (flag 3)) (four-are (r .clients) n)
 
   numbers-back : Small r →
-      record { setup = setupIn (wordsOf r); clients = r .clients; opened = wordAt (wordsOf r) 4; slots = r .slots; read = wordAt (wordsOf r) 5; next = wordAt (wordsOf r) 6; staged = stagedIn (wordsOf r) } ≡ r
+      record { setup = setupIn (wordsOf r); clients = r .clients; slots = r .slots; read = wordAt (wordsOf r) 5; next = wordAt (wordsOf r) 6; staged = stagedIn (wordsOf r) } ≡ r
   unfolding wordsOf wordsWith
   numbers-back s =
       rw (
         low-is (r .setup .ring) (s .ring),
         low-is (r .setup .memory) (s .memory),
         low-is (r .setup .common) (s .common),
-        low-is (r .opened) (s .opened),
         low-is (r .read) (s .read),
         rule-back (r .setup .reset),
         low-is (r .staged .slot) (s .staged .0),
@@ -172,7 +185,7 @@ module _ (r : Record) where
 
   is-record : Typed r → isRecord (bytesOf r) ≡ true
   unfolding isRecord
-  is-record t = rw (eq-eqb (length (bytesOf r)) 272 (length-record r), record-words r t, rule, spare, slots-right)
+  is-record t = rw (eq-eqb (length (bytesOf r)) 272 (length-record r), record-words r t, rule, fixed, slots-right)
 
   pub back : Typed r → Small r → recordOf (bytesOf r) ≡ r
   unfolding recordOf

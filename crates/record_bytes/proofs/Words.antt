@@ -1,5 +1,6 @@
 -- The words of a record's bytes are those that were written.
 use mathlib.Core.Path.{_≡_, refl, ap, _∙_}
+use mathlib.Core.Bool.{Bool, true, false}
 use mathlib.Core.List.{List, [], _∷_, _++_}
 use Prim.Native.Nat.{ℕ, zero, suc, _%_, _<_, _^_}
 use native.Mathlib.Omega.{arith}
@@ -17,7 +18,7 @@ use Rattle.record.specs.declared.Record.{Record}
 use Rattle.record.specs.Slots.{free}
 use Rattle.record.specs.Clients.{noClient}
 use Rattle.record_bytes.specs.Layout.{low}
-use Rattle.record_bytes.specs.Written.{headWords, clientWords, rowOf, rowWords, wordsWith, wordsOf, bytesOf}
+use Rattle.record_bytes.specs.Written.{headWords, flagOf, clientWords, rowOf, rowWords, wordsWith, wordsOf, bytesOf}
 use Rattle.record_bytes.specs.RoundTrip.{AllClients, AllSlots, ClientTyped, StateTyped, Typed}
 
 infixr 70 _also_
@@ -66,10 +67,14 @@ number-below SrcOver = one-below
 head-below : (r : Record) → r .next < 2 ^ 32 → Below (headWords r)
 head-below r h =
     low-below (r .setup .ring) also low-below (r .setup .memory) also low-below (r .setup .common) also number-below (r .setup .reset)
-    also low-below (r .opened) also low-below (r .read) also h also zero-below also none
+    also zero-below also low-below (r .read) also h also zero-below also none
+
+flag-below : (opened : Bool) → flagOf opened < 2 ^ 32
+flag-below true = one-below
+flag-below false = zero-below
 
 client-below : (c : Client) → ClientTyped c → Below (clientWords c)
-client-below c h = h .0 also h .1 also h .2 also zero-below also none
+client-below c h = h .0 also h .1 also h .2 also flag-below (c .opened) also none
 
 row-below : (s : Slot) → StateTyped (s .state) → Below (rowWords (rowOf s))
 row-below s h = go (s .state) h

@@ -3,7 +3,7 @@ use mathlib.Core.Bool.{Bool, cond, _&&_, _||_}
 use mathlib.Core.List.{List, [], _∷_}
 use Prim.Native.Nat.{ℕ, _+_}
 use lib.ListN.{length}
-use lib.Dec.{eqb}
+use lib.Dec.{eqb, leb}
 use Rattle.reset.specs.declared.ResetRule.the-variants.{Unblended}
 use Rattle.reset.specs.Reset.{isRuleNumber, ruleOf}
 use Rattle.word.specs.Word.{words}
@@ -31,15 +31,15 @@ slotsRight ws =
     slotRight ws 24 && slotRight ws 29 && slotRight ws 34 && slotRight ws 39
     && slotRight ws 44 && slotRight ws 49 && slotRight ws 54 && slotRight ws 59
 
--- the words that are kept for later
-unfoldable pub spareRight : List ℕ → Bool
-spareRight ws =
-    eqb (wordAt ws 7) 0
-    && eqb (wordAt ws 11) 0 && eqb (wordAt ws 15) 0 && eqb (wordAt ws 19) 0 && eqb (wordAt ws 23) 0
+-- the words that are kept for later are zero, and a client is open or not (02, 11): a third value is none
+unfoldable pub fixedRight : List ℕ → Bool
+fixedRight ws =
+    eqb (wordAt ws 4) 0 && eqb (wordAt ws 7) 0
+    && leb (wordAt ws 11) 1 && leb (wordAt ws 15) 1 && leb (wordAt ws 19) 1 && leb (wordAt ws 23) 1
 
 -- a third reset rule is none
 unfoldable pub isRecord : (bytes : List ℕ) → Bool
-isRecord bytes = eqb (length bytes) 272 && (isRuleNumber (wordAt (words bytes) 3) && spareRight (words bytes) && slotsRight (words bytes))
+isRecord bytes = eqb (length bytes) 272 && (isRuleNumber (wordAt (words bytes) 3) && fixedRight (words bytes) && slotsRight (words bytes))
 
 -- ---- what they stand for
 
@@ -47,7 +47,7 @@ abbrev pub setupIn : List ℕ → Setup
 setupIn ws = record { ring = wordAt ws 0; memory = wordAt ws 1; common = wordAt ws 2; reset = ruleOf (wordAt ws 3) }
 
 abbrev pub clientIn : List ℕ → ℕ → Client
-clientIn ws k = record { window = record { start = wordAt ws k; length = wordAt ws (k + 1) }; pending = wordAt ws (k + 2) }
+clientIn ws k = record { window = record { start = wordAt ws k; length = wordAt ws (k + 1) }; pending = wordAt ws (k + 2); opened = eqb (wordAt ws (k + 3)) 1 }
 
 abbrev pub batchIn : List ℕ → ℕ → Batch
 batchIn ws k = record { client = wordAt ws (k + 1); ticket = wordAt ws (k + 2); offset = wordAt ws (k + 3); length = wordAt ws (k + 4) }
@@ -71,7 +71,6 @@ unfoldable pub recordIn : List ℕ → Record
 recordIn ws = record {
   setup = setupIn ws;
   clients = clientsIn ws;
-  opened = wordAt ws 4;
   slots = slotsIn ws;
   read = wordAt ws 5;
   next = wordAt ws 6;
@@ -83,7 +82,6 @@ unfoldable pub noRecord : Record
 noRecord = record {
   setup = record { ring = 0; memory = 0; common = 0; reset = Unblended };
   clients = noClient ∷ noClient ∷ noClient ∷ noClient ∷ [];
-  opened = 0;
   slots = free ∷ free ∷ free ∷ free ∷ free ∷ free ∷ free ∷ free ∷ [];
   read = 0;
   next = 0;

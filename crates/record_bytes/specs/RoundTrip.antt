@@ -49,7 +49,6 @@ pub record Small (r : Record) : Type 0 where
   pub ring : r .setup .ring < 2 ^ 32
   pub memory : r .setup .memory < 2 ^ 32
   pub common : r .setup .common < 2 ^ 32
-  pub opened : r .opened < 2 ^ 32
   pub read : r .read < 2 ^ 32
   pub slots : AllSlots StateSmall (r .slots)
   pub staged : (r .staged .slot < 2 ^ 32) × (r .staged .total < 2 ^ 32) × (r .staged .received < 2 ^ 32)

@@ -1,5 +1,5 @@
 -- The bytes of a record.
-use mathlib.Core.Bool.{cond}
+use mathlib.Core.Bool.{Bool, cond}
 use mathlib.Core.List.{List, [], _∷_, _++_}
 use Prim.Native.Nat.{ℕ}
 use lib.ListN.{length, getD}
@@ -20,10 +20,14 @@ use Rattle.record_bytes.specs.declared.write.Row.{Row}
 use Rattle.record_bytes.specs.Layout.{low}
 
 abbrev pub headWords : Record → List ℕ
-headWords r = low (r .setup .ring) ∷ low (r .setup .memory) ∷ low (r .setup .common) ∷ numberOf (r .setup .reset) ∷ low (r .opened) ∷ low (r .read) ∷ r .next ∷ 0 ∷ []
+headWords r = low (r .setup .ring) ∷ low (r .setup .memory) ∷ low (r .setup .common) ∷ numberOf (r .setup .reset) ∷ 0 ∷ low (r .read) ∷ r .next ∷ 0 ∷ []
+
+-- open or not
+abbrev pub flagOf : Bool → ℕ
+flagOf opened = cond opened 1 0
 
 abbrev pub clientWords : Client → List ℕ
-clientWords c = c .window .start ∷ c .window .length ∷ c .pending ∷ 0 ∷ []
+clientWords c = c .window .start ∷ c .window .length ∷ c .pending ∷ flagOf (c .opened) ∷ []
 
 abbrev pub stagedWords : Staged → List ℕ
 stagedWords g = g .client ∷ low (g .slot) ∷ low (g .total) ∷ low (g .received) ∷ []

@@ -4,7 +4,7 @@ ghost use Prim.Native.Nat.{_+_, _<_};
 ghost use lib.ListN.{length};
 ghost use Rattle.word.specs.Word.{words};
 ghost use Rattle.record_bytes.specs.Layout.{wordAt};
-ghost use Rattle.record_bytes.specs.Read.{slotRight, slotsRight, spareRight, isRecord, setupIn, clientIn, batchIn, slotIn, clientsIn, slotsIn, stagedIn, recordIn, noRecord, recordOf};
+ghost use Rattle.record_bytes.specs.Read.{slotRight, slotsRight, fixedRight, isRecord, setupIn, clientIn, batchIn, slotIn, clientsIn, slotsIn, stagedIn, recordIn, noRecord, recordOf};
 use record::Batch;
 use record::Client;
 use record::Record;
@@ -52,6 +52,7 @@ fn client_in(bytes: &[u8], k: usize) -> Client
     Client {
         window: window,
         pending: word_at(bytes, k + 2),
+        opened: word_at(bytes, k + 3) == 1,
     }
 }
 
@@ -128,7 +129,6 @@ fn record_in(bytes: &[u8]) -> Record
     Record {
         setup: setup_in(bytes),
         clients: clients_in(bytes),
-        opened: size_at(bytes, 4),
         slots: slots_in(bytes),
         read: size_at(bytes, 5),
         next: word_at(bytes, 6),
@@ -163,16 +163,17 @@ fn slots_right(bytes: &[u8]) -> bool
         & slot_right(bytes, 59)
 }
 
-// The words that are kept for later are zero.
-fn spare_right(bytes: &[u8]) -> bool
+// The words that are kept for later are zero, and each client is open or not.
+fn fixed_right(bytes: &[u8]) -> bool
     requires { ⌜ length (now bytes) ≡ 272 ⌝ }
-    ensures { λ r. ⌜ r ≡ spareRight (words (now (bytes .entry))) ⌝ }
+    ensures { λ r. ⌜ r ≡ fixedRight (words (now (bytes .entry))) ⌝ }
 {
-    (word_at(bytes, 7) == 0)
-        & (word_at(bytes, 11) == 0)
-        & (word_at(bytes, 15) == 0)
-        & (word_at(bytes, 19) == 0)
-        & (word_at(bytes, 23) == 0)
+    (word_at(bytes, 4) == 0)
+        & (word_at(bytes, 7) == 0)
+        & (word_at(bytes, 11) <= 1)
+        & (word_at(bytes, 15) <= 1)
+        & (word_at(bytes, 19) <= 1)
+        & (word_at(bytes, 23) <= 1)
 }
 
 fn no_record() -> Record
@@ -184,6 +185,7 @@ fn no_record() -> Record
             length: 0,
         },
         pending: 0,
+        opened: false,
     }; 4];
     let slots = [Slot {
         state: SlotState::Free,
@@ -196,7 +198,6 @@ fn no_record() -> Record
             reset: ResetRule::Unblended,
         },
         clients: clients,
-        opened: 0,
         slots: slots,
         read: 0,
         next: 0,
@@ -212,7 +213,7 @@ pub fn decode(bytes: &[u8]) -> Record
         return no_record();
     }
     let rule = ResetRule::is_number(word_at(bytes, 3));
-    if !(rule & spare_right(bytes) & slots_right(bytes)) {
+    if !(rule & fixed_right(bytes) & slots_right(bytes)) {
         return no_record();
     }
     record_in(bytes)

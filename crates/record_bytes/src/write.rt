@@ -2,7 +2,8 @@
 ghost use mathlib.Core.Path.{_≡_};
 ghost use Rattle.record.specs.Tickets.{batchInState};
 ghost use Rattle.record_bytes.specs.Layout.{low};
-ghost use Rattle.record_bytes.specs.Written.{tagOf, rowOf, wordsOf, written};
+ghost use Rattle.record_bytes.specs.Written.{tagOf, rowOf, flagOf, wordsOf, written};
+use record::Client;
 use record::Record;
 use record::Slot;
 use record::SlotState;
@@ -40,6 +41,13 @@ fn row_of(slot: Slot) -> Row
     }
 }
 
+// Whether a client is open.
+fn flag_of(client: Client) -> u32
+    ensures { λ r. ⌜ r ≡ flagOf (client .opened) ⌝ }
+{
+    if client.opened { 1 } else { 0 }
+}
+
 fn words_of(engine: Record) -> [u32; 68]
     ensures { λ r. ⌜ r ≡ wordsOf engine ⌝ }
 {
@@ -60,6 +68,10 @@ fn words_of(engine: Record) -> [u32; 68]
     let w1 = c1.window;
     let w2 = c2.window;
     let w3 = c3.window;
+    let f0 = flag_of(c0);
+    let f1 = flag_of(c1);
+    let f2 = flag_of(c2);
+    let f3 = flag_of(c3);
     let s0 = row_of(slots[0]);
     let s1 = row_of(slots[1]);
     let s2 = row_of(slots[2]);
@@ -73,26 +85,26 @@ fn words_of(engine: Record) -> [u32; 68]
         (setup.memory % 4294967296) as u32,
         (setup.common % 4294967296) as u32,
         reset,
-        (engine.opened % 4294967296) as u32,
+        0,
         (engine.read % 4294967296) as u32,
         engine.next,
         0,
         w0.start,
         w0.length,
         c0.pending,
-        0,
+        f0,
         w1.start,
         w1.length,
         c1.pending,
-        0,
+        f1,
         w2.start,
         w2.length,
         c2.pending,
-        0,
+        f2,
         w3.start,
         w3.length,
         c3.pending,
-        0,
+        f3,
         s0.tag,
         s0.client,
         s0.ticket,

@@ -14,16 +14,17 @@ use Rattle.record.specs.Rules.{valid}
 use Rattle.queue.specs.declared.Answer.the-variants.{Accepted, Missing}
 use Rattle.queue.specs.declared.Reply.{Reply}
 use Rattle.queue.specs.Answers.{refusalNumberOf, valueOf, answerUnlessRefused}
-use Rattle.queue.specs.Refusals.{firstRefusal, openTable, submitTable, cancelTable, setUpTable}
-use Rattle.queue.specs.Calls.{unlessRefused, initialRecord, noSetup, withClient, submitted, setUpResult, openResult, submitResult, submitNumber, submitRing, withStaged, begun, beginResult, more, isLast, pieceNumber, afterPiece, pieceResult, pieceRing, cancelResult, pendingAnswer}
-use Rattle.queue.proofs.Stays.{unless-keeps, set-up-number, open-number, submit-number, begin-number, piece-number, cancel-number, set-up-stays, open-stays, submit-stays, begin-stays, piece-stays, cancel-stays}
+use Rattle.queue.specs.Refusals.{firstRefusal, openTable, submitTable, cancelTable, closeTable, setUpTable}
+use Rattle.queue.specs.Calls.{unlessRefused, initialRecord, noSetup, withClient, submitted, setUpResult, openResult, submitResult, submitNumber, submitRing, withStaged, begun, beginResult, more, isLast, pieceNumber, afterPiece, pieceResult, pieceRing, cancelResult, withoutClient, closeResult, pendingAnswer}
+use Rattle.queue.proofs.Stays.{unless-keeps, set-up-number, open-number, submit-number, begin-number, piece-number, cancel-number, close-number, set-up-stays, open-stays, submit-stays, begin-stays, piece-stays, cancel-stays, close-stays}
 use Rattle.engine.specs.declared.Ran.{Ran}
 use Rattle.engine.specs.Outcome.{runRefusalOf as refusalOf, valuesOf}
+use Rattle.engine.specs.Close.{closeMemory}
 use Rattle.engine.specs.Run.{runNumber, withoutOldest, runResult, runMemory}
 use Rattle.engine.proofs.Stays.{run-number, run-stays}
 use Rattle.answers.specs.Answers.{lastOf}
 use Rattle.model.specs.Windows.{Window}
-use Rattle.model.specs.Calls.{Setup, Call, opens, submit, run, pending, begin, piece, cancel, Answer}
+use Rattle.model.specs.Calls.{Setup, Call, opens, submit, run, pending, begin, piece, cancel, close, Answer}
 use Rattle.claims.specs.Engine.{State, mkState, pieceTold, performCall, answersOf, stateAfter, answerOrRefusal, initialState, SetUpAccepted}
 use Rattle.claims.proofs.Follows.{like-model}
 use Rattle.record_bytes.specs.Read.{recordOf}
@@ -31,10 +32,10 @@ use Rattle.record_bytes.specs.Written.{bytesOf}
 use Rattle.record_bytes.specs.RoundTrip.{Typed}
 use Rattle.record_bytes.proofs.RoundTrip.{back}
 use Rattle.record_bytes.proofs.Fitting.{fits}
-use Rattle.calls.specs.Calls.{setUpNumber, SetsUp, Told, Opens, Submits, Done as Silent, Begins, ToldTwo, HandsOver, Cancels, Reports, Runs}
+use Rattle.calls.specs.Calls.{setUpNumber, SetsUp, Told, Opens, Submits, Done as Silent, Begins, ToldTwo, HandsOver, Cancels, Closes, Reports, Runs}
 use Rattle.calls.proofs.Telling.{unless-zero}
-use Rattle.served.specs.Served.{Lent, ServesOpen, ServesSubmit, ServesRun, ServesPending, ServesBegin, ofPiece, ServesPiece, ServesCancel, Serves, ServesAll, none, first, Plain, AllPlain, Promise}
-use Rattle.served.proofs.Typed.{sized, fresh-typed, open-typed, submit-typed, begin-typed, piece-typed, cancel-typed, run-typed}
+use Rattle.served.specs.Served.{Lent, ServesOpen, ServesSubmit, ServesRun, ServesPending, ServesBegin, ofPiece, ServesPiece, ServesCancel, ServesClose, Serves, ServesAll, none, first, Plain, AllPlain, Promise}
+use Rattle.served.proofs.Typed.{sized, fresh-typed, open-typed, submit-typed, begin-typed, piece-typed, cancel-typed, close-typed, run-typed}
 
 -- the bytes are those of a record that keeps its rules
 record Holds (bytes : List ℕ) (e : Record) : Type 0 where
@@ -238,6 +239,32 @@ module _ (s : Lent) (x : State) (g : Agrees s x) where
         };
       }
 
+  close-step : (client : ℕ) (a : Answer) (t : Lent) → ServesClose client s a t → Steps (close client) x a t
+  unfolding performCall closeResult
+  close-step client a t q =
+      let n : ℕ = length (x .memory) in
+      let b : Closes (s .bytes) (x .memory) client (q .number) (t .bytes) (t .memory) =
+      subst (λ (m : List ℕ). Closes (s .bytes) m client (q .number) (t .bytes) (t .memory)) (g .memories) (q .says)
+      in
+      let k : Silent (s .bytes) (bytesOf (closeResult e n client .engine)) (closeResult e n client .answer) (q .number) (t .bytes) =
+      subst (λ (y : Record). Silent (s .bytes) (bytesOf (closeResult y n client .engine)) (closeResult y n client .answer) (q .number) (t .bytes)) z (b .told)
+      in
+      record {
+        says = q .answer ∙ rw (k .number-is);
+        after = record {
+          holds = record {
+            are =
+                k .record-is
+                ∙ ap (λ (m : ℕ). unlessRefused m (s .bytes) (bytesOf (closeResult e n client .engine))) (close-number e n client)
+                ∙ keeps (firstRefusal (closeTable e n client)) (s .bytes) e (withoutClient e client) (g .holds .are);
+            ok = close-stays e (sized (g .holds .right)) (g .holds .ok) n client .0;
+            right = close-typed e (g .holds .right) n client;
+          };
+          rings = q .ring ∙ g .rings;
+          memories = b .memory-is ∙ ap (λ (y : Record). closeMemory y (x .memory) client) z;
+        };
+      }
+
   pending-step : (client : ℕ) (a : Answer) (t : Lent) → ServesPending client s a t → Steps (pending client) x a t
   unfolding performCall
   pending-step client a t q = record {
@@ -253,6 +280,7 @@ module _ (s : Lent) (x : State) (g : Agrees s x) where
   step (begin client total) a t p q = begin-step client total a t p q
   step (piece client bytes) a t p q = piece-step client bytes a t q
   step (cancel client) a t p q = cancel-step client a t q
+  step (close client) a t p q = close-step client a t q
 
 -- ---- a list of calls
 

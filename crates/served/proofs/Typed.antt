@@ -15,14 +15,14 @@ use Rattle.record.specs.declared.SlotState.the-variants.{Free, Ready}
 use Rattle.record.specs.declared.Staged.{Staged}
 use Rattle.record.specs.declared.Record.{Record}
 use Rattle.record.specs.Slots.{free, lowestFree}
-use Rattle.record.specs.Clients.{isOpen, noClient, clientAt}
+use Rattle.record.specs.Clients.{isOpen, noClient, lowestClosed}
 use Rattle.record.specs.Staged.{noStaged}
 use Rattle.record.specs.Queue.{readySlots}
 use Rattle.record.specs.Rules.{valid}
-use Rattle.queue.specs.Refusals.{firstRefusal, openTable, submitTable, cancelTable}
-use Rattle.queue.specs.Calls.{initialRecord, withClient, openResult, newBatch, withBatch, submitted, submitNumber, submitResult, withStaged, begun, beginResult, more, isLast, pieceNumber, afterPiece, pieceResult, cancelResult}
+use Rattle.queue.specs.Refusals.{firstRefusal, openTable, submitTable, cancelTable, closeTable}
+use Rattle.queue.specs.Calls.{initialRecord, withClient, openResult, newBatch, withBatch, submitted, submitNumber, submitResult, withStaged, begun, beginResult, more, isLast, pieceNumber, afterPiece, pieceResult, cancelResult, withoutClient, closeResult}
 use Rattle.queue.proofs.Refusals.{submit-allowed, piece-allowed}
-use Rattle.queue.proofs.Kept.{Sized, few-taken, fresh-sized, open-sized, staged-sized}
+use Rattle.queue.proofs.Kept.{Sized, few-taken, fresh-sized, open-sized, close-sized, staged-sized}
 use Rattle.queue.proofs.Room.{pending-small}
 use Rattle.queue.proofs.Submitted.{added-sized}
 use Rattle.queue.proofs.Stays.{unless-keeps}
@@ -51,7 +51,7 @@ none-typed : ClientTyped noClient
 none-typed = (omega arith, omega arith, omega arith)
 
 -- the client at a place, with another count
-counted : (e : Record) → Typed e → (client n : ℕ) → n < 2 ^ 32 → ClientTyped (record { window = getD (e .clients) client noClient .window; pending = n })
+counted : (e : Record) → Typed e → (client n : ℕ) → n < 2 ^ 32 → ClientTyped (record { window = getD (e .clients) client noClient .window; pending = n; opened = getD (e .clients) client noClient .opened })
 counted e t client n h =
     let c = client-at ClientTyped none-typed (e .clients) (t .clients) client in
     (c .0, c .1, h)
@@ -65,7 +65,7 @@ module _ (e : Record) (t : Typed e) where
   unfolding openResult withClient
   open-typed w h =
       unless-keeps Typed (firstRefusal (openTable e w)) e (withClient e w) t
-      (λ z. typed (withClient e w) (open-sized e w (sized t)) (clients-set ClientTyped (e .clients) (e .opened) (record { window = w; pending = 0 }) (t .clients) (h .0, h .1, omega arith)) (t .slots) (t .staged))
+      (λ z. typed (withClient e w) (open-sized e w (sized t)) (clients-set ClientTyped (e .clients) (lowestClosed (e .clients)) (record { window = w; pending = 0; opened = true }) (t .clients) (h .0, h .1, omega arith)) (t .slots) (t .staged))
 
   -- a batch more in the slot `at`
   added-typed : (at client size : ℕ) → valid e ≡ true → isOpen e client ≡ true → client < 2 ^ 32 → Typed (withBatch e at (newBatch e client size))
@@ -112,6 +112,12 @@ module _ (e : Record) (t : Typed e) where
   pub cancel-typed : (client : ℕ) → Typed (cancelResult e client .engine)
   unfolding cancelResult
   cancel-typed client = unless-keeps Typed (firstRefusal (cancelTable e client)) e (withStaged e noStaged) t (λ z. staged-typed noStaged (omega arith))
+
+  pub close-typed : (memory client : ℕ) → Typed (closeResult e memory client .engine)
+  unfolding closeResult withoutClient
+  close-typed memory client =
+      unless-keeps Typed (firstRefusal (closeTable e memory client)) e (withoutClient e client) t
+      (λ z. typed (withoutClient e client) (close-sized e client (sized t)) (clients-set ClientTyped (e .clients) client noClient (t .clients) none-typed) (t .slots) (t .staged))
 
   pub run-typed : (ring memory : List ℕ) → Typed (runResult e ring memory .engine)
   unfolding runResult withoutOldest

@@ -5,12 +5,12 @@ use mathlib.Core.List.{List, [], _∷_}
 use Prim.Native.Nat.{ℕ, zero, suc, _<_, _^_}
 use lib.ListN.{length}
 use Rattle.model.specs.Windows.{Window}
-use Rattle.model.specs.Calls.{Setup, Call, opens, submit, run, pending, begin, piece, cancel, Answer, opened, accepted, completed, ready, missing, done}
+use Rattle.model.specs.Calls.{Setup, Call, opens, submit, run, pending, begin, piece, cancel, close, Answer, opened, accepted, completed, ready, missing, done}
 use Rattle.model.specs.State.{initialModel}
 use Rattle.model.specs.Model.{answers, modelAfterAll}
 use Rattle.claims.specs.ModelProperties.{batchSemantics}
 use Rattle.claims.specs.Engine.{answerOrRefusal, stateAfter, initialState}
-use Rattle.calls.specs.Calls.{SetsUp, Opens, Submits, Begins, HandsOver, Cancels, Pends, Runs}
+use Rattle.calls.specs.Calls.{SetsUp, Opens, Submits, Begins, HandsOver, Cancels, Closes, Pends, Runs}
 
 -- what the caller lends
 pub record Lent : Type 0 where
@@ -80,6 +80,12 @@ pub record ServesCancel (client : ℕ) (s : Lent) (a : Answer) (t : Lent) : Type
   pub ring : t .ring ≡ s .ring
   pub memory : t .memory ≡ s .memory
 
+pub record ServesClose (client : ℕ) (s : Lent) (a : Answer) (t : Lent) : Type 0 where
+  pub number : ℕ
+  pub says : Closes (s .bytes) (s .memory) client number (t .bytes) (t .memory)
+  pub answer : a ≡ answerOrRefusal number done
+  pub ring : t .ring ≡ s .ring
+
 abbrev pub Serves : Call → Lent → Answer → Lent → Type 0
 Serves (opens w) = ServesOpen w
 Serves (submit client batch) = ServesSubmit client batch
@@ -88,6 +94,7 @@ Serves (pending client) = ServesPending client
 Serves (begin client total) = ServesBegin client total
 Serves (piece client bytes) = ServesPiece client bytes
 Serves (cancel client) = ServesCancel client
+Serves (close client) = ServesClose client
 
 -- ---- a list of calls
 
@@ -104,6 +111,7 @@ Plain (pending client) = Unit {0}
 Plain (begin client total) = client < 2 ^ 32
 Plain (piece client bytes) = Unit {0}
 Plain (cancel client) = Unit {0}
+Plain (close client) = Unit {0}
 
 abbrev pub AllPlain : List Call → Type 0
 AllPlain [] = Unit {0}

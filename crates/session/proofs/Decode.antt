@@ -7,9 +7,9 @@ use lib.ListN.{length, length-append}
 use lib.Seq.{drop-drop, take-append-seam, drop-append-seam}
 use Rattle.word.specs.Word.{byteOf, le32At, leBytes}
 use Rattle.word.proofs.Words.{le32-bytes}
-use Rattle.model.specs.Calls.{Call, opens, submit, run, pending, begin, piece, cancel}
+use Rattle.model.specs.Calls.{Call, opens, submit, run, pending, begin, piece, cancel, close}
 use Rattle.session.specs.Script.{parsed, parseCall, decode, encodeOne, encode, AllBytes, CallFits, CallsFit, EncodeDecodeRoundTrip}
-use Rattle.session.proofs.Parsing.{open-long, bytes-long, client-long, begin-long, next-open, next-submit, next-pending, next-begin, next-piece, next-cancel}
+use Rattle.session.proofs.Parsing.{open-long, bytes-long, client-long, begin-long, next-open, next-submit, next-pending, next-begin, next-piece, next-cancel, next-close}
 
 -- bytes that begin with a call's
 next-encoded : (call : Call) (rest : List ℕ) → CallFits call → parseCall (encodeOne call ++ rest) ≡ parsed call rest
@@ -37,6 +37,9 @@ next-encoded (piece client batch) rest fits =
 next-encoded (cancel client) rest fits =
     let bytes : List ℕ = encodeOne (cancel client) ++ rest in
     next-cancel bytes (omega arith) refl ∙ client-long bytes cancel (omega arith)
+next-encoded (close client) rest fits =
+    let bytes : List ℕ = encodeOne (close client) ++ rest in
+    next-close bytes (omega arith) refl ∙ client-long bytes close (omega arith)
 
 decode-encode : (calls : List Call) → CallsFit calls → (n : ℕ) → length calls ≤ n → decode n (encode calls) ≡ calls
 unfolding decode encode parseCall
@@ -64,6 +67,7 @@ call-bytes (pending client) fits = (omega arith, (fits, tt))
 call-bytes (begin client total) fits = (omega arith, (fits .0, word-bytes total))
 call-bytes (piece client batch) fits = (omega arith, (fits .0, all-append (leBytes (length batch)) batch (word-bytes (length batch)) (fits .2)))
 call-bytes (cancel client) fits = (omega arith, (fits, tt))
+call-bytes (close client) fits = (omega arith, (fits, tt))
 
 calls-bytes : (calls : List Call) → CallsFit calls → AllBytes (encode calls)
 unfolding encode

@@ -9,7 +9,7 @@ use Rattle.word.specs.Word.{wordsBytes}
 use Rattle.word.specs.Splice.{spliced}
 use Rattle.word.proofs.Splice.{take-spliced, drop-spliced}
 use Rattle.word.proofs.Written.{length-bytes}
-use Rattle.model.specs.Calls.{Call, opens, submit, run, pending, begin, piece, cancel, Answer, opened, accepted, completed, ready, missing, done, refused}
+use Rattle.model.specs.Calls.{Call, opens, submit, run, pending, begin, piece, cancel, close, Answer, opened, accepted, completed, ready, missing, done, refused}
 use Rattle.claims.specs.Engine.{State, performCall, answersOf, stateAfter}
 use Rattle.session.specs.declared.script.Found.{Found}
 use Rattle.session.specs.declared.script.Next.{Next}
@@ -49,6 +49,7 @@ six-words (pending client) = plain-six
 six-words (begin client total) = plain-six
 six-words (piece client bytes) = piece-six
 six-words (cancel client) = plain-six
+six-words (close client) = plain-six
 
 -- the bytes of a script from a place on, as a part of it is lent
 pub rest-is : (l : List ℕ) (at : ℕ) → at ≤ length l → take (length l - at) (drop at l) ≡ drop at l

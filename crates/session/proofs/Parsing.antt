@@ -7,9 +7,9 @@ use native.Mathlib.Omega.{arith}
 use lib.ListN.{length, take, drop, getD}
 use borrow.Author.Tests.{lt-ltb, le-ltb, eq-eqb, ne-eqb}
 use Rattle.word.specs.Word.{le32At}
-use Rattle.session.specs.declared.script.Request.the-variants.{Open, Submit, Run, Pending, Begin, Piece, Cancel}
+use Rattle.session.specs.declared.script.Request.the-variants.{Open, Submit, Run, Pending, Begin, Piece, Cancel, Close}
 use Rattle.session.specs.declared.script.Next.the-variants.{End, Call as Begins}
-use Rattle.model.specs.Calls.{Call, opens, submit, pending, begin, piece, cancel}
+use Rattle.model.specs.Calls.{Call, opens, submit, pending, begin, piece, cancel, close}
 use Rattle.session.specs.Script.{parsed, parseOpen, parseBytes, parseRun, parseClient, parseBegin, parseCall}
 use Rattle.session.specs.Parsing.{ParsesAs}
 
@@ -74,6 +74,10 @@ module _ (bytes : List ℕ) where
       ParsesAs bytes (parseClient cancel bytes) (Begins (record { request = Cancel client; size = 2 }))
   cancel-read client h e = record { means = rw (client-long cancel h, e); within = (h, tt) }
 
+  pub close-read : (client : ℕ) → 2 ≤ length bytes → client ≡ getD bytes 1 0 →
+      ParsesAs bytes (parseClient close bytes) (Begins (record { request = Close client; size = 2 }))
+  close-read client h e = record { means = rw (client-long close h, e); within = (h, tt) }
+
 -- ---- by the opcode
 
 pub next-none : (bytes : List ℕ) → length bytes ≡ 0 → ParsesAs bytes (parseCall bytes) End
@@ -116,11 +120,16 @@ unfolding parseCall
 next-cancel [] h e = absurd (omega arith)
 next-cancel (o ∷ body) h e = rw (ne-eqb o 0 (λ z. omega arith), ne-eqb o 1 (λ z. omega arith), ne-eqb o 2 (λ z. omega arith), ne-eqb o 3 (λ z. omega arith), ne-eqb o 4 (λ z. omega arith), ne-eqb o 5 (λ z. omega arith), eq-eqb o 6 e)
 
-pub next-unknown : (bytes : List ℕ) → 0 < length bytes → (getD bytes 0 0 ≡ 0 → ⊥) → (getD bytes 0 0 ≡ 1 → ⊥) → (getD bytes 0 0 ≡ 2 → ⊥) → (getD bytes 0 0 ≡ 3 → ⊥) →
-    (getD bytes 0 0 ≡ 4 → ⊥) → (getD bytes 0 0 ≡ 5 → ⊥) → (getD bytes 0 0 ≡ 6 → ⊥) → ParsesAs bytes (parseCall bytes) End
+pub next-close : (bytes : List ℕ) → 0 < length bytes → getD bytes 0 0 ≡ 7 → parseCall bytes ≡ parseClient close bytes
 unfolding parseCall
-next-unknown [] h n0 n1 n2 n3 n4 n5 n6 = absurd (omega arith)
-next-unknown (o ∷ body) h n0 n1 n2 n3 n4 n5 n6 = record {
-  means = rw (ne-eqb o 0 n0, ne-eqb o 1 n1, ne-eqb o 2 n2, ne-eqb o 3 n3, ne-eqb o 4 n4, ne-eqb o 5 n5, ne-eqb o 6 n6);
+next-close [] h e = absurd (omega arith)
+next-close (o ∷ body) h e = rw (ne-eqb o 0 (λ z. omega arith), ne-eqb o 1 (λ z. omega arith), ne-eqb o 2 (λ z. omega arith), ne-eqb o 3 (λ z. omega arith), ne-eqb o 4 (λ z. omega arith), ne-eqb o 5 (λ z. omega arith), ne-eqb o 6 (λ z. omega arith), eq-eqb o 7 e)
+
+pub next-unknown : (bytes : List ℕ) → 0 < length bytes → (getD bytes 0 0 ≡ 0 → ⊥) → (getD bytes 0 0 ≡ 1 → ⊥) → (getD bytes 0 0 ≡ 2 → ⊥) → (getD bytes 0 0 ≡ 3 → ⊥) →
+    (getD bytes 0 0 ≡ 4 → ⊥) → (getD bytes 0 0 ≡ 5 → ⊥) → (getD bytes 0 0 ≡ 6 → ⊥) → (getD bytes 0 0 ≡ 7 → ⊥) → ParsesAs bytes (parseCall bytes) End
+unfolding parseCall
+next-unknown [] h n0 n1 n2 n3 n4 n5 n6 n7 = absurd (omega arith)
+next-unknown (o ∷ body) h n0 n1 n2 n3 n4 n5 n6 n7 = record {
+  means = rw (ne-eqb o 0 n0, ne-eqb o 1 n1, ne-eqb o 2 n2, ne-eqb o 3 n3, ne-eqb o 4 n4, ne-eqb o 5 n5, ne-eqb o 6 n6, ne-eqb o 7 n7);
   within = tt;
 }

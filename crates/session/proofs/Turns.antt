@@ -8,12 +8,13 @@ use Rattle.record.specs.Staged.{missingBytes}
 use Rattle.queue.specs.declared.Answer.{Answer as Told}
 use Rattle.queue.specs.declared.Reply.{Reply}
 use Rattle.queue.specs.Answers.{refusalNumberOf, valueOf}
-use Rattle.queue.specs.Refusals.{firstRefusal, submitTable, cancelTable}
-use Rattle.queue.specs.Calls.{openResult, submitResult, submitRing, beginResult, more, isLast, pieceNumber, pieceResult, pieceRing, cancelResult, pendingAnswer}
+use Rattle.queue.specs.Refusals.{firstRefusal, submitTable, cancelTable, closeTable}
+use Rattle.queue.specs.Calls.{openResult, submitResult, submitRing, beginResult, more, isLast, pieceNumber, pieceResult, pieceRing, cancelResult, closeResult, pendingAnswer}
 use Rattle.engine.specs.declared.Ran.{Ran}
 use Rattle.engine.specs.Run.{runResult, runMemory}
+use Rattle.engine.specs.Close.{closeMemory}
 use Rattle.answers.specs.Answers.{shortAnswer, pieceWords as twoWords, outcomeWords}
-use Rattle.model.specs.Calls.{opens, submit, run, pending, begin, piece, cancel, opened, accepted, ready}
+use Rattle.model.specs.Calls.{opens, submit, run, pending, begin, piece, cancel, close, opened, accepted, ready}
 use Rattle.claims.specs.Engine.{mkState, performCall}
 use Rattle.session.specs.declared.script.Request.{Request}
 use Rattle.session.specs.declared.script.Request.the-variants.{Submit, Piece}
@@ -80,6 +81,12 @@ module _ (engine : Record) (ring memory : List ℕ) where
       CallMatches (cancel client) (mkState engine ring memory) (mkState after ring memory) words
   unfolding performCall cancelResult
   cancel-plays client r words after e w g = record { says = w ∙ rw e (sym (silent-words (firstRefusal (cancelTable engine client)))); leaves = rw (g, e) }
+
+  pub close-plays : (client : ℕ) (r : Reply) (words memory′ : List ℕ) (after : Record) → r ≡ closeResult engine (length memory) client → memory′ ≡ closeMemory engine memory client →
+      words ≡ shortAnswer (refusalNumberOf (r .answer)) (valueOf (r .answer)) → after ≡ r .engine →
+      CallMatches (close client) (mkState engine ring memory) (mkState after ring memory′) words
+  unfolding performCall closeResult
+  close-plays client r words memory′ after e q w g = record { says = w ∙ rw e (sym (silent-words (firstRefusal (closeTable engine (length memory) client)))); leaves = rw (g, e, q) }
 
   pub pending-plays : (client : ℕ) (a : Told) (words : List ℕ) → a ≡ pendingAnswer engine client → words ≡ shortAnswer (refusalNumberOf a) (valueOf a) →
       CallMatches (pending client) (mkState engine ring memory) (mkState engine ring memory) words

@@ -3,7 +3,7 @@ use mathlib.Core.List.{List, [], _∷_, _++_}
 use Prim.Native.Nat.{ℕ}
 use Rattle.word.specs.Word.{wordsBytes}
 use Rattle.answers.specs.Answers.{shortAnswer}
-use Rattle.model.specs.Calls.{Call, opens, submit, run, pending, begin, piece, cancel, Answer, opened, accepted, completed, ready, missing, done, refused}
+use Rattle.model.specs.Calls.{Call, opens, submit, run, pending, begin, piece, cancel, close, Answer, opened, accepted, completed, ready, missing, done, refused}
 
 unfoldable pub plainWords : Answer → List ℕ
 plainWords (opened client) = shortAnswer 0 client
@@ -33,6 +33,7 @@ answerWords (pending client) = plainWords
 answerWords (begin client total) = plainWords
 answerWords (piece client bytes) = pieceWords
 answerWords (cancel client) = plainWords
+answerWords (close client) = plainWords
 
 -- the answers of calls, one each
 unfoldable pub answerBytes : List Call → List Answer → List ℕ

@@ -3,9 +3,9 @@ use mathlib.Core.Path.{_≡_}
 use mathlib.Core.List.{List}
 use Prim.Native.Nat.{ℕ, _-_, _≤_}
 use lib.ListN.{length, take, drop}
-use Rattle.model.specs.Calls.{Call, opens, submit, run, pending, begin, piece, cancel}
+use Rattle.model.specs.Calls.{Call, opens, submit, run, pending, begin, piece, cancel, close}
 use Rattle.session.specs.declared.script.Request.{Request}
-use Rattle.session.specs.declared.script.Request.the-variants.{Open, Submit, Run, Pending, Begin, Piece, Cancel}
+use Rattle.session.specs.declared.script.Request.the-variants.{Open, Submit, Run, Pending, Begin, Piece, Cancel, Close}
 use Rattle.session.specs.declared.script.Next.{Next}
 use Rattle.session.specs.declared.script.Next.the-variants.{End, Call as Begins}
 use Rattle.session.specs.Script.{Parsed, ended, parsed}
@@ -19,6 +19,7 @@ callOf bytes (Pending client) = pending client
 callOf bytes (Begin client total) = begin client total
 callOf bytes (Piece client from to) = piece client (take (to - from) (drop from bytes))
 callOf bytes (Cancel client) = cancel client
+callOf bytes (Close client) = close client
 
 -- these bytes lie inside the script
 abbrev pub BatchInBounds : (size : ℕ) → Request → Type 0
@@ -29,6 +30,7 @@ BatchInBounds size (Pending client) = Unit {0}
 BatchInBounds size (Begin client total) = Unit {0}
 BatchInBounds size (Piece client from to) = (from ≤ to) × (to ≤ size)
 BatchInBounds size (Cancel client) = Unit {0}
+BatchInBounds size (Close client) = Unit {0}
 
 abbrev pub parsedOf : List ℕ → Next → Parsed
 parsedOf bytes End = ended

@@ -6,6 +6,7 @@
 --   4 begin: client, one byte; total length, four bytes
 --   5 piece: as submit
 --   6 cancel: client, one byte
+--   7 close: client, one byte
 -- An unknown opcode, or a call that is cut short, ends the list.
 use mathlib.Core.Path.{_≡_}
 use mathlib.Core.List.{List, [], _∷_, _++_}
@@ -14,7 +15,7 @@ use Prim.Native.Nat.{ℕ, zero, suc, _+_, _≤_, _<_, _^_}
 use lib.ListN.{length, take, drop, getD}
 use lib.Dec.{ltb, eqb}
 use Rattle.word.specs.Word.{le32At, leBytes}
-use Rattle.model.specs.Calls.{Call, opens, submit, run, pending, begin, piece, cancel}
+use Rattle.model.specs.Calls.{Call, opens, submit, run, pending, begin, piece, cancel, close}
 
 -- what stands at the start of some bytes: no call, or a call and the bytes after it
 pub data Parsed : Type 0 where
@@ -58,7 +59,8 @@ parseCall (opcode ∷ body) =
     (cond (eqb opcode 4) (parseBegin (opcode ∷ body))
     (cond (eqb opcode 5) (parseBytes piece (opcode ∷ body))
     (cond (eqb opcode 6) (parseClient cancel (opcode ∷ body))
-    ended))))))
+    (cond (eqb opcode 7) (parseClient close (opcode ∷ body))
+    ended)))))))
 
 -- a call, and those of the bytes after it
 abbrev pub consCall : (List ℕ → List Call) → Parsed → List Call
@@ -81,6 +83,7 @@ encodeOne (pending client) = 3 ∷ client ∷ []
 encodeOne (begin client total) = 4 ∷ client ∷ leBytes total
 encodeOne (piece client bytes) = 5 ∷ client ∷ (leBytes (length bytes) ++ bytes)
 encodeOne (cancel client) = 6 ∷ client ∷ []
+encodeOne (close client) = 7 ∷ client ∷ []
 
 unfoldable pub encode : List Call → List ℕ
 encode [] = []
@@ -99,6 +102,7 @@ CallFits (pending client) = client < 2 ^ 8
 CallFits (begin client total) = (client < 2 ^ 8) × (total < 2 ^ 32)
 CallFits (piece client bytes) = (client < 2 ^ 8) × (length bytes < 2 ^ 32) × AllBytes bytes
 CallFits (cancel client) = client < 2 ^ 8
+CallFits (close client) = client < 2 ^ 8
 
 abbrev pub CallsFit : List Call → Type 0
 CallsFit [] = Unit {0}

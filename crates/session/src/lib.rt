@@ -92,6 +92,7 @@ fn play_call(
             &bytes[from..to],
         )),
         Request::Cancel(client) => step_of(engine::cancel(engine, client)),
+        Request::Close(client) => step_of(engine::close(engine, memory, client)),
     }
 }
 

@@ -1,6 +1,6 @@
 // The calls of a script, one at a time.
 ghost use mathlib.Core.Bool.{cond};
-ghost use Rattle.model.specs.Calls.{submit, pending, piece, cancel};
+ghost use Rattle.model.specs.Calls.{submit, pending, piece, cancel, close};
 ghost use Rattle.session.specs.Script.{parseOpen, parseBytes, parseClient, parseBegin, parseCall};
 ghost use Rattle.session.specs.Parsing.{ParsesAs};
 
@@ -13,6 +13,7 @@ pub enum Request {
     Begin(u32, usize),
     Piece(u32, usize, usize),
     Cancel(u32),
+    Close(u32),
 }
 
 // A call, and how many bytes it takes.
@@ -108,6 +109,20 @@ fn cancel_in(bytes: &[u8]) -> Next
     })
 }
 
+// Close: the client after the opcode.
+fn close_in(bytes: &[u8]) -> Next
+    ensures { λ r. ⌜ ParsesAs (now (bytes .entry)) (parseClient close (now (bytes .entry))) r ⌝ }
+{
+    if bytes.len() < 2 {
+        return Next::End;
+    }
+    let client = bytes[1] as u32;
+    Next::Call(Found {
+        request: Request::Close(client),
+        size: 2,
+    })
+}
+
 // The call that the bytes begin with.
 pub fn next_call(bytes: &[u8]) -> Next
     ensures { λ r. ⌜ ParsesAs (now (bytes .entry)) (parseCall (now (bytes .entry))) r ⌝ }
@@ -126,6 +141,7 @@ pub fn next_call(bytes: &[u8]) -> Next
         4 => begin_in(bytes),
         5 => bytes_in(bytes, false),
         6 => cancel_in(bytes),
+        7 => close_in(bytes),
         _ => Next::End,
     }
 }

@@ -44,18 +44,19 @@ extern "C" {
  * Every call but wenditsal_play returns the refusal's number, 0 if it was accepted. A refused call leaves every byte of record, ring, memory and
  * buffer as it was, and writes zeros to what it would have answered. Of several refusals that hold, the first in this table is returned:
  *   11  set up           engine_size is not WENDITSAL_ENGINE_SIZE
- *   11  open, submit, begin, piece, cancel, run, pending
+ *   11  open, submit, begin, piece, cancel, run, pending, close
  *                        the engine record is none, or breaks a rule (below)
- *   10  submit, begin, piece, run
- *                        the ring (run: or the memory) is not of the length that was set up
+ *   10  submit, begin, piece, run, close
+ *                        the ring (run: or the memory; close: the memory) is not of the length that was set up
  *    1  set up           ring length 0, over 32,768, or no multiple of 128
  *    2  set up           memory length over 16,777,216, or common length over memory length
  *    3  open             four clients are open
  *    4  open             window empty, past memory's end, or sharing a byte with common or another window
- *    5  submit, begin, piece, cancel, pending
+ *    5  submit, begin, piece, cancel, pending, close
  *                        no such client
  *   13  submit, begin    a batch is being handed over by pieces
  *   14  piece, cancel    none is being handed over by this client, or the piece is longer than what is left of it
+ *   18  close            a batch of the client is ready, or one is being handed over by it
  *    6  submit, begin    batch length 0, no multiple of 4, or over the ring length
  *    7  submit, begin    no free slot: eight batches are ready
  *    8  submit, begin    fewer free bytes in the ring than the batch has
@@ -82,6 +83,7 @@ extern "C" {
 #define WENDITSAL_HAND_OVER_OPEN 13
 #define WENDITSAL_NO_HAND_OVER 14
 #define WENDITSAL_BAD_SCORE 15
+#define WENDITSAL_CLIENT_BUSY 18
 #define WENDITSAL_FORBIDDEN_FIELD 24
 
 /*
@@ -142,13 +144,14 @@ extern "C" {
  * WENDITSAL_ENGINE_SIZE bytes that set up fills and the other calls read and write. They may be copied, stored and sent to another machine. They
  * are 68 little-endian words of 32 bits, by number:
  *    0  ring length      1  memory length    2  common length     3  reset rule: 0 or 1
- *    4  clients open     5  read offset      6  next ticket       7  zero
- *    8  four clients of four words each: window start, window length, batches ready, zero
+ *    4  zero             5  read offset      6  next ticket       7  zero
+ *    8  four clients of four words each, by their ids: window start, window length, batches ready, 1 if it is open and 0 if it is not
  *   24  eight slots of five words each: 1 if a batch is ready in it and 0 if it is free, client, ticket, offset in the ring, length; of a free
  *       slot all five are zero
  *   64  the batch that is being handed over by pieces: client, slot, total length, bytes so far; with none all four are zero
- * The words that are zero are kept for later, and a record in which one is not, or with a third reset rule, is none. A record has this one form:
- * two records are the same exactly if their bytes are. The three words of a client that is not open may be any.
+ * The words that are zero are kept for later, and a record in which one is not, with a third reset rule, or with a client that is neither open nor
+ * not, is none. A record has this one form: two records are the same exactly if their bytes are. The other three words of a client that is not
+ * open may be any: no call looks at them.
  *
  * Its rules: the lengths and the open windows are such as set up and open accept; the read offset is a multiple of 4 below the ring length; the
  * ready batches lie end to end from it in the order of their tickets, their lengths such as submit accepts, in all no more than the ring, each
@@ -184,7 +187,7 @@ uint32_t wenditsal_set_up(
 
 /*
  * Opens a client with the length bytes of memory from start on as its window, in which it may draw and from which it may read. Answers its id in
- * *client: 0, 1, 2, 3 in the order of opening.
+ * *client: the lowest of 0, 1, 2, 3 that is free. The window may lie across those of clients that were closed. No byte of memory changes.
  * Refusals: 11, 3, 4.
  */
 uint32_t wenditsal_open(uint8_t *engine, size_t engine_size, uint32_t start, uint32_t length, uint32_t *client);
@@ -278,6 +281,13 @@ uint32_t wenditsal_run(
  * Refusals: 11, 5.
  */
 uint32_t wenditsal_pending(const uint8_t *engine, size_t engine_size, uint32_t client, uint32_t *count);
+
+/*
+ * Closes a client, if it has no ready batch and hands over none: its window is filled with zeros, and its id and its window are free for the next
+ * opening. No other byte of memory and none of the ring changes; tickets go on. Answers nothing.
+ * Refusals: 11, 10, 5, 18.
+ */
+uint32_t wenditsal_close(uint8_t *engine, size_t engine_size, uint8_t *memory, size_t memory_size, uint32_t client);
 
 /* ---- The encoder */
 
@@ -412,6 +422,7 @@ uint32_t wenditsal_inverse(uint32_t setting);
  *   0x04 begin    client u8, total length u32
  *   0x05 piece    client u8, length u32, that many bytes
  *   0x06 cancel   client u8
+ *   0x07 close    client u8
  * An unknown opcode, or a call that is cut short, ends the list.
  *
  * Every answer is six u32, little-endian: the refusal's number, 0 without one; then, by open: id; by submit: ticket; by run: client, ticket,

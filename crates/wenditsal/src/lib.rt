@@ -7,7 +7,7 @@ ghost use Rattle.orientation.specs.Compose.{compose, inverse};
 ghost use Rattle.orientation.specs.Bits.{settingOf, bitsOf};
 ghost use Rattle.encoder.specs.Encoder.{encodeRefusalOf, answerOf, bufferAfter};
 ghost use Rattle.session.specs.Played.{ScriptResult};
-ghost use Rattle.calls.specs.Calls.{SetsUp, Opens, Submits, Begins, HandsOver, Cancels, Pends, Runs};
+ghost use Rattle.calls.specs.Calls.{SetsUp, Opens, Submits, Begins, HandsOver, Cancels, Closes, Pends, Runs};
 ghost use Rattle.tint.specs.Tint.{numberOf as tintNumber, answerOf as tintAnswer, bufferAfter as tintBuffer};
 use encoder::Fields;
 use encoder::SurfaceFields;
@@ -118,6 +118,14 @@ pub extern "C" fn wenditsal_cancel(engine: &mut [u8], client: u32) -> u32
     ensures { λ r. ⌜ Cancels (now (engine .entry)) client r (now (engine .exit)) ⌝ }
 {
     calls::cancel(engine, client)
+}
+
+// Closes a client: its window is filled with zeros, and its id and window are free.
+#[no_mangle]
+pub extern "C" fn wenditsal_close(engine: &mut [u8], memory: &mut [u8], client: u32) -> u32
+    ensures { λ r. ⌜ Closes (now (engine .entry)) (now (memory .entry)) client r (now (engine .exit)) (now (memory .exit)) ⌝ }
+{
+    calls::close(engine, memory, client)
 }
 
 // Takes the oldest batch; answers client, ticket, status, fault and place. The header has these five as a structure.

@@ -100,6 +100,8 @@ mod library {
 
         pub fn wenditsal_cancel(engine: *mut u8, size: usize, client: u32) -> u32;
 
+        pub fn wenditsal_close(engine: *mut u8, size: usize, memory: *mut u8, memory_size: usize, client: u32) -> u32;
+
         pub fn wenditsal_run(
             engine: *mut u8,
             engine_size: usize,
@@ -162,6 +164,7 @@ mod library {
         wenditsal_begin(*mut u8, usize, *const u8, usize, u32, usize) -> u32;
         wenditsal_piece(*mut u8, usize, *mut u8, usize, u32, *const u8, usize, *mut u32) -> u32;
         wenditsal_cancel(*mut u8, usize, u32) -> u32;
+        wenditsal_close(*mut u8, usize, *mut u8, usize, u32) -> u32;
         wenditsal_run(*mut u8, usize, *const u8, usize, *mut u8, usize, *mut u32) -> u32;
         wenditsal_pending(*const u8, usize, u32, *mut u32) -> u32;
         wenditsal_encode(HeaderFields, *mut u8, usize) -> u32;
@@ -253,6 +256,10 @@ pub fn call(call: &Call, buffers: &mut Buffers, guards: usize) -> Option<Answer>
             Call::Cancel { client } => {
                 handed_out.write(0);
                 library::wenditsal_cancel(record, size, client)
+            }
+            Call::Close { client } => {
+                handed_out.write(0);
+                library::wenditsal_close(record, size, memory.pointer(), memory.length, client)
             }
         }
     };

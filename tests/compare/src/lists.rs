@@ -40,6 +40,7 @@ pub fn described(list: &List) -> Vec<String> {
             Call::Begin { client, total } => format!("begin {client} {total}"),
             Call::Piece { client, piece } => format!("piece {client}, {} bytes", piece.len()),
             Call::Cancel { client } => format!("cancel {client}"),
+            Call::Close { client } => format!("close {client}"),
         };
         lines.push(format!("answer {}: {call}", number + 1));
     }

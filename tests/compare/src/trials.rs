@@ -144,5 +144,6 @@ fn name(call: &Call) -> &'static str {
         Call::Begin { .. } => "begin",
         Call::Piece { .. } => "piece",
         Call::Cancel { .. } => "cancel",
+        Call::Close { .. } => "close",
     }
 }

@@ -23,6 +23,7 @@ pub enum Call<'a> {
     Begin { client: u32, total: u64 },
     Piece { client: u32, piece: &'a [u8] },
     Cancel { client: u32 },
+    Close { client: u32 },
 }
 
 /// The refusal's number or 0, and what else is handed out: zeros behind what the call answers, and by a refused one.
@@ -82,6 +83,7 @@ fn on_record(call: &Call, record: &mut Record, buffers: &mut Buffers) -> Answer 
             }))
         }
         Call::Cancel { client } => Answer::of_one(record.cancel(client).map(|()| 0)),
+        Call::Close { client } => Answer::of_one(record.close(&mut buffers.memory, client).map(|()| 0)),
         Call::Run => {
             let told = record.run(&buffers.ring, &mut buffers.memory);
             Answer::of(

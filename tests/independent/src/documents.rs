@@ -2,8 +2,8 @@
 use crate::tables::{blend_line, fault_line, refusal_line, register_line};
 
 /// The calls in the order in which `tables` has them.
-const CALLS: [&str; 11] =
-    ["set up", "open", "submit", "begin", "piece", "cancel", "run", "pending", "encode", "encode shaded", "encode tint"];
+const CALLS: [&str; 12] =
+    ["set up", "open", "submit", "begin", "piece", "cancel", "run", "pending", "close", "encode", "encode shaded", "encode tint"];
 
 /// A number as the documents have it: decimal, or hex digits after 0x.
 fn number(word: &str) -> Option<u32> {

@@ -1,4 +1,4 @@
-//! The book (01, "The book of demand 3"): the engine as a list of windows, a list of waiting batches with their bytes, the
+//! The book (01, "The book of demand 3"): the engine as four places for windows (02, 11), a list of waiting batches with their bytes, the
 //! hand-over that is open (02, 6), the number accepted, and memory. It knows no record, no slots and no ring bytes; a ring's are beside it, for comparing.
 use crate::batch::{self, Bounds};
 use crate::drawing;
@@ -7,7 +7,7 @@ use crate::ring;
 use crate::surface::{run, shares, Run};
 use std::collections::VecDeque;
 
-const MOST_WINDOWS: usize = 4;
+const PLACES: usize = 4;
 const MOST_WAITING: usize = 8;
 
 /// A refusal's number in 01's table.
@@ -70,7 +70,8 @@ pub struct Book {
     reset: u32,
     /// The length of the ring that is lent with each call.
     lent_ring: u64,
-    windows: Vec<Run>,
+    /// By id; nothing where no client is open.
+    windows: [Option<Run>; PLACES],
     waiting: VecDeque<Waiting>,
     hand_over: Option<HandOver>,
     accepted: u64,
@@ -84,38 +85,68 @@ impl Book {
         if let Some(number) = numbers.refusal() {
             return Err(number);
         }
-        let (windows, waiting, asked) = (Vec::new(), VecDeque::new(), Vec::new());
+        let (windows, waiting, asked) = ([None, None, None, None], VecDeque::new(), Vec::new());
         let (lent_ring, memory) = (lent_ring as u64, memory.to_vec());
         Ok(Book { numbers, reset, lent_ring, windows, waiting, hand_over: None, accepted: 0, memory, asked })
     }
 
-    /// The windows in the order of opening.
-    pub fn windows(&self) -> &[Run] {
-        &self.windows
+    /// The open clients.
+    pub fn clients(&self) -> Vec<u32> {
+        (0..PLACES as u32).filter(|client| self.is_open(*client)).collect()
+    }
+
+    /// Their windows.
+    pub fn windows(&self) -> Vec<Run> {
+        self.windows.iter().flatten().cloned().collect()
     }
 
     /// What a client's batches are judged by.
     pub fn bounds(&self, client: usize) -> Bounds {
-        Bounds { window: self.windows[client].clone(), common: self.numbers.common }
+        Bounds { window: self.windows[client].clone().expect("an open client"), common: self.numbers.common }
     }
 
     /// The client's id.
     pub fn open(&mut self, start: u32, length: u32) -> Result<u32, Refusal> {
-        if self.windows.len() == MOST_WINDOWS {
-            return Err(3);
-        }
+        let client = self.windows.iter().position(Option::is_none).ok_or(3u32)?;
         let window = run(start, length);
         let common = 0..self.numbers.common;
-        let taken = std::iter::once(&common).chain(&self.windows).any(|other| shares(&window, other));
+        let taken = std::iter::once(&common).chain(self.windows.iter().flatten()).any(|other| shares(&window, other));
         if length == 0 || window.end > self.numbers.memory || taken {
             return Err(4);
         }
-        self.windows.push(window);
-        Ok(self.windows.len() as u32 - 1)
+        self.windows[client] = Some(window);
+        Ok(client as u32)
+    }
+
+    /// 10, 5, 18; then the window is filled with zeros and dropped.
+    pub fn close(&mut self, client: u32) -> Result<(), Refusal> {
+        if self.memory.len() as u64 != self.numbers.memory {
+            return Err(10);
+        }
+        let window = self.vacate(client)?;
+        self.memory[window.start as usize..window.end as usize].fill(0);
+        Ok(())
+    }
+
+    /// 5, 18; the window that the client had.
+    pub fn vacate(&mut self, client: u32) -> Result<Run, Refusal> {
+        if !self.is_open(client) {
+            return Err(5);
+        }
+        let ready = self.waiting.iter().any(|batch| batch.client == client);
+        if ready || self.hand_over.as_ref().map_or(false, |one| one.client == client) {
+            return Err(18);
+        }
+        Ok(self.windows[client as usize].take().expect("an open client"))
+    }
+
+    /// The oldest batch leaves without being drawn.
+    pub fn skip(&mut self) {
+        self.waiting.pop_front();
     }
 
     fn is_open(&self, client: u32) -> bool {
-        (client as usize) < self.windows.len()
+        matches!(self.windows.get(client as usize), Some(Some(_)))
     }
 
     /// The first of 10, 5, 13 and 6 to 8 that a submit or a begin breaks. An open hand-over counts as a waiting batch.
@@ -305,6 +336,28 @@ mod tests {
             (book.begin(1, 4), book.cancel(0), book.cancel(1), book.submit(1, &[0; 4])),
             (Ok(()), Err(14), Ok(()), Ok(2))
         );
+    }
+
+    /// 18 for the client alone; the window's zeros, the lowest free id, and a window across an old border.
+    #[test]
+    fn closing() {
+        let mut book = book(UNBLENDED);
+        book.memory.fill(7);
+        assert_eq!((book.open(28672, 64), book.open(28736, 64)), (Ok(1), Ok(2)));
+        assert_eq!((book.submit(1, &[0; 4]), book.begin(0, 8)), (Ok(0), Ok(())));
+        assert_eq!(
+            [book.close(0), book.close(1), book.close(3), book.close(2), book.close(2)],
+            [Err(18), Err(18), Err(5), Ok(()), Err(5)]
+        );
+        assert_eq!((book.memory[28735], book.memory[28736], book.memory[28799], book.memory[28800]), (7, 0, 0, 7));
+        assert_eq!(book.run().map(|done| done.client), Ok(1));
+        assert_eq!(
+            (book.close(1), book.open(28700, 50), book.open(0x8000, 9), book.open(0x8008, 1)),
+            (Ok(()), Ok(1), Ok(2), Err(4))
+        );
+        assert_eq!((book.cancel(0), book.close(0), book.pending(0)), (Ok(()), Ok(()), Err(5)));
+        book.memory.pop();
+        assert_eq!(book.close(9), Err(10));
     }
 
     #[test]

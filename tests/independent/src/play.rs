@@ -1,6 +1,6 @@
 //! A list of calls played on the book. A list is bytes, numbers little-endian, nothing between them: 0 open (start, length:
 //! a word each); 1 submit (client: a byte; length: a word; as many bytes); 2 run; 3 pending (client: a byte); 4 begin
-//! (client: a byte; total: a word); 5 piece (as submit); 6 cancel (client: a byte). An unknown call, or one cut short, ends the list. Every answer is six words: the refusal's number or 0, then what the call
+//! (client: a byte; total: a word); 5 piece (as submit); 6 cancel (client: a byte); 7 close (client: a byte). An unknown call, or one cut short, ends the list. Every answer is six words: the refusal's number or 0, then what the call
 //! answers, then zeros; the first is set up's own. A call whose answer has no room is not played.
 use crate::engine::{Book, Numbers, Progress, Refusal, RingBytes};
 use crate::registers::Task;
@@ -17,6 +17,7 @@ pub enum Call<'a> {
     Begin { client: u8, total: u32 },
     Piece { client: u8, piece: &'a [u8] },
     Cancel { client: u8 },
+    Close { client: u8 },
 }
 
 /// The calls of a script, until it ends, is cut short or names an unknown call.
@@ -40,6 +41,7 @@ impl<'a> Calls<'a> {
                 Some((Call::Piece { client: bytes[1], piece: bytes.get(6..end)? }, end))
             }
             6 => Some((Call::Cancel { client: *bytes.get(1)? }, 2)),
+            7 => Some((Call::Close { client: *bytes.get(1)? }, 2)),
             _ => None,
         }
     }
@@ -131,6 +133,7 @@ fn called(call: Call, book: &mut Book, ring: &mut RingBytes, wraps: &mut usize) 
             ring.cancel();
             Ok([0; 5])
         }
+        Call::Close { client } => book.close(client.into()).map(|()| [0; 5]),
     }
 }
 

@@ -14,6 +14,8 @@ pub struct Client {
     pub start: u32,
     pub length: u32,
     pub pending: u32,
+    /// What a place holds that is not open is free.
+    pub open: bool,
 }
 
 #[derive(Clone, Copy, Debug, PartialEq)]
@@ -39,7 +41,6 @@ pub struct Record {
     /// The reset rule's own number.
     pub reset: u32,
     pub clients: [Client; PLACES],
-    pub open: u64,
     pub slots: [Option<Ready>; SLOTS],
     pub read: u64,
     pub next: u32,
@@ -53,7 +54,7 @@ pub fn set_up(numbers: Numbers, reset: u32) -> Result<Record, Refusal> {
     }
     let clients = [Client::default(); PLACES];
     let reset = if reset == UNBLENDED { UNBLENDED } else { SRC_OVER };
-    Ok(Record { numbers, reset, clients, open: 0, slots: [None; SLOTS], read: 0, next: 0, unfinished: None })
+    Ok(Record { numbers, reset, clients, slots: [None; SLOTS], read: 0, next: 0, unfinished: None })
 }
 
 /// 6.
@@ -66,16 +67,20 @@ impl Record {
         run(self.clients[client].start, self.clients[client].length)
     }
 
-    fn open_clients(&self) -> usize {
-        usize::try_from(self.open).expect("a small number of clients")
+    fn is_open(&self, client: u32) -> bool {
+        self.clients.get(client as usize).map_or(false, |client| client.open)
     }
 
-    /// 4, beside the windows of the clients below `before`.
+    fn open_clients(&self) -> impl Iterator<Item = usize> + '_ {
+        (0..PLACES).filter(|client| self.clients[*client].open)
+    }
+
+    /// 4, beside the windows of the open clients below `before`.
     fn bad_window(&self, window: Run, before: usize) -> bool {
         window.is_empty()
             || window.end > self.numbers.memory
             || shares(&window, &(0..self.numbers.common))
-            || (0..before).any(|client| shares(&window, &self.window(client)))
+            || self.open_clients().any(|client| client < before && shares(&window, &self.window(client)))
     }
 
     /// The ready batches from the oldest, as the tickets below the next one number them; none if some ticket is missing or
@@ -117,7 +122,7 @@ impl Record {
     fn unfinished_is_valid(&self) -> bool {
         self.unfinished.map_or(true, |one| {
             let held = usize::try_from(one.slot).ok().and_then(|slot| self.slots.get(slot));
-            u64::from(one.client) < self.open
+            self.is_open(one.client)
                 && !bad_length(self.numbers, one.total)
                 && one.total <= self.numbers.ring - self.ready_bytes()
                 && one.so_far < one.total
@@ -127,15 +132,14 @@ impl Record {
 
     /// The record rules.
     fn is_valid(&self) -> bool {
-        if self.numbers.refusal().is_some() || self.open > PLACES as u64 {
+        if self.numbers.refusal().is_some() {
             return false;
         }
-        let clients = self.open_clients();
-        let windows = (0..clients).all(|client| !self.bad_window(self.window(client), client));
+        let windows = self.open_clients().all(|client| !self.bad_window(self.window(client), client));
         let read = self.read % 4 == 0 && self.read < self.numbers.ring;
         let Some(waiting) = self.waiting() else { return false };
-        let owned = waiting.iter().all(|ready| u64::from(ready.client) < self.open);
-        let counted = (0..clients).all(|client| self.clients[client].pending == self.count_of(client as u32));
+        let owned = waiting.iter().all(|ready| self.is_open(ready.client));
+        let counted = self.open_clients().all(|client| self.clients[client].pending == self.count_of(client as u32));
         windows && read && owned && counted && self.lies_end_to_end(&waiting) && self.unfinished_is_valid()
     }
 
@@ -144,16 +148,32 @@ impl Record {
         if !self.is_valid() {
             return Err(11);
         }
-        let client = self.open_clients();
-        if client == PLACES {
-            return Err(3);
-        }
-        if self.bad_window(run(start, length), client) {
+        let client = self.clients.iter().position(|client| !client.open).ok_or(3u32)?;
+        if self.bad_window(run(start, length), PLACES) {
             return Err(4);
         }
-        self.clients[client] = Client { start, length, pending: 0 };
-        self.open += 1;
+        self.clients[client] = Client { start, length, pending: 0, open: true };
         Ok(client as u32)
+    }
+
+    /// The window's bytes become zeros; the place holds zeros too.
+    pub fn close(&mut self, memory: &mut [u8], client: u32) -> Result<(), Refusal> {
+        if !self.is_valid() {
+            return Err(11);
+        }
+        if memory.len() as u64 != self.numbers.memory {
+            return Err(10);
+        }
+        if !self.is_open(client) {
+            return Err(5);
+        }
+        if self.count_of(client) > 0 || self.unfinished.map_or(false, |one| one.client == client) {
+            return Err(18);
+        }
+        let window = self.window(client as usize);
+        memory[window.start as usize..window.end as usize].fill(0);
+        self.clients[client as usize] = Client::default();
+        Ok(())
     }
 
     /// What submit and begin ask of a batch; the slot that it gets.
@@ -164,7 +184,7 @@ impl Record {
         if lent.len() as u64 != self.numbers.ring {
             return Err(10);
         }
-        if u64::from(client) >= self.open {
+        if !self.is_open(client) {
             return Err(5);
         }
         if self.unfinished.is_some() {
@@ -210,7 +230,7 @@ impl Record {
 
     /// The client's own unfinished batch: 5, 14.
     fn own(&self, client: u32) -> Result<Unfinished, Refusal> {
-        if u64::from(client) >= self.open {
+        if !self.is_open(client) {
             return Err(5);
         }
         self.unfinished.filter(|one| one.client == client).ok_or(14)
@@ -249,7 +269,7 @@ impl Record {
         if !self.is_valid() {
             return Err(11);
         }
-        if u64::from(client) >= self.open {
+        if !self.is_open(client) {
             return Err(5);
         }
         Ok(self.clients[client as usize].pending)
@@ -318,6 +338,27 @@ mod tests {
         assert_eq!((by_pieces.piece(&mut other, 0, &[]), by_pieces.cancel(0)), (Err(14), Err(14)));
         assert_eq!(by_pieces.piece(&mut other, 1, &batch[5..]), Ok(Progress::Accepted(0)));
         assert_eq!((whole, one), (by_pieces, other));
+    }
+
+    /// A gap in the ids, what the closed place holds, and the place that is taken next.
+    #[test]
+    fn gaps() {
+        let mut record = record();
+        let mut memory = vec![7; 1024];
+        assert_eq!(record.submit(&mut vec![0; 128], 1, &[0; 4]), Ok(0));
+        assert_eq!(
+            [record.close(&mut memory, 1), record.close(&mut memory, 2), record.close(&mut [], 0)],
+            [Err(18), Err(5), Err(10)]
+        );
+        assert_eq!(record.close(&mut memory, 0), Ok(()));
+        assert_eq!((memory[255], memory[256], memory[511], memory[512]), (7, 0, 0, 7));
+        assert_eq!((record.pending(0), record.pending(1)), (Err(5), Ok(1)));
+        record.clients[0] = Client { start: 0, length: 9999, pending: 3, open: false };
+        assert!(record.is_valid());
+        assert_eq!(
+            (record.open(300, 100), record.open(400, 112), record.open(256, 44), record.open(0, 1)),
+            (Ok(0), Ok(2), Ok(3), Err(3))
+        );
     }
 
     #[test]

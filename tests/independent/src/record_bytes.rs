@@ -21,8 +21,11 @@ const RESET: usize = 3;
 /// The words of the unfinished batch.
 const UNFINISHED: usize = 64;
 
-/// Words that must be zero: in the head, and at the end of each client.
-const ZERO: [usize; 5] = [7, 11, 15, 19, 23];
+/// Words of the head that must be zero.
+const ZERO: [usize; 2] = [4, 7];
+
+/// The words that say whether a client is open: 0 or 1.
+const OPEN: [usize; 4] = [11, 15, 19, 23];
 
 /// The record that bytes stand for, if they are one, valid or not.
 pub fn read(bytes: &[u8]) -> Option<Record> {
@@ -31,7 +34,8 @@ pub fn read(bytes: &[u8]) -> Option<Record> {
     }
     let word = |at: usize| read_le32(bytes, 4 * at).expect("one of the 68 words");
     let reset = word(RESET);
-    if ZERO.iter().any(|at| word(*at) != 0) || !matches!(reset, UNBLENDED | SRC_OVER) {
+    let spare = ZERO.iter().all(|at| word(*at) == 0) && OPEN.iter().all(|at| word(*at) <= 1);
+    if !spare || !matches!(reset, UNBLENDED | SRC_OVER) {
         return None;
     }
     let mut slots = [None; 8];
@@ -40,12 +44,12 @@ pub fn read(bytes: &[u8]) -> Option<Record> {
     }
     let client = |i: usize| {
         let at = CLIENTS + CLIENT * i;
-        Client { start: word(at), length: word(at + 1), pending: word(at + 2) }
+        Client { start: word(at), length: word(at + 1), pending: word(at + 2), open: word(at + 3) == 1 }
     };
-    let [ring, memory, common, open, read] = [0, 1, 2, 4, 5].map(|at| u64::from(word(at)));
+    let [ring, memory, common, read] = [0, 1, 2, 5].map(|at| u64::from(word(at)));
     let numbers = Numbers { ring, memory, common };
     let unfinished = read_unfinished(std::array::from_fn(|k| word(UNFINISHED + k)));
-    Some(Record { numbers, reset, clients: std::array::from_fn(client), open, slots, read, next: word(6), unfinished })
+    Some(Record { numbers, reset, clients: std::array::from_fn(client), slots, read, next: word(6), unfinished })
 }
 
 /// A slot of its five words: 1 and its batch if it is ready, all zero if it is free. Nothing if they are neither.
@@ -71,8 +75,11 @@ pub fn written(record: &Record) -> Vec<u8> {
     let word = |n: u64| u32::try_from(n).expect("a number of 32 bits");
     let Numbers { ring, memory, common } = record.numbers;
     let lengths = [word(ring), word(memory), word(common)];
-    let mut words = [&lengths[..], &[record.reset, word(record.open), word(record.read), record.next, 0]].concat();
-    words.extend(record.clients.iter().flat_map(|client| [client.start, client.length, client.pending, 0]));
+    let mut words = [&lengths[..], &[record.reset, 0, word(record.read), record.next, 0]].concat();
+    words.extend(record.clients.iter().flat_map(|client| {
+        let Client { start, length, pending, open } = *client;
+        [start, length, pending, u32::from(open)]
+    }));
     for slot in &record.slots {
         words.extend(
             slot.map_or([0; SLOT], |Ready { client, ticket, offset, length }| {
@@ -109,10 +116,10 @@ mod tests {
         assert_eq!((bytes[1], bytes[4 * RESET], bytes[4 * 12], bytes[4 * 24], bytes[4 * 28]), (1, 1, 208, 1, 12));
     }
 
-    /// Words that must be zero, a third reset rule, a tag that is none, a number in a free slot, another length.
+    /// Words that must be zero, a client neither open nor not, a third reset rule, a tag that is none, a number in a free slot, another length.
     #[test]
     fn no_record() {
-        for at in ZERO.into_iter().chain([RESET, 29, 30, 33]) {
+        for at in ZERO.into_iter().chain(OPEN).chain([RESET, 29, 30, 33]) {
             let mut bytes = written(&record());
             bytes[4 * at] = 2;
             assert_eq!(read(&bytes), None);

@@ -1,5 +1,5 @@
-//! Random lists of calls, with all that they are played on. On the way the book is asked only which windows are open, so
-//! that batches fit them.
+//! Random lists of calls, with all that they are played on. On the way a book is told every call, but draws nothing: it says which
+//! windows are open, so that batches fit them, and which clients can be closed.
 use crate::engine::{Book, Numbers};
 use crate::made_batches;
 use crate::play::{List, ANSWER};
@@ -30,6 +30,8 @@ struct Script<'a> {
     book: Book,
     numbers: Numbers,
     reset: u32,
+    /// The borders of windows that were closed.
+    borders: Vec<u32>,
 }
 
 impl Script<'_> {
@@ -40,7 +42,12 @@ impl Script<'_> {
     }
 
     fn open(&mut self) {
-        let (start, length) = if self.random.one_in(4) { self.odd_window() } else { self.free_window() };
+        let reuse = !self.borders.is_empty() && !self.random.one_in(4);
+        let (start, length) = match (self.random.one_in(4), reuse) {
+            (true, _) => self.odd_window(),
+            (false, true) => self.reused_window(),
+            (false, false) => self.free_window(),
+        };
         // Refusals change nothing in the book, so its answer is not needed.
         let _ = self.book.open(start, length);
         self.call(0, &[&start.to_le_bytes(), &length.to_le_bytes()]);
@@ -55,6 +62,18 @@ impl Script<'_> {
         let share = (room - gap) / left;
         let length = if self.random.one_in(4) { share / 2 + self.random.below(share + 1) / 2 } else { share };
         (start + gap, length)
+    }
+
+    /// A window across or at the border of one that was closed, as far as the open ones leave room.
+    fn reused_window(&mut self) -> (u32, u32) {
+        let border = self.random.pick(&self.borders.clone());
+        let open = self.book.windows();
+        let low = open.iter().map(|window| window.end as u32).filter(|end| *end <= border).max();
+        let high = open.iter().map(|window| window.start as u32).filter(|start| *start >= border).min();
+        let low = low.unwrap_or(0).max(self.numbers.common as u32).min(border);
+        let high = high.unwrap_or(self.numbers.memory as u32).max(border);
+        let start = border - self.random.below(border - low + 1);
+        (start, (border - start) + self.random.below(high - border + 1))
     }
 
     /// A window at an edge: empty, past memory's end, on a byte of common or of another window.
@@ -76,9 +95,10 @@ impl Script<'_> {
     }
 
     fn submit(&mut self, parts: u32) {
-        let open = self.book.windows().len() as u32;
-        let known = open > 0 && !self.random.one_in(24);
-        let client = if known { self.random.below(open) as u8 } else { self.unknown_client() };
+        let open = self.book.clients();
+        let known = !open.is_empty() && !self.random.one_in(24);
+        let client = if known { self.random.pick(&open) as u8 } else { self.unknown_client() };
+        let known = open.contains(&client.into());
         let bounds = if known { self.book.bounds(client.into()) } else { no_bounds() };
         let room = self.numbers.ring as usize / self.random.pick(&[1, parts as usize]);
         // Now and then a batch is made for the other reset rule: 0x090 is forgotten, or written where it need not be.
@@ -88,26 +108,50 @@ impl Script<'_> {
         if self.random.one_in(4) {
             return self.hand_over(client, &batch);
         }
+        let _ = self.book.submit(client.into(), &batch);
         self.call(1, &[&[client], &(batch.len() as u32).to_le_bytes(), &batch]);
+    }
+
+    fn run(&mut self) {
+        self.book.skip();
+        self.call(2, &[]);
+    }
+
+    fn cancel(&mut self, client: u8) {
+        let _ = self.book.cancel(client.into());
+        self.call(6, &[&[client]]);
+    }
+
+    /// A client that can be closed, or any; what it leaves is used again.
+    fn close(&mut self) {
+        let open = self.book.clients();
+        let client =
+            if open.is_empty() || self.random.one_in(8) { self.unknown_client() } else { self.random.pick(&open) as u8 };
+        if let Ok(window) = self.book.vacate(client.into()) {
+            self.borders.extend([window.start as u32, window.end as u32]);
+        }
+        self.call(7, &[&[client]]);
     }
 
     /// The batch by pieces, zero ones too, with other calls between: now and then too long, another client's, cancelled or abandoned.
     fn hand_over(&mut self, client: u8, batch: &[u8]) {
         if self.random.one_in(3) {
             // One that this client abandoned ends here.
-            self.call(6, &[&[client]]);
+            self.cancel(client);
         }
+        let _ = self.book.begin(client.into(), batch.len() as u64);
         self.call(4, &[&[client], &(batch.len() as u32).to_le_bytes()]);
         let mut rest = batch;
         while !rest.is_empty() {
             match self.random.below(24) {
-                0 => return self.call(6, &[&[client]]),
+                0 => return self.cancel(client),
                 1 => return,
-                2 => self.call(2, &[]),
+                2 => self.run(),
                 3 => self.pending(),
                 4 => self.piece(client, &vec![7; rest.len() + 1]),
                 5 => self.piece(client.wrapping_add(1), &rest[..1]),
-                6 => self.call(6, &[&[client.wrapping_add(1)]]),
+                6 => self.cancel(client.wrapping_add(1)),
+                7 => self.close(),
                 _ => {
                     let taken = self.random.below(rest.len() as u32 + 1) as usize;
                     let taken = if self.random.one_in(3) { rest.len() } else { taken };
@@ -119,6 +163,7 @@ impl Script<'_> {
     }
 
     fn piece(&mut self, client: u8, piece: &[u8]) {
+        let _ = self.book.piece(client.into(), piece);
         self.call(5, &[&[client], &(piece.len() as u32).to_le_bytes(), piece]);
     }
 
@@ -150,9 +195,11 @@ impl Script<'_> {
         if n < mix.submits {
             self.submit(mix.parts);
         } else if n < mix.submits + mix.runs {
-            self.call(2, &[]);
+            self.run();
         } else if self.random.one_in(3) {
             self.open();
+        } else if self.random.one_in(3) {
+            self.close();
         } else {
             self.pending();
         }
@@ -162,7 +209,7 @@ impl Script<'_> {
     fn end(&mut self) {
         match self.random.below(16) {
             0 => {
-                let unknown = self.random.pick(&[7, 8, 128, 255]);
+                let unknown = self.random.pick(&[8, 9, 128, 255]);
                 self.bytes.extend([unknown, 2, 2]);
             }
             1 => {
@@ -246,11 +293,11 @@ pub fn list(seed: u64, number: u64) -> List {
     // A refused set up plays nothing; its script is then one for other numbers.
     let known = if Book::set_up(numbers, 0, 0, &[]).is_ok() { numbers } else { allowed };
     let reset = reset(random);
-    let book = Book::set_up(known, reset, 0, &[]).ok().expect("allowed numbers");
+    let book = Book::set_up(known, reset, known.ring as usize, &[]).ok().expect("allowed numbers");
     let mix = &MIXES[random.below(5) as usize];
     let most = random.pick(&[4, 20, 40, 60]);
     let (opens, calls) = (random.pick(&[0, 1, 1, 2, 2, 3, 3, 4, 4, 5, 5, 6]), 1 + random.below(most));
-    let mut script = Script { random, bytes: Vec::new(), calls: 0, book, numbers: known, reset };
+    let mut script = Script { random, bytes: Vec::new(), calls: 0, book, numbers: known, reset, borders: Vec::new() };
     for _ in 0..opens {
         script.open();
     }

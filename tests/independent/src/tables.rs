@@ -87,6 +87,9 @@ fn refusals() -> Vec<String> {
         number(&piece(0), handing_over()),
     ];
     let of_cancel = [number(&cancel(4), none()), number(&cancel(4), handing_over()), number(&cancel(1), handing_over())];
+    let other_memory = Buffers { memory: vec![0; 64], ..buffers(1, 1) };
+    let of_close =
+        [(4, none()), (4, other_memory), (4, buffers(1, 1)), (0, buffers(1, 1))].map(|(client, on)| number(&Call::Close { client }, on));
     let of_run = [none(), other_ring(buffers(0, 0)), buffers(0, 0)].map(|on| number(&Call::Run, on));
     vec![
         refusal_line("set up", &[number(&set_up(0), no_room()), number(&set_up(0), none()), number(&set_up(128), none())]),
@@ -97,6 +100,7 @@ fn refusals() -> Vec<String> {
         refusal_line("cancel", &of_cancel),
         refusal_line("run", &of_run),
         refusal_line("pending", &[none(), buffers(4, 0)].map(|on| number(&pending, on))),
+        refusal_line("close", &of_close),
         refusal_line("encode", &[8192, 1].map(|width| encode(width, 0))),
         refusal_line("encode shaded", &[1 << 25, 1].map(|step| encode_shaded(step, 99))),
         refusal_line("encode tint", &[(f32::NAN, 8192), (1.0, 8192), (1.0, 1)].map(|(score, width)| tint(score, width, 0))),

@@ -67,5 +67,6 @@ fn name(call: &Call) -> &'static str {
         Call::Begin { .. } => "begin",
         Call::Piece { .. } => "piece",
         Call::Cancel { .. } => "cancel",
+        Call::Close { .. } => "close",
     }
 }

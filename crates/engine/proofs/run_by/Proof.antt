@@ -60,7 +60,7 @@ run-batch-requires c κs =
     let b = c .before .before .before in
     let a = allowed (b .before .before .before .before) in
     let s = b .before .before .before .before .before .before .before .before in
-    oldest-room (s .args .engine) (a .ok) (a .some) (f .ensures .1) _ (a .memory) (b .batch-of .result) (taken b) (f .result) (f .ensures .0)
+    oldest-room (s .args .engine) (a .ok) (a .some) _ (a .memory) (b .batch-of .result) (taken b) (f .result) (f .ensures .0)
 
 without-oldest-requires : tie.Need-without-oldest-requires
 without-oldest-requires c κs =

@@ -2,7 +2,6 @@ use mathlib.Core.Path.{_≡_, sym, _∙_}
 use mathlib.Core.Bool.{true}
 use borrow.Author.Tests.{not-true, not-false}
 use Rattle.record.specs.Rules.{valid}
-use Rattle.record.proofs.Rules.{valid-facts}
 use Rattle.queue.proofs.Refusals.{eleven}
 use Rattle.queue.specs.Refusals.{firstRefusal}
 use borrow.Author.Needs.{needs}
@@ -12,6 +11,9 @@ use Rattle.queue.proofs.open_refusal.Tie as tie
 right : (c : tie.Else1) → valid (c .before .before .args .engine) ≡ true
 right c = sym (c .before .is-valid .ensures) ∙ not-false _ (c .if1 .left)
 
+lowest-closed-requires : tie.Need-lowest-closed-requires
+lowest-closed-requires c κs = search needs
+
 is-valid-requires : tie.Need-is-valid-requires
 is-valid-requires c κs = search needs
 
@@ -19,7 +21,7 @@ returns : tie.Need-returns
 returns c = eleven _ (valid (c .before .before .args .engine)) (sym (c .before .is-valid .ensures) ∙ not-true _ (c .if1 .taken))
 
 bad-window-requires : tie.Need-bad-window-requires
-bad-window-requires c κs = valid-facts (c .before .before .before .before .args .engine) (right (c .before .before)) .numbers .clients
+bad-window-requires c κs = search needs
 
 first-refusal-requires : tie.Need-first-refusal-requires
 first-refusal-requires c κs = search needs
@@ -29,7 +31,7 @@ first-refusal-requires-2 c κs = search needs
 
 returns-2 : tie.Need-returns-2
 unfolding firstRefusal
-returns-2 c = rw (right (c .before .before .before .before .before), c .first-refusal2 .ensures, c .before .first-refusal .ensures, c .before .before .bad-window .ensures)
+returns-2 c = rw (right (c .before .before .before .before .before .before), c .first-refusal2 .ensures, c .before .first-refusal .ensures, c .before .before .bad-window .ensures, c .before .before .before .lowest-closed .ensures .2)
 
 pub open-refusal-spec : {M : Type 1} → statement M
 open-refusal-spec =
@@ -37,6 +39,7 @@ open-refusal-spec =
     (tie.spec
     is-valid-requires
     returns
+    lowest-closed-requires
     bad-window-requires
     first-refusal-requires
     first-refusal-requires-2

@@ -21,7 +21,7 @@ pending-at-requires c κs = let a = allowed (c .before) in client-small (c .befo
 returns-2 : tie.Need-returns-2
 returns-2 c = let a = allowed (c .before .before) in
     let e = c .pending-at .ensures in
-    pending-done (c .before .before .before .before .args .engine) (c .before .before .before .before .args .client) (c .before .before .before .pending-refusal .result) (c .before .before .before .pending-refusal .ensures) (c .before .before .if1 .left) (c .pending-at .result) (e .0 ∙ pending-right (c .before .before .before .before .args .engine) (a .ok) (c .before .before .before .before .args .client) (a .owner) (e .1))
+    pending-done (c .before .before .before .before .args .engine) (c .before .before .before .before .args .client) (c .before .before .before .pending-refusal .result) (c .before .before .before .pending-refusal .ensures) (c .before .before .if1 .left) (c .pending-at .result) (e .0 ∙ pending-right (c .before .before .before .before .args .engine) (a .ok) (c .before .before .before .before .args .client) (a .owner))
 
 pub pending-spec : {M : Type 1} → statement M
 pending-spec = tie.close (tie.spec pending-refusal-requires returns pending-at-requires returns-2)

@@ -1,4 +1,3 @@
-use mathlib.Core.Path.{refl}
 use Rattle.queue.specs.Calls.{withClient}
 use borrow.Author.Needs.{needs}
 use Rattle.queue.proofs.with_client.Statement.{statement}
@@ -10,12 +9,9 @@ mul-clients c = search needs
 array-set-from-clients : tie.Need-array-set-from-clients
 array-set-from-clients c = search needs
 
-add-after : tie.Need-add-after
-add-after c = search needs
-
 returns : tie.Need-returns
 unfolding withClient
-returns c = refl
+returns c = rw (c .before .pre .0)
 
 pub with-client-spec : {M : Type 1} → statement M
-with-client-spec = tie.close (tie.spec mul-clients array-set-from-clients add-after returns)
+with-client-spec = tie.close (tie.spec mul-clients array-set-from-clients returns)

@@ -5,31 +5,32 @@ use native.Mathlib.Omega.{arith}
 use borrow.Author.Needs.{needs}
 use borrow.Author.Tests.{not-true, not-false}
 use Rattle.record.proofs.Walk.{walk, walk-missing, walk-unfit, walk-next, walk-done, Fitting, fitting, fitsIn, walk-rules}
+use Rattle.record.specs.Clients.{isOpen}
 use Rattle.record.specs.Rules.{batchRules}
 use Rattle.ring.proofs.Wrapped.{wrapped-below}
 use Rattle.record.proofs.batches_valid.Statement.{statement}
 use Rattle.record.proofs.batches_valid.Tie as tie
 
 abbrev Inv-loop : tie.InvT-loop
-Inv-loop engine slots next ring k₀ offset₀ room₀ k offset room = (k ≤ 8) × (offset < ring) × (room ≤ ring) × (walk ring (engine .opened) k next slots offset room ≡ walk ring (engine .opened) k₀ next slots offset₀ room₀)
+Inv-loop engine slots next ring k₀ offset₀ room₀ k offset room = (k ≤ 8) × (offset < ring) × (room ≤ ring) × (walk ring (isOpen engine) k next slots offset room ≡ walk ring (isOpen engine) k₀ next slots offset₀ room₀)
 
 abbrev μ-loop : tie.MeasureT-loop
 μ-loop engine slots next ring k₀ offset₀ room₀ k offset room = k
 
 -- the walk from the start on decides the rules
 decided : (c : tie.After-ready-slots Inv-loop μ-loop) →
-    walk (c .before .before .before .args .engine .setup .ring) (c .before .before .before .args .engine .opened) (c .ready-slots .result) (c .before .before .before .args .engine .next) (c .before .before .before .args .engine .slots) (c .before .before .before .args .engine .read) (c .before .before .before .args .engine .setup .ring)
+    walk (c .before .before .before .args .engine .setup .ring) (isOpen (c .before .before .before .args .engine)) (c .ready-slots .result) (c .before .before .before .args .engine .next) (c .before .before .before .args .engine .slots) (c .before .before .before .args .engine .read) (c .before .before .before .args .engine .setup .ring)
     ≡ batchRules (c .before .before .before .args .engine)
 decided c = rw (c .ready-slots .ensures .0) (walk-rules (c .before .before .before .args .engine) _ _ _ _ _ _)
 
 -- what the test of a batch tells
-told : (c : tie.After-fits-in Inv-loop μ-loop) → c .fits-in .result ≡ fitsIn (c .before .before .before .before .before .before .before .before .before .before .before .args .engine .setup .ring) (c .before .before .before .before .before .before .before .before .before .before .before .args .engine .opened) (c .before .before .before .before .before .before .before .loop .offset) (c .before .before .before .before .before .before .before .loop .room) (c .before .before .batch-of .result)
+told : (c : tie.After-fits-in Inv-loop μ-loop) → c .fits-in .result ≡ fitsIn (c .before .before .before .before .before .before .before .before .before .before .before .args .engine .setup .ring) (isOpen (c .before .before .before .before .before .before .before .before .before .before .before .args .engine)) (c .before .before .before .before .before .before .before .loop .offset) (c .before .before .before .before .before .before .before .loop .room) (c .before .before .batch-of .result)
 told c = c .fits-in .ensures ∙ rw (c .before .is-open .ensures)
 
-fit : (c : tie.Else2 Inv-loop μ-loop) → fitsIn (c .before .before .before .before .before .before .before .before .before .before .before .before .args .engine .setup .ring) (c .before .before .before .before .before .before .before .before .before .before .before .before .args .engine .opened) (c .before .before .before .before .before .before .before .before .loop .offset) (c .before .before .before .before .before .before .before .before .loop .room) (c .before .before .before .batch-of .result) ≡ true
+fit : (c : tie.Else2 Inv-loop μ-loop) → fitsIn (c .before .before .before .before .before .before .before .before .before .before .before .before .args .engine .setup .ring) (isOpen (c .before .before .before .before .before .before .before .before .before .before .before .before .args .engine)) (c .before .before .before .before .before .before .before .before .loop .offset) (c .before .before .before .before .before .before .before .before .loop .room) (c .before .before .before .batch-of .result) ≡ true
 fit c = sym (told (c .before)) ∙ not-false _ (c .if2 .left)
 
-fits : (c : tie.Else2 Inv-loop μ-loop) → Fitting (c .before .before .before .before .before .before .before .before .before .before .before .before .args .engine .setup .ring) (c .before .before .before .before .before .before .before .before .before .before .before .before .args .engine .opened) (c .before .before .before .before .before .before .before .before .loop .offset) (c .before .before .before .before .before .before .before .before .loop .room) (c .before .before .before .batch-of .result)
+fits : (c : tie.Else2 Inv-loop μ-loop) → Fitting (c .before .before .before .before .before .before .before .before .before .before .before .before .args .engine .setup .ring) (isOpen (c .before .before .before .before .before .before .before .before .before .before .before .before .args .engine)) (c .before .before .before .before .before .before .before .before .loop .offset) (c .before .before .before .before .before .before .before .before .loop .room) (c .before .before .before .batch-of .result)
 fits c = fitting _ _ _ _ _ (fit c)
 
 ready-slots-requires : tie.Need-ready-slots-requires Inv-loop μ-loop

@@ -19,14 +19,14 @@ returns : tie.Need-returns
 returns c = valid-not (c .before .before .args .engine) (sym (c .before .numbers-valid .ensures) ∙ not-true _ (c .if1 .taken))
 
 windows-valid-requires : tie.Need-windows-valid-requires
-windows-valid-requires c κs = numbers (c .before .before .before .before .before .args .engine) (right (c .before .before .before)) .clients
+windows-valid-requires c κs = search needs
 
 batches-valid-requires : tie.Need-batches-valid-requires
 batches-valid-requires c κs = let n = numbers (c .before .before .before .before .before .before .args .engine) (right (c .before .before .before .before)) in
     (n .ring .small, n .below)
 
 pending-counts-match-requires : tie.Need-pending-counts-match-requires
-pending-counts-match-requires c κs = numbers (c .before .before .before .before .before .before .before .args .engine) (right (c .before .before .before .before .before)) .clients
+pending-counts-match-requires c κs = search needs
 
 -- the tests together
 tested : (c : tie.After-pending-counts-match) → (c .before .before .windows-valid .result && c .before .batches-valid .result && c .pending-counts-match .result)

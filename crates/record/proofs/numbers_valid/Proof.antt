@@ -9,7 +9,7 @@ bad-memory-requires : tie.Need-bad-memory-requires
 bad-memory-requires c κs = search needs
 
 returns : tie.Need-returns
-returns c = rw (c .before .before .bad-ring .ensures, c .before .bad-memory .ensures)
+returns c = rw (c .before .bad-ring .ensures, c .bad-memory .ensures)
 
 pub numbers-valid-spec : {M : Type 1} → statement M
 numbers-valid-spec = tie.close (tie.spec bad-ring-requires bad-memory-requires returns)

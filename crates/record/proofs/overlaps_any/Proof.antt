@@ -1,6 +1,6 @@
 use mathlib.Core.Path.{_≡_, refl, sym, _∙_}
 use Prim.Native.Nat.{_-_}
-use lib.ListN.{take, drop}
+use lib.ListN.{drop}
 use native.Mathlib.Omega.{arith}
 use borrow.Author.Needs.{needs}
 use Rattle.record.specs.Clients.{windowsOf, overlapsAny}
@@ -9,10 +9,10 @@ use Rattle.record.proofs.overlaps_any.Statement.{statement}
 use Rattle.record.proofs.overlaps_any.Tie as tie
 
 abbrev Inv-loop : tie.InvT-loop
-Inv-loop from n bytes clients i₀ i = overlapsAny bytes (windowsOf (drop i (take n clients))) ≡ overlapsAny bytes (windowsOf (drop from (take n clients)))
+Inv-loop from bytes clients i₀ i = overlapsAny bytes (windowsOf (drop i clients)) ≡ overlapsAny bytes (windowsOf (drop from clients))
 
 abbrev μ-loop : tie.MeasureT-loop
-μ-loop from n bytes clients i₀ i = n - i
+μ-loop from bytes clients i₀ i = 4 - i
 
 loop-holds : tie.Need-loop-holds Inv-loop μ-loop
 loop-holds c = refl
@@ -30,10 +30,10 @@ shares-requires : tie.Need-shares-requires Inv-loop μ-loop
 shares-requires c κs = search needs
 
 returns : tie.Need-returns Inv-loop μ-loop
-returns c = let st = c .before .before .before .before .before .before .before in
-    let l = c .before .before .before .before .before .before in
+returns c = let st = c .before .before .before .before .before .before .before .before in
+    let l = c .before .before .before .before .before .before .before in
     let g = st .good .0 .1 .0 .1 in
-    shares-found (st .args .t1) (st .args .n) (l .loop .i) (omega arith) (omega arith) (st .args .bytes) (c .before .before .new .result) (c .before .before .new .ensures) (c .before .shares .result) (c .before .shares .ensures) (c .if1 .taken) ∙ l .loop .inv
+    shares-found (st .args .t1) (l .loop .i) (omega arith) (st .args .bytes) (c .before .before .before .new .result) (c .before .before .before .new .ensures) (c .before .before .shares .result) (c .before .before .shares .ensures) (c .if1 .taken) ∙ l .loop .inv
 
 add-i : tie.Need-add-i Inv-loop μ-loop
 add-i c = omega arith
@@ -42,13 +42,14 @@ loop-less : tie.Need-loop-less Inv-loop μ-loop
 loop-less c = omega arith
 
 loop-again : tie.Need-loop-again Inv-loop μ-loop
-loop-again c = let st = c .before .before .before .before .before .before .before in
-    let l = c .before .before .before .before .before .before in
+loop-again c = let st = c .before .before .before .before .before .before .before .before in
+    let l = c .before .before .before .before .before .before .before in
     let g = st .good .0 .1 .0 .1 in
-    shares-next (st .args .t1) (st .args .n) (l .loop .i) (omega arith) (omega arith) (st .args .bytes) (c .before .before .new .result) (c .before .before .new .ensures) (c .before .shares .result) (c .before .shares .ensures) (c .if1 .left) ∙ l .loop .inv
+    shares-next (st .args .t1) (l .loop .i) (omega arith) (st .args .bytes) (c .before .before .before .new .result) (c .before .before .before .new .ensures) (c .before .before .shares .result) (c .before .before .shares .ensures) (c .if1 .left) ∙ l .loop .inv
 
 returns-2 : tie.Need-returns-2 Inv-loop μ-loop
-returns-2 c = sym (shares-end _ _ _ (c .loop-test .left) _) ∙ c .before .loop .inv
+returns-2 c = let g = c .before .before .good .0 .1 .0 .1 in
+    sym (shares-end (c .before .before .args .t1) (c .before .loop .i) (omega arith) _) ∙ c .before .loop .inv
 
 pub overlaps-any-spec : {M : Type 1} → statement M
 overlaps-any-spec =

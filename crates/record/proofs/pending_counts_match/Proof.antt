@@ -1,6 +1,6 @@
 use mathlib.Core.Path.{_≡_, refl, sym, _∙_}
 use Prim.Native.Nat.{_-_}
-use lib.ListN.{take, drop}
+use lib.ListN.{drop}
 use native.Mathlib.Omega.{arith}
 use borrow.Author.Needs.{needs}
 use Rattle.record.specs.Slots.{readyBatches}
@@ -10,10 +10,10 @@ use Rattle.record.proofs.pending_counts_match.Statement.{statement}
 use Rattle.record.proofs.pending_counts_match.Tie as tie
 
 abbrev Inv-loop : tie.InvT-loop
-Inv-loop n slots clients k₀ k = pendingCountsMatch k (drop k (take n clients)) (readyBatches slots) ≡ pendingCountsMatch 0 (take n clients) (readyBatches slots)
+Inv-loop slots clients k₀ k = pendingCountsMatch k (drop k clients) (readyBatches slots) ≡ pendingCountsMatch 0 clients (readyBatches slots)
 
 abbrev μ-loop : tie.MeasureT-loop
-μ-loop n slots clients k₀ k = n - k
+μ-loop slots clients k₀ k = 4 - k
 
 loop-holds : tie.Need-loop-holds Inv-loop μ-loop
 loop-holds c = refl
@@ -34,10 +34,10 @@ count-of-requires : tie.Need-count-of-requires Inv-loop μ-loop
 count-of-requires c κs = search needs
 
 returns : tie.Need-returns Inv-loop μ-loop
-returns c = let st = c .before .before .before .before .before .before in
-    let l = c .before .before .before .before .before in
+returns c = let st = c .before .before .before .before .before .before .before in
+    let l = c .before .before .before .before .before .before in
     let g = st .good .0 .1 .0 .1 in
-    counts-found (st .args .t1) (st .args .n) (l .loop .k) (omega arith) (omega arith) (readyBatches (st .args .slots)) (c .before .count-of .result) (c .before .count-of .ensures) (c .if1 .taken) ∙ l .loop .inv
+    counts-found (st .args .t1) (l .loop .k) (omega arith) (readyBatches (st .args .slots)) (c .before .before .before .count-of .result) (c .before .before .before .count-of .ensures) (c .if1 .taken) ∙ l .loop .inv
 
 add-k : tie.Need-add-k Inv-loop μ-loop
 add-k c = omega arith
@@ -46,13 +46,14 @@ loop-less : tie.Need-loop-less Inv-loop μ-loop
 loop-less c = omega arith
 
 loop-again : tie.Need-loop-again Inv-loop μ-loop
-loop-again c = let st = c .before .before .before .before .before .before in
-    let l = c .before .before .before .before .before in
+loop-again c = let st = c .before .before .before .before .before .before .before in
+    let l = c .before .before .before .before .before .before in
     let g = st .good .0 .1 .0 .1 in
-    counts-next (st .args .t1) (st .args .n) (l .loop .k) (omega arith) (omega arith) (readyBatches (st .args .slots)) (c .before .count-of .result) (c .before .count-of .ensures) (c .if1 .left) ∙ l .loop .inv
+    counts-next (st .args .t1) (l .loop .k) (omega arith) (readyBatches (st .args .slots)) (c .before .before .before .count-of .result) (c .before .before .before .count-of .ensures) (c .if1 .left) ∙ l .loop .inv
 
 returns-2 : tie.Need-returns-2 Inv-loop μ-loop
-returns-2 c = sym (counts-end _ _ _ (c .loop-test .left) _) ∙ c .before .loop .inv
+returns-2 c = let g = c .before .before .good .0 .1 .0 .1 in
+    sym (counts-end (c .before .before .args .t1) (c .before .loop .k) (omega arith) _) ∙ c .before .loop .inv
 
 pub pending-counts-match-spec : {M : Type 1} → statement M
 pending-counts-match-spec =
@@ -63,9 +64,9 @@ pending-counts-match-spec =
     loop-holds
     mul-client
     array-copy-out-client
-    cast-if1
     cast-count-of
     count-of-requires
+    cast-if1
     returns
     add-k
     loop-less

@@ -1,6 +1,6 @@
 use mathlib.Core.Path.{_≡_, refl, sym, _∙_}
 use Prim.Native.Nat.{_-_}
-use lib.ListN.{take, drop}
+use lib.ListN.{drop}
 use native.Mathlib.Omega.{arith}
 use borrow.Author.Needs.{needs}
 use Rattle.record.specs.Clients.{windowsOf, windowsValid}
@@ -9,10 +9,10 @@ use Rattle.record.proofs.windows_valid.Statement.{statement}
 use Rattle.record.proofs.windows_valid.Tie as tie
 
 abbrev Inv-loop : tie.InvT-loop
-Inv-loop setup n clients k₀ k = windowsValid setup (windowsOf (drop k (take n clients))) ≡ windowsValid setup (windowsOf (take n clients))
+Inv-loop setup clients k₀ k = windowsValid setup (windowsOf (drop k clients)) ≡ windowsValid setup (windowsOf clients)
 
 abbrev μ-loop : tie.MeasureT-loop
-μ-loop setup n clients k₀ k = n - k
+μ-loop setup clients k₀ k = 4 - k
 
 loop-holds : tie.Need-loop-holds Inv-loop μ-loop
 loop-holds c = refl
@@ -30,10 +30,10 @@ bad-window-requires : tie.Need-bad-window-requires Inv-loop μ-loop
 bad-window-requires c κs = search needs
 
 returns : tie.Need-returns Inv-loop μ-loop
-returns c = let st = c .before .before .before .before .before .before in
-    let l = c .before .before .before .before .before in
+returns c = let st = c .before .before .before .before .before .before .before in
+    let l = c .before .before .before .before .before .before in
     let g = st .good .1 .0 .1 .0 .1 in
-    none-found (st .args .t2) (st .args .n) (l .loop .k) (omega arith) (omega arith) (st .args .setup) (c .before .bad-window .result) (c .before .bad-window .ensures) (c .if1 .taken) ∙ l .loop .inv
+    none-found (st .args .t2) (l .loop .k) (omega arith) (st .args .setup) (c .before .before .bad-window .result) (c .before .before .bad-window .ensures) (c .if1 .taken) ∙ l .loop .inv
 
 add-k : tie.Need-add-k Inv-loop μ-loop
 add-k c = omega arith
@@ -42,13 +42,14 @@ loop-less : tie.Need-loop-less Inv-loop μ-loop
 loop-less c = omega arith
 
 loop-again : tie.Need-loop-again Inv-loop μ-loop
-loop-again c = let st = c .before .before .before .before .before .before in
-    let l = c .before .before .before .before .before in
+loop-again c = let st = c .before .before .before .before .before .before .before in
+    let l = c .before .before .before .before .before .before in
     let g = st .good .1 .0 .1 .0 .1 in
-    none-next (st .args .t2) (st .args .n) (l .loop .k) (omega arith) (omega arith) (st .args .setup) (c .before .bad-window .result) (c .before .bad-window .ensures) (c .if1 .left) ∙ l .loop .inv
+    none-next (st .args .t2) (l .loop .k) (omega arith) (st .args .setup) (c .before .before .bad-window .result) (c .before .before .bad-window .ensures) (c .if1 .left) ∙ l .loop .inv
 
 returns-2 : tie.Need-returns-2 Inv-loop μ-loop
-returns-2 c = sym (none-end _ _ _ (c .loop-test .left) _) ∙ c .before .loop .inv
+returns-2 c = let g = c .before .before .good .1 .0 .1 .0 .1 in
+    sym (none-end (c .before .before .args .t2) (c .before .loop .k) (omega arith) _) ∙ c .before .loop .inv
 
 pub windows-valid-spec : {M : Type 1} → statement M
 windows-valid-spec =

@@ -2,7 +2,7 @@ use Prim.Native.Nat.{_≤_}
 use native.Mathlib.Omega.{arith}
 use lib.ListN.{length}
 use Rattle.answers.proofs.Numbers.{run-small}
-use Rattle.session.proofs.Turns.{batch-lies, piece-lies, open-plays, submit-plays, run-plays, pending-plays, begin-plays, piece-plays, cancel-plays}
+use Rattle.session.proofs.Turns.{batch-lies, piece-lies, open-plays, submit-plays, run-plays, pending-plays, begin-plays, piece-plays, cancel-plays, close-plays}
 use borrow.Author.Needs.{needs}
 use Rattle.session.proofs.play_call.Statement.{statement}
 use Rattle.session.proofs.play_call.Tie as tie
@@ -94,6 +94,15 @@ cancel-requires c κs = search needs
 step-of-requires-4 : tie.Need-step-of-requires-4
 step-of-requires-4 c κs = search needs
 
+enum-known-request-7 : tie.Need-enum-known-request-7
+enum-known-request-7 c = search needs
+
+close-requires : tie.Need-close-requires
+close-requires c κs = search needs
+
+step-of-requires-5 : tie.Need-step-of-requires-5
+step-of-requires-5 c κs = search needs
+
 returns : tie.Need-returns
 returns c = rw (c .before .before .before .request .given .1) (open-plays _ _ _ _ _ _ _ _ (c .before .open .ensures) (c .step-of .ensures .0) (c .step-of .ensures .1))
 
@@ -130,6 +139,12 @@ returns-6 c = rw (c .before .before .before .before .before .before .before .req
 returns-7 : tie.Need-returns-7
 returns-7 c = rw (c .before .before .before .request6 .given .1) (cancel-plays _ _ _ _ _ _ _ (c .before .cancel .ensures) (c .step-of4 .ensures .0) (c .step-of4 .ensures .1))
 
+same-length-6 : tie.Need-same-length-6
+same-length-6 c = search needs
+
+returns-8 : tie.Need-returns-8
+returns-8 c = rw (c .before .before .before .before .before .before .request7 .given .1) (close-plays _ _ _ _ _ _ _ _ (c .before .before .before .close .ensures .0) (c .before .before .before .close .ensures .1) (c .step-of5 .ensures .0) (c .step-of5 .ensures .1))
+
 pub play-call-spec : {M : Type 1} → statement M
 play-call-spec =
     tie.close
@@ -161,6 +176,9 @@ play-call-spec =
     enum-known-request-6
     cancel-requires
     step-of-requires-4
+    enum-known-request-7
+    close-requires
+    step-of-requires-5
     returns
     same-length
     returns-2
@@ -172,4 +190,6 @@ play-call-spec =
     returns-5
     same-length-5
     returns-6
-    returns-7)
+    returns-7
+    same-length-6
+    returns-8)

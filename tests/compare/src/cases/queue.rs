@@ -1,5 +1,5 @@
-//! Set up, open, submit, run and pending on good records: each refusal at its edges and before the next, every free slot,
-//! every offset, tickets across the wrap.
+//! Set up, open, submit, run, pending and close on good records: each refusal at its edges and before the next, every free slot,
+//! every offset, tickets across the wrap, every set of open clients.
 use crate::bench;
 use crate::trials::{Agreed, Trials};
 use independent::calls::{Buffers, Call};
@@ -18,6 +18,7 @@ pub fn compare(trials: &mut Trials) -> Agreed {
     submits(trials)?;
     slots(trials)?;
     tickets(trials)?;
+    closings(trials)?;
     lent_lengths(trials)
 }
 
@@ -141,6 +142,34 @@ fn tickets(trials: &mut Trials) -> Agreed {
     Ok(())
 }
 
+/// Every set of open clients, each with a ready batch, an unfinished one, both or neither: every client closed, again, and a window opened across what it left.
+fn closings(trials: &mut Trials) -> Agreed {
+    for open in 0..16u32 {
+        for (ready, unfinished) in (0..5).flat_map(|ready| (0..5).map(move |unfinished| (ready, unfinished))) {
+            let mut buffers = bench::buffers(&bench::record(NUMBERS, &WINDOWS, 120, u32::MAX));
+            for client in (0..4).filter(|client| open >> client & 1 == 0) {
+                trials.call(&Call::Close { client }, &mut buffers)?;
+            }
+            trials.call(&Call::Submit { client: ready, batch: &[9; 12] }, &mut buffers)?;
+            let ring = buffers.clone();
+            trials.try_call(&Call::Begin { client: unfinished, total: 8 }, &ring)?;
+            trials.call(&Call::Begin { client: unfinished, total: 8 }, &mut buffers)?;
+            for client in [0, 1, 2, 3, 4, u32::MAX] {
+                let mut after = buffers.clone();
+                trials.call(&Call::Close { client }, &mut after)?;
+                trials.try_call(&Call::Close { client }, &after)?;
+                for (start, length) in [(20, 12), (28, 14), (29, 1), (30, 10), (38, 16), (60, 8), (92, 4)] {
+                    trials.try_call(&Call::Open { start, length }, &after)?;
+                }
+                trials.call(&Call::Piece { client: unfinished, piece: &[1; 8] }, &mut after)?;
+                trials.call(&Call::Run, &mut after)?;
+                trials.call(&Call::Close { client: ready }, &mut after)?;
+            }
+        }
+    }
+    Ok(())
+}
+
 /// Rings and memories of every length up to past the set-up ones: 10 before all others.
 fn lent_lengths(trials: &mut Trials) -> Agreed {
     let record = waiting(bench::record(NUMBERS, &WINDOWS, 0, 0), &[12, 8], |i| i);
@@ -151,7 +180,12 @@ fn lent_lengths(trials: &mut Trials) -> Agreed {
             trials.try_call(&Call::Submit { client, batch: &vec![1; size] }, &ring)?;
         }
         trials.try_call(&Call::Run, &ring)?;
-        trials.try_call(&Call::Run, &Buffers { memory: vec![3; length], ..good.clone() })?;
+        let memory = Buffers { memory: vec![3; length], ..good.clone() };
+        trials.try_call(&Call::Run, &memory)?;
+        for client in [0, 3, 9] {
+            trials.try_call(&Call::Close { client }, &memory)?;
+            trials.try_call(&Call::Close { client }, &ring)?;
+        }
     }
     let none = bench::buffers(&bench::record(NUMBERS, &[], 0, 0));
     trials.try_call(&Call::Run, &none)?;

@@ -31,6 +31,8 @@ fn all_calls(trials: &mut Trials, buffers: &Buffers) -> Agreed {
     let calls = [
         Call::Pending { client: 2 },
         Call::Pending { client: 3 },
+        Call::Close { client: 1 },
+        Call::Close { client: 2 },
         Call::Open { start: 4000, length: 1 },
         Call::Submit { client: 0, batch: &[] },
         Call::Submit { client: 0, batch: &[0; 4] },
@@ -85,7 +87,7 @@ fn handing_over() -> Record {
 type Damage = fn(&mut Record);
 
 /// Each rule broken alone in the record of three batches, and in that with an unfinished one; in others some of these break no rule, or several.
-const BREAKINGS: [Damage; 43] = [
+const BREAKINGS: [Damage; 44] = [
     |_| (),
     |r| r.numbers.ring = 0,
     |r| r.numbers.ring = 32896,
@@ -94,8 +96,8 @@ const BREAKINGS: [Damage; 43] = [
     |r| r.numbers.memory = u64::from(u32::MAX),
     |r| r.numbers.common = 4097,
     |r| r.reset = 2,
-    |r| r.open = 5,
-    |r| r.open = u64::from(u32::MAX),
+    |r| r.clients[0].open = false,
+    |r| r.clients[2].open = false,
     |r| r.clients[2].length = 0,
     |r| r.clients[3].length = 769,
     |r| r.clients[0].start = 1023,
@@ -117,7 +119,6 @@ const BREAKINGS: [Damage; 43] = [
     |r| r.clients[1].pending = 1,
     |r| r.clients[2].pending = 1,
     |r| set(r, 6, |b| b.client = 1),
-    |r| r.open = 2,
     |r| unfinished(r, |one| one.client = 4),
     |r| unfinished(r, |one| one.slot = 3),
     |r| unfinished(r, |one| one.slot = 8),
@@ -129,11 +130,15 @@ const BREAKINGS: [Damage; 43] = [
     |r| unfinished(r, |one| one.so_far = u64::from(u32::MAX)),
     // Any slot that is free will do.
     |r| unfinished(r, |one| (one.slot, one.so_far) = (7, 27)),
+    |r| {
+        r.clients[2].open = false;
+        r.clients[3].open = false;
+    },
     // What a closed place holds is free.
     |r| {
-        r.open = 3;
-        r.clients[3] = Client { start: u32::MAX, length: u32::MAX, pending: 77 };
+        r.clients[3] = Client { start: u32::MAX, length: u32::MAX, pending: 77, open: false };
     },
+    |r| r.clients[1] = Client { start: 1024, length: 0, pending: 8, open: false },
 ];
 
 fn set(record: &mut Record, slot: usize, change: fn(&mut Ready)) {

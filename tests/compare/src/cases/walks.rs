@@ -29,6 +29,7 @@ fn alone(call: play::Call) -> Call {
         play::Call::Begin { client, total } => Call::Begin { client: client.into(), total: total.into() },
         play::Call::Piece { client, piece } => Call::Piece { client: client.into(), piece },
         play::Call::Cancel { client } => Call::Cancel { client: client.into() },
+        play::Call::Close { client } => Call::Close { client: client.into() },
     }
 }
 

@@ -17,8 +17,14 @@ add-word-at-2 c = search needs
 word-at-requires-3 : tie.Need-word-at-requires-3
 word-at-requires-3 c κs = search needs
 
+add-word-at-3 : tie.Need-add-word-at-3
+add-word-at-3 c = search needs
+
+word-at-requires-4 : tie.Need-word-at-requires-4
+word-at-requires-4 c κs = search needs
+
 returns : tie.Need-returns
-returns c = simp (c .word-at3 .ensures, c .before .word-at2 .ensures, c .before .before .word-at .ensures)
+returns c = simp (c .word-at4 .ensures, c .before .word-at3 .ensures, c .before .before .word-at2 .ensures, c .before .before .before .word-at .ensures)
 
 pub client-in-spec : {M : Type 1} → statement M
 client-in-spec =
@@ -29,4 +35,6 @@ client-in-spec =
     word-at-requires-2
     add-word-at-2
     word-at-requires-3
+    add-word-at-3
+    word-at-requires-4
     returns)

@@ -17,8 +17,8 @@ word-at-requires c κs = search needs
 is-number-requires : tie.Need-is-number-requires
 is-number-requires c κs = search needs
 
-spare-right-requires : tie.Need-spare-right-requires
-spare-right-requires c κs = search needs
+fixed-right-requires : tie.Need-fixed-right-requires
+fixed-right-requires c κs = search needs
 
 slots-right-requires : tie.Need-slots-right-requires
 slots-right-requires c κs = search needs
@@ -31,7 +31,7 @@ returns-2 c =
     let s = c .before .before in
     let a = s .before in
     let r = a .before in
-    is-none _ _ (judged _ _ (r .is-number .result) (a .spare-right .result) (s .slots-right .result) false (r .before .before .if1 .left) (r .before .word-at .ensures) (r .is-number .ensures) (a .spare-right .ensures) (s .slots-right .ensures) (not-true (r .is-number .result && a .spare-right .result && s .slots-right .result) (c .before .if2 .taken))) (c .no-record2 .ensures)
+    is-none _ _ (judged _ _ (r .is-number .result) (a .fixed-right .result) (s .slots-right .result) false (r .before .before .if1 .left) (r .before .word-at .ensures) (r .is-number .ensures) (a .fixed-right .ensures) (s .slots-right .ensures) (not-true (r .is-number .result && a .fixed-right .result && s .slots-right .result) (c .before .if2 .taken))) (c .no-record2 .ensures)
 
 record-in-requires : tie.Need-record-in-requires
 record-in-requires c κs = search needs
@@ -41,7 +41,7 @@ returns-3 c =
     let s = c .before .before in
     let a = s .before in
     let r = a .before in
-    is-some _ _ (judged _ _ (r .is-number .result) (a .spare-right .result) (s .slots-right .result) true (r .before .before .if1 .left) (r .before .word-at .ensures) (r .is-number .ensures) (a .spare-right .ensures) (s .slots-right .ensures) (not-false (r .is-number .result && a .spare-right .result && s .slots-right .result) (c .before .if2 .left))) (c .record-in .ensures)
+    is-some _ _ (judged _ _ (r .is-number .result) (a .fixed-right .result) (s .slots-right .result) true (r .before .before .if1 .left) (r .before .word-at .ensures) (r .is-number .ensures) (a .fixed-right .ensures) (s .slots-right .ensures) (not-false (r .is-number .result && a .fixed-right .result && s .slots-right .result) (c .before .if2 .left))) (c .record-in .ensures)
 
 pub decode-spec : {M : Type 1} → statement M
 decode-spec =
@@ -51,7 +51,7 @@ decode-spec =
     returns
     word-at-requires
     is-number-requires
-    spare-right-requires
+    fixed-right-requires
     slots-right-requires
     no-record-requires-2
     returns-2

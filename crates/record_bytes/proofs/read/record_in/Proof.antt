@@ -15,9 +15,6 @@ size-at-requires c κs = search needs
 slots-in-requires : tie.Need-slots-in-requires
 slots-in-requires c κs = search needs
 
-size-at-requires-2 : tie.Need-size-at-requires-2
-size-at-requires-2 c κs = search needs
-
 word-at-requires : tie.Need-word-at-requires
 word-at-requires c κs = search needs
 
@@ -26,7 +23,7 @@ staged-in-requires c κs = search needs
 
 returns : tie.Need-returns
 unfolding recordIn
-returns c = simp (c .staged-in .ensures, c .before .word-at .ensures, c .before .before .size-at2 .ensures, c .before .before .before .slots-in .ensures, c .before .before .before .before .size-at .ensures, c .before .before .before .before .before .clients-in .ensures, c .before .before .before .before .before .before .setup-in .ensures)
+returns c = simp (c .staged-in .ensures, c .before .word-at .ensures, c .before .before .size-at .ensures, c .before .before .before .slots-in .ensures, c .before .before .before .before .clients-in .ensures, c .before .before .before .before .before .setup-in .ensures)
 
 pub record-in-spec : {M : Type 1} → statement M
 record-in-spec =
@@ -34,9 +31,8 @@ record-in-spec =
     (tie.spec
     setup-in-requires
     clients-in-requires
-    size-at-requires
     slots-in-requires
-    size-at-requires-2
+    size-at-requires
     word-at-requires
     staged-in-requires
     returns)

@@ -1,5 +1,4 @@
-use Rattle.record_bytes.proofs.Cases.{rows-are}
-use Rattle.record_bytes.specs.Written.{wordsWith}
+use Rattle.record_bytes.proofs.Cases.{wordsFlagged, all-are}
 use borrow.Author.Needs.{needs}
 use Rattle.record_bytes.proofs.write.words_of.Statement.{statement}
 use Rattle.record_bytes.proofs.write.words_of.Tie as tie
@@ -27,6 +26,18 @@ array-copy-out-c2 c = search needs
 
 array-copy-out-c3 : tie.Need-array-copy-out-c3
 array-copy-out-c3 c = search needs
+
+flag-of-requires : tie.Need-flag-of-requires
+flag-of-requires c κs = search needs
+
+flag-of-requires-2 : tie.Need-flag-of-requires-2
+flag-of-requires-2 c κs = search needs
+
+flag-of-requires-3 : tie.Need-flag-of-requires-3
+flag-of-requires-3 c κs = search needs
+
+flag-of-requires-4 : tie.Need-flag-of-requires-4
+flag-of-requires-4 c κs = search needs
 
 array-copy-out-row-of : tie.Need-array-copy-out-row-of
 array-copy-out-row-of c = search needs
@@ -76,12 +87,6 @@ array-copy-out-row-of-8 c = search needs
 row-of-requires-8 : tie.Need-row-of-requires-8
 row-of-requires-8 c κs = search needs
 
-cast-t54 : tie.Need-cast-t54
-cast-t54 c = search needs
-
-cast-t56 : tie.Need-cast-t56
-cast-t56 c = search needs
-
 cast-t58 : tie.Need-cast-t58
 cast-t58 c = search needs
 
@@ -91,11 +96,14 @@ cast-t60 c = search needs
 cast-t62 : tie.Need-cast-t62
 cast-t62 c = search needs
 
+cast-t64 : tie.Need-cast-t64
+cast-t64 c = search needs
+
 returns : tie.Need-returns
-unfolding wordsWith
+unfolding wordsFlagged
 returns c =
-    let f = c .before .before .before .before .before .before .before .before .before .before .before .before .before .before .before .before .before .before .before .before .before .before .before .before .before .before .before .before .before .before .before .before .before .before .before in
-    rw (f .number .ensures) (rows-are (f .before .before .args .engine) (c .before .before .before .before .before .before .before .before .before .before .before .before .before .before .before .before .before .before .before .row-of .ensures) (c .before .before .before .before .before .before .before .before .before .before .before .before .before .before .before .before .before .row-of2 .ensures) (c .before .before .before .before .before .before .before .before .before .before .before .before .before .before .before .row-of3 .ensures) (c .before .before .before .before .before .before .before .before .before .before .before .before .before .row-of4 .ensures) (c .before .before .before .before .before .before .before .before .before .before .before .row-of5 .ensures) (c .before .before .before .before .before .before .before .before .before .row-of6 .ensures) (c .before .before .before .before .before .before .before .row-of7 .ensures) (c .before .before .before .before .before .row-of8 .ensures))
+    let f = c .before .before .before .before .before .before .before .before .before .before .before .before .before .before .before .before .before .before .before .before .before .before .before .before .before .before .before .before .before .before .before .before .before .before .before .before .before .before in
+    rw (f .number .ensures) (all-are (f .before .before .args .engine) (c .before .before .before .before .before .before .before .before .before .before .before .before .before .before .before .before .before .before .before .before .before .before .before .flag-of .ensures) (c .before .before .before .before .before .before .before .before .before .before .before .before .before .before .before .before .before .before .before .before .before .before .flag-of2 .ensures) (c .before .before .before .before .before .before .before .before .before .before .before .before .before .before .before .before .before .before .before .before .before .flag-of3 .ensures) (c .before .before .before .before .before .before .before .before .before .before .before .before .before .before .before .before .before .before .before .before .flag-of4 .ensures) (c .before .before .before .before .before .before .before .before .before .before .before .before .before .before .before .before .before .before .row-of .ensures) (c .before .before .before .before .before .before .before .before .before .before .before .before .before .before .before .before .row-of2 .ensures) (c .before .before .before .before .before .before .before .before .before .before .before .before .before .before .row-of3 .ensures) (c .before .before .before .before .before .before .before .before .before .before .before .before .row-of4 .ensures) (c .before .before .before .before .before .before .before .before .before .before .row-of5 .ensures) (c .before .before .before .before .before .before .before .before .row-of6 .ensures) (c .before .before .before .before .before .before .row-of7 .ensures) (c .before .before .before .before .row-of8 .ensures))
 
 pub words-of-spec : {M : Type 1} → statement M
 words-of-spec =
@@ -109,6 +117,10 @@ words-of-spec =
     array-copy-out-c1
     array-copy-out-c2
     array-copy-out-c3
+    flag-of-requires
+    flag-of-requires-2
+    flag-of-requires-3
+    flag-of-requires-4
     array-copy-out-row-of
     row-of-requires
     array-copy-out-row-of-2
@@ -125,9 +137,8 @@ words-of-spec =
     row-of-requires-7
     array-copy-out-row-of-8
     row-of-requires-8
-    cast-t54
-    cast-t56
     cast-t58
     cast-t60
     cast-t62
+    cast-t64
     returns)

@@ -1,5 +1,5 @@
 use native.Mathlib.Omega.{arith}
-use Rattle.session.proofs.Parsing.{next-none, next-open, next-submit, next-run, run-read, next-pending, next-begin, next-piece, next-cancel, next-unknown}
+use Rattle.session.proofs.Parsing.{next-none, next-open, next-submit, next-run, run-read, next-pending, next-begin, next-piece, next-cancel, next-close, next-unknown}
 use borrow.Author.Needs.{needs}
 use Rattle.session.proofs.script.next_call.Statement.{statement}
 use Rattle.session.proofs.script.next_call.Tie as tie
@@ -28,6 +28,9 @@ bytes-in-requires-2 c κs = search needs
 cancel-in-requires : tie.Need-cancel-in-requires
 cancel-in-requires c κs = search needs
 
+close-in-requires : tie.Need-close-in-requires
+close-in-requires c κs = search needs
+
 returns-2 : tie.Need-returns-2
 returns-2 c = rw (next-open (c .before .before .before .before .before .args .bytes .now) (omega arith) (c .before .match .keys1)) (c .open-in .ensures)
 
@@ -50,7 +53,10 @@ returns-8 : tie.Need-returns-8
 returns-8 c = rw (next-cancel (c .before .before .before .before .before .args .bytes .now) (omega arith) (c .before .match .keys7)) (c .cancel-in .ensures)
 
 returns-9 : tie.Need-returns-9
-returns-9 c = next-unknown (c .before .before .before .before .args .bytes .now) (omega arith) (c .match .rest .0 .0 .0 .0 .0 .0 .1) (c .match .rest .0 .0 .0 .0 .0 .1) (c .match .rest .0 .0 .0 .0 .1) (c .match .rest .0 .0 .0 .1) (c .match .rest .0 .0 .1) (c .match .rest .0 .1) (c .match .rest .1)
+returns-9 c = rw (next-close (c .before .before .before .before .before .args .bytes .now) (omega arith) (c .before .match .keys8)) (c .close-in .ensures)
+
+returns-10 : tie.Need-returns-10
+returns-10 c = next-unknown (c .before .before .before .before .args .bytes .now) (omega arith) (c .match .rest .0 .0 .0 .0 .0 .0 .0 .1) (c .match .rest .0 .0 .0 .0 .0 .0 .1) (c .match .rest .0 .0 .0 .0 .0 .1) (c .match .rest .0 .0 .0 .0 .1) (c .match .rest .0 .0 .0 .1) (c .match .rest .0 .0 .1) (c .match .rest .0 .1) (c .match .rest .1)
 
 pub next-call-spec : {M : Type 1} → statement M
 next-call-spec =
@@ -64,6 +70,7 @@ next-call-spec =
     begin-in-requires
     bytes-in-requires-2
     cancel-in-requires
+    close-in-requires
     returns-2
     returns-3
     returns-4
@@ -71,4 +78,5 @@ next-call-spec =
     returns-6
     returns-7
     returns-8
-    returns-9)
+    returns-9
+    returns-10)
