@@ -3,14 +3,15 @@ ghost use mathlib.Core.Path.{_≡_};
 ghost use mathlib.Core.Bool.{true, false};
 ghost use Prim.Native.Nat.{_+_, _*_, _≤_, _<_};
 ghost use lib.ListN.{length};
+ghost use Rattle.range.specs.Range.{containedIn};
 ghost use Rattle.pixel.specs.Formats.{bytesPerPixel};
-ghost use Rattle.surface.specs.Surface.{rowLength};
+ghost use Rattle.surface.specs.Surface.{rowLength, span};
 ghost use Rattle.surface.specs.Drawn.{loadPixel};
 ghost use Rattle.rows.specs.Row.{colourIn, HoldsColours};
 ghost use Rattle.raster.specs.Task.{sourceColour};
 ghost use Rattle.rows.specs.Mixed.{composite};
 ghost use Rattle.combine.specs.Plan.{planOf};
-ghost use Rattle.raster.specs.Row.{rowDrawn, drawRow, isUniform, uniformColour, SourceRowInBounds, RowFits, RowMixes, RowBuffered, RowFetched, RowFillable, isMoved, RowMovable, isInPlace, FinishFits};
+ghost use Rattle.raster.specs.Row.{rowDrawn, drawRow, isUniform, uniformColour, SourceRowInBounds, RowFits, RowMixes, RowDrawable, RowBuffered, RowFetched, RowFillable, isMoved, RowMovable, isInPlace, FinishFits};
 use combine::Plan;
 use composite::mix_row;
 use gradient::colour_at;
@@ -20,9 +21,11 @@ use range::Range;
 use register::Source;
 use register::SourceMode;
 use register::Task;
+use row_copy::copy_within;
 use row_copy::fetch_bytes;
 use row_copy::store_bytes;
 use rows::is_straight;
+use rows::origin;
 use rules::same_format;
 use scanline::blend_row;
 use scanline::blit_row;
@@ -308,8 +311,23 @@ pub fn is_moved(task: Task) -> bool
     mode.is_buffer() & is_straight(s.transform) & same_format(from, to)
 }
 
-// Draws row y of such a task: the source row as it is.
-pub fn moved_row(memory: &mut [u8], window: Range, task: Task, y: u16, source: &mut [u8])
+// Draws row y of such a task whose source lies in the window: the source row as it is, which no output row meets.
+pub fn moved_row(memory: &mut [u8], window: Range, task: Task, y: u16)
+    requires { ⌜ RowDrawable window (now memory) task y × RowMovable task × (containedIn (span (task .source .surface)) window ≡ true) ⌝ }
+    ensures { λ _. ⌜ now (memory .exit) ≡ drawRow task y (now (memory .entry)) ⌝ }
+{
+    let start = window.start;
+    let end = window.end;
+    let output = task.output;
+    let s = task.source;
+    let from = origin(s.surface, s.transform, 0, y as usize) - start;
+    let to = output.row_start(y) - start;
+    let n = output.row_length();
+    copy_within(&mut memory[start..end], to, from, n);
+}
+
+// Draws row y of such a task: the source row as it is, fetched before the window is lent.
+pub fn carried_row(memory: &mut [u8], window: Range, task: Task, y: u16, source: &mut [u8])
     requires { ⌜ RowBuffered window (now memory) (now source) (now source) task y × RowMovable task ⌝ }
     ensures { λ _. ⌜ now (memory .exit) ≡ drawRow task y (now (memory .entry)) ⌝ }
 {

@@ -7,8 +7,8 @@ use Rattle.raster.proofs.task.draw_task.Tie as tie
 is-moved-requires : tie.Need-is-moved-requires
 is-moved-requires c κs = search needs
 
-moved-rows-requires : tie.Need-moved-rows-requires
-moved-rows-requires c κs =
+unblended-rows-requires : tie.Need-unblended-rows-requires
+unblended-rows-requires c κs =
     let t = c .before .before in
     let n = t .before .before .before in
     let p = n .before .before .before .before .before .before .before .pre in (
@@ -68,7 +68,7 @@ draw-task-spec =
     tie.close
     (tie.spec
     is-moved-requires
-    moved-rows-requires
+    unblended-rows-requires
     same-length
     same-length-2
     returns
