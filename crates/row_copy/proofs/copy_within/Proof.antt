@@ -29,7 +29,7 @@ add-memory c = search needs
 slice-read-memory : tie.Need-slice-read-memory Inv-loop μ-loop
 slice-read-memory c =
     let l = c .before .before in
-    omega (arith, l .loop .inv .1, l .before .pre .origin)
+    omega (arith, l .loop .inv .1, l .before .pre .origin, l .before .pre .target)
 
 add-memory-2 : tie.Need-add-memory-2 Inv-loop μ-loop
 add-memory-2 c = search needs
@@ -37,7 +37,7 @@ add-memory-2 c = search needs
 slice-write-memory : tie.Need-slice-write-memory Inv-loop μ-loop
 slice-write-memory c =
     let l = c .before .before in
-    omega (arith, l .loop .inv .1, l .before .pre .target)
+    omega (arith, l .loop .inv .1, l .before .pre .origin, l .before .pre .target)
 
 add-j : tie.Need-add-j Inv-loop μ-loop
 add-j c = search needs
