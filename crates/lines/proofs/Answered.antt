@@ -26,7 +26,7 @@ use Rattle.claims.proofs.Steps.{Alike}
 use Rattle.claims.proofs.Follows.{together, at-end}
 use Rattle.records.specs.declared.Edition.{Edition}
 use Rattle.records.specs.Records.{Entry, FileEnd, File}
-use Rattle.lines.specs.Editions.{scoreHolds, submission}
+use Rattle.editions.specs.Editions.{scoreHolds, submission}
 use Rattle.lines.specs.Lines.{setup, fileReset, opening, engineOpened, replayStart, submitAndRun, entryLine, endingLine, badScoreLine, printedFrom, lines}
 use Rattle.lines.specs.Answered.{recordRefusal, replayWindow, verdict, ticketOfCount, answerAfter, countAfter, drawnAfter, linesAfter, lineFeeds, OneLine, acceptedFrom, submitAndRunAll, RecordAnswered, ReplayAnswersHold}
 use Rattle.lines.proofs.LineFeeds.{feeds-append, one-feed, answer-one, bad-score-feed}

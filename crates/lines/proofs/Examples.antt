@@ -15,7 +15,7 @@ use Rattle.text.specs.Hex.{hexByte, hexBytes, hexWord}
 use Rattle.text.specs.Decimal.{digitsIn, decimal}
 use Rattle.records.specs.Records.{whole, badVersion, badRecord, cutRecord, fileEnds, consEntry, recordsFrom, records}
 use Rattle.records.specs.declared.Edition.the-variants.{First, Second}
-use Rattle.lines.specs.Editions.{scored}
+use Rattle.editions.specs.Editions.{scored}
 use Rattle.lines.specs.Lines.{completionLine, refusalLine, setup, opening}
 
 -- `0 0 00010001 0 0`

@@ -8,7 +8,7 @@ use Rattle.record.specs.declared.Record.{Record}
 use Rattle.queue.specs.Calls.{setUpResult, openResult}
 use Rattle.claims.specs.Engine.{mkState, performCall, stateAfter}
 use Rattle.records.specs.declared.Edition.{Edition}
-use Rattle.lines.specs.Editions.{resetOf}
+use Rattle.editions.specs.Editions.{resetOf}
 use Rattle.lines.specs.Lines.{engineOpened, replayStart}
 
 abbrev windowFrom : ℕ → Window

@@ -1,8 +1,9 @@
 -- What the editions of a replay file ask of the engine (02, request 14).
 use mathlib.Core.List.{List, [], _∷_}
-use mathlib.Core.Bool.{Bool, true, cond}
+use mathlib.Core.Bool.{Bool, true, cond, _&&_}
 use Prim.Native.Nat.{ℕ}
-use lib.ListN.{drop}
+use lib.Dec.{leb}
+use lib.ListN.{length, drop}
 use Rattle.word.specs.Word.{be32At}
 use Rattle.reset.specs.declared.ResetRule.{ResetRule}
 use Rattle.reset.specs.declared.ResetRule.the-variants.{Unblended, SrcOver}
@@ -35,3 +36,10 @@ scored (entry ∷ entries) = cond (scoreHolds Second entry) (submission Second e
 abbrev pub submissions : Edition → List Entry → List Entry
 submissions First entries = entries
 submissions Second entries = scored entries
+
+-- ---- of a record that lies in the buffer up to `end` (crate records)
+
+-- the score's word stands at 5; bytes that do not lie there have none
+abbrev pub scoreIn : Edition → (held : List ℕ) → (end : ℕ) → Bool
+scoreIn First held end = true
+scoreIn Second held end = (leb 9 end && leb end (length held)) && isScoreWord (be32At held 5)
