@@ -7,6 +7,7 @@ use native.Mathlib.Omega.{arith}
 use lib.ListN.{length, getD, take, drop}
 use borrow.Author.Tests.{le-leb, lt-leb}
 use Rattle.records.specs.declared.Edition.{Edition}
+use Rattle.records.specs.declared.Edition.the-variants.{First, Second}
 use Rattle.records.specs.declared.Stage.{Stage}
 use Rattle.records.specs.declared.Stage.the-variants.{Version, Records, Ended}
 use Rattle.records.specs.declared.Found.{Found}
@@ -50,6 +51,11 @@ module _ (edition : Edition) (engine : Record) (ring memory held line : List ℕ
   found-bad written line′ e prints = rw e (record { engine-is = refl; ring-is = refl; memory-is = refl; prints = prints })
 
 -- ---- a record
+
+-- there is a byte for its client
+pub lies-some : (edition : Edition) (end room : ℕ) → (batchStart edition ≤ end) × (end ≤ room) → 5 ≤ room
+lies-some First end room lies = omega arith
+lies-some Second end room lies = omega arith
 
 module _ (edition : Edition) (engine : Record) (ring memory held line : List ℕ) (end : ℕ) (lies : (batchStart edition ≤ end) × (end ≤ length held)) where
   abbrev begun : State

@@ -25,7 +25,7 @@ start-requires : tie.Need-start-requires
 start-requires c κs = search needs
 
 returns : tie.Need-returns
-returns c = ?
+returns c = cc (starting-engine (c .before .before .before .before .before .before .before .before .before .before .before .before .args .edition))
 
 pub start-spec : {M : Type 1} → statement M
 start-spec =

@@ -1,0 +1,96 @@
+use native.Mathlib.Omega.{arith}
+use Rattle.records.specs.Records.{badRecord}
+use Rattle.lines.specs.Lines.{endingLine}
+use Rattle.replay.proofs.Printing.{prints-typed}
+use Rattle.replay.proofs.Feeding.{found-nothing, found-record, found-version, found-bad}
+use borrow.Author.Needs.{needs}
+use Rattle.replay.proofs.after_found.Statement.{statement}
+use Rattle.replay.proofs.after_found.Tie as tie
+use Rattle.replay.proofs.after_found.Reads as reads
+use Rattle.replay.proofs.after_found.Lts as lts
+use Rattle.replay.proofs.bad_version.Reads as bad-version-reads
+use Rattle.replay.proofs.serve_record.Reads as serve-record-reads
+use Rattle.text.proofs.line.copy.Reads as copy-reads
+
+enum-known-found : tie.Need-enum-known-found
+enum-known-found c = search needs
+
+serve-record-requires : tie.Need-serve-record-requires
+serve-record-requires c κs = (rw (c .before .before .before .before .found .given .1) at (c .before .before .before .before .before .before .before .before .before .before .pre .0), search needs)
+
+enum-told : tie.Need-enum-told
+enum-told c = search needs
+
+enum-told-2 : tie.Need-enum-told-2
+enum-told-2 c = search needs
+
+bad-version-requires : tie.Need-bad-version-requires
+bad-version-requires c κs = search needs
+
+enum-told-3 : tie.Need-enum-told-3
+enum-told-3 c = search needs
+
+slice-aggregate-copy : tie.Need-slice-aggregate-copy
+slice-aggregate-copy c = search needs
+
+copy-requires : tie.Need-copy-requires
+copy-requires c κs = search needs
+
+same-length : tie.Need-same-length
+same-length c = search needs
+
+same-length-2 : tie.Need-same-length-2
+same-length-2 c = search needs
+
+same-length-3 : tie.Need-same-length-3
+same-length-3 c = search needs
+
+returns : tie.Need-returns
+returns c =
+    let a = c .before .before .before .before .before .before .before .before .before .before .before .before .before .before .before .before .before .args in
+    found-record (a .edition) (a .engine) (a .ring .now) (a .memory .now) (a .held .now) (a .line .now) (a .found) _ (c .before .before .before .before .before .before .before .before .before .before .before .found .given .1) _ _ _ _ (c .before .before .before .before .before .before .serve-record .ensures)
+
+returns-2 : tie.Need-returns-2
+returns-2 c =
+    let a = c .before .before .before .before .before .before .args in
+    found-nothing (a .edition) (a .engine) (a .ring .now) (a .memory .now) (a .held .now) (a .line .now) (a .found) (c .enum-told .given .1)
+
+same-length-4 : tie.Need-same-length-4
+same-length-4 c = search needs
+
+returns-3 : tie.Need-returns-3
+returns-3 c =
+    let a = c .before .before .before .before .before .before .before .before .before .before .args in
+    found-version (a .edition) (a .engine) (a .ring .now) (a .memory .now) (a .held .now) (a .line .now) (a .found) _ _ (c .before .before .before .before .enum-told2 .given .1) (c .before .before .bad-version .ensures)
+
+same-length-5 : tie.Need-same-length-5
+same-length-5 c = search needs
+
+returns-4 : tie.Need-returns-4
+unfolding endingLine
+returns-4 c =
+    let s = c .before .before .before .before .before .before .before .before .before .before .before in
+    let a = s .args in
+    found-bad (a .edition) (a .engine) (a .ring .now) (a .memory .now) (a .held .now) (a .line .now) (a .found) _ _ (c .before .before .before .before .before .enum-told3 .given .1) (prints-typed (endingLine badRecord) (a .line .now) _ _ (omega arith) (s .pre .1) (c .before .before .copy .ensures))
+
+pub after-found-spec : {M : Type 1} → statement M
+after-found-spec =
+    tie.close
+    (tie.spec
+    enum-known-found
+    serve-record-requires
+    enum-told
+    enum-told-2
+    bad-version-requires
+    enum-told-3
+    slice-aggregate-copy
+    copy-requires
+    same-length
+    same-length-2
+    same-length-3
+    returns
+    returns-2
+    same-length-4
+    returns-3
+    same-length-5
+    returns-4)
