@@ -1,0 +1,4 @@
+-- What the tally counts; the totals while a file is read; what the calls promise; the sums.
+pub mod Counts
+pub mod Running
+pub mod Tally
