@@ -218,11 +218,10 @@ fn edition_for(begun: bool, edition: Edition, input: &[u8]) -> Edition
     edition_at(input)
 }
 
-// Before the version byte of a file that is to be added to these totals.
-pub fn start(totals: Totals) -> Tally
-    ensures { λ r. ⌜ ((held : List ℕ) → 32777 ≤ length held → Stands totals [] r held) ⌝ }
+// Before the version byte, with these counts.
+fn start_with(counts: [u64; 14]) -> Tally
+    ensures { λ r. ⌜ ((totals : Totals) (held : List ℕ) → totals .counts ≡ counts → 32777 ≤ length held → Stands totals [] r held) ⌝ }
 {
-    let counts = totals.counts;
     Tally {
         edition: Edition::First,
         begun: false,
@@ -232,6 +231,14 @@ pub fn start(totals: Totals) -> Tally
             counts: counts,
         },
     }
+}
+
+// Before the version byte of a file that is to be added to these totals.
+pub fn start(totals: Totals) -> Tally
+    ensures { λ r. ⌜ ((held : List ℕ) → 32777 ≤ length held → Stands totals [] r held) ⌝ }
+{
+    let counts = totals.counts;
+    start_with(counts)
 }
 
 // Takes some bytes of the input, at most those of one record. `held` is to be 32,777 bytes long.
@@ -245,7 +252,8 @@ pub fn feed(tally: Tally, held: &mut [u8], input: &[u8]) -> Fed
             used: 0,
         };
     }
-    let edition = edition_for(tally.begun, tally.edition, input);
+    let known = tally.edition;
+    let edition = edition_for(tally.begun, known, input);
     let reader = tally.reader;
     let running = tally.running;
     let taken = records::take(edition, reader, held, input);

@@ -1,3 +1,10 @@
+use mathlib.Core.Path.{_≡_, sym, _∙_}
+use native.Mathlib.Omega.{arith}
+use borrow.Author.Tests.{leb-true, not-true, not-false}
+use Prim.Native.Nat.{_+_}
+use lib.ListN.{getD}
+use Rattle.tally.specs.Counts.{largest}
+use Rattle.tally.specs.Running.{plus}
 use borrow.Author.Needs.{needs}
 use Rattle.tally.proofs.add.Statement.{statement}
 use Rattle.tally.proofs.add.Tie as tie
@@ -5,37 +12,31 @@ use Rattle.tally.proofs.add.Reads as reads
 use Rattle.tally.proofs.add.Lts as lts
 use Rattle.tally.proofs.has_room.Reads as has-room-reads
 
--- src/lib.rt:77:16
 mul-have : tie.Need-mul-have
 mul-have c = search needs
 
--- src/lib.rt:77:16
 array-read-have : tie.Need-array-read-have
 array-read-have c = search needs
 
--- src/lib.rt:78:9
 has-room-requires : tie.Need-has-room-requires
 has-room-requires c κs = search needs
 
--- src/lib.rt:79:9
 returns : tie.Need-returns
-returns c = ?
+unfolding plus
+returns c = rw (sym (c .before .has-room .ensures) ∙ not-true (c .before .has-room .result) (c .if1 .taken))
 
--- src/lib.rt:84:17
 add-counts : tie.Need-add-counts
-add-counts c = ?
+add-counts c = let room = leb-true (getD (c .before .before .before .args .running .counts) (c .before .before .before .args .k) 0 + c .before .before .before .args .n) largest (sym (c .before .has-room .ensures) ∙ not-false (c .before .has-room .result) (c .if1 .left)) in omega (arith, room)
 
--- src/lib.rt:84:5
 mul-counts : tie.Need-mul-counts
 mul-counts c = search needs
 
--- src/lib.rt:84:5
 array-write-counts : tie.Need-array-write-counts
 array-write-counts c = search needs
 
--- src/lib.rt:72:1
 returns-2 : tie.Need-returns-2
-returns-2 c = ?
+unfolding plus
+returns-2 c = rw (sym (c .before .has-room .ensures) ∙ not-false (c .before .has-room .result) (c .if1 .left))
 
 pub add-spec : {M : Type 1} → statement M
 add-spec =

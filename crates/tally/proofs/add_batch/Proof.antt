@@ -31,6 +31,23 @@ Inv-loop batch bounds current₀ at₀ so-far₀ current at so-far =
 abbrev μ-loop : tie.MeasureT-loop
 μ-loop batch bounds current₀ at₀ so-far₀ current at so-far = length (batchWords batch 0 (length batch)) - at
 
+-- the words of the batch
+abbrev Ws : tie.Start Inv-loop μ-loop → List ℕ
+Ws s = batchWords (s .args .batch .now) 0 (length (s .args .batch .now))
+
+-- a task ends past where it began
+onward : (c : tie.After-task Inv-loop μ-loop) → let l = c .before .before .before .loop in let t = c .task .given in (l .at < t .0 .1 .1 .0) × (t .0 .1 .1 .0 ≤ length (Ws (c .before .before .before .before .before .before .before)))
+onward c =
+    let s = c .before .before .before .before .before .before .before in
+    let l = c .before .before .before .loop in
+    let n = c .before .before .next-task in
+    step-onward (s .args .bounds) (Ws s) (l .current) (l .at) (n .result) (n .ensures) _ _ _ (c .task .given .1)
+
+-- the walk begins with the registers at reset, and with the batch counted
+from-start : (s : tie.Start Inv-loop μ-loop) (b : Bank) → b ≡ resetBank (s .args .rule) → (r : Running) → r ≡ plus 0 1 (s .args .running)
+    → restPlus (decodeBatch (s .args .bounds) b (Ws s)) r ≡ restPlus (decodeBatch (s .args .bounds) (resetBank (s .args .rule)) (Ws s)) (plus 0 1 (s .args .running))
+from-start s b bank r begun = rw (bank, begun)
+
 reset-requires : tie.Need-reset-requires Inv-loop μ-loop
 reset-requires c κs = search needs
 
@@ -50,10 +67,19 @@ add-task-requires : tie.Need-add-task-requires Inv-loop μ-loop
 add-task-requires c κs = search needs
 
 loop-less : tie.Need-loop-less Inv-loop μ-loop
-loop-less c = ?
+loop-less c = omega (arith, onward (c .before .before))
 
 loop-again : tie.Need-loop-again Inv-loop μ-loop
-loop-again c = ?
+loop-again c =
+    let t = c .before .before in
+    let s = t .before .before .before .before .before .before .before in
+    let l = t .before .before .before .loop in
+    let n = t .before .before .next-task in (
+      omega (arith, onward t),
+      l .inv .1
+          ∙ rest-task (s .args .bounds) (Ws s) (l .current) (l .at) (n .result) (n .ensures) (l .so-far) _ _ _ (t .task .given .1)
+          ∙ ap (restPlus (decodeRest (s .args .bounds) (Ws s) (t .task .given .0 .1 .0) (t .task .given .0 .1 .1 .0))) (sym (c .add-task .ensures)),
+    )
 
 enum-known-fault : tie.Need-enum-known-fault Inv-loop μ-loop
 enum-known-fault c = search needs
@@ -62,13 +88,27 @@ add-fault-requires : tie.Need-add-fault-requires Inv-loop μ-loop
 add-fault-requires c κs = search needs
 
 returns : tie.Need-returns Inv-loop μ-loop
-returns c = ?
+returns c =
+    let f = c .before .before in
+    let s = f .before .before .before .before .before .before .before in
+    let l = f .before .before .before .loop in
+    let n = f .before .before .next-task in
+    c .add-fault .ensures
+    ∙ sym (rest-fault (s .args .bounds) (Ws s) (l .current) (l .at) (n .result) (n .ensures) (l .so-far) _ _ _ (f .fault .given .1))
+    ∙ sym (l .inv .1)
+    ∙ from-start s _ (f .before .before .before .before .before .reset .ensures) _ (f .before .before .before .before .add .ensures)
 
 enum-told : tie.Need-enum-told Inv-loop μ-loop
 enum-told c = search needs
 
 returns-2 : tie.Need-returns-2 Inv-loop μ-loop
-returns-2 c = ?
+returns-2 c =
+    let s = c .before .before .before .before .before .before .before in
+    let l = c .before .before .before .loop in
+    let n = c .before .before .next-task in
+    sym (rest-end (s .args .bounds) (Ws s) (l .current) (l .at) (n .result) (n .ensures) (l .so-far) (c .enum-told .given .1))
+    ∙ sym (l .inv .1)
+    ∙ from-start s _ (c .before .before .before .before .before .reset .ensures) _ (c .before .before .before .before .add .ensures)
 
 pub add-batch-spec : {M : Type 1} → statement M
 add-batch-spec =

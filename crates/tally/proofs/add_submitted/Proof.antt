@@ -1,3 +1,4 @@
+use Rattle.tally.proofs.Batch.{submitted-refused, submitted-within}
 use borrow.Author.Needs.{needs}
 use Rattle.tally.proofs.add_submitted.Statement.{statement}
 use Rattle.tally.proofs.add_submitted.Tie as tie
@@ -7,33 +8,30 @@ use Rattle.acceptance.proofs.accept.Reads as accept-reads
 use Rattle.editions.proofs.reset_of.Reads as reset-of-reads
 use Rattle.tally.proofs.add_batch.Reads as add-batch-reads
 
--- src/lib.rt:153:9
 accept-requires : tie.Need-accept-requires
 accept-requires c κs = search needs
 
--- src/lib.rt:155:31
 enum-told : tie.Need-enum-told
 enum-told c = search needs
 
--- src/lib.rt:156:27
 enum-known-submitted : tie.Need-enum-known-submitted
 enum-known-submitted c = search needs
 
--- src/lib.rt:156:72
 reset-of-requires : tie.Need-reset-of-requires
 reset-of-requires c κs = search needs
 
--- src/lib.rt:156:38
 add-batch-requires : tie.Need-add-batch-requires
 add-batch-requires c κs = search needs
 
--- src/lib.rt:150:1
 returns : tie.Need-returns
-returns c = ?
+returns c =
+    let a = c .before .before .before .before .args in
+    submitted-refused (a .edition) (record { client = a .client; batch = a .batch .now }) (a .running) _ (c .before .before .accept .ensures) (c .enum-told .given .1)
 
--- src/lib.rt:150:1
 returns-2 : tie.Need-returns-2
-returns-2 c = ?
+returns-2 c =
+    let a = c .before .before .before .before .before .before .before .args in
+    submitted-within (a .edition) (record { client = a .client; batch = a .batch .now }) (a .running) _ (c .before .before .before .before .before .accept .ensures) _ (c .before .before .before .submitted .given .1) _ (c .before .reset-of .ensures) _ (c .add-batch .ensures)
 
 pub add-submitted-spec : {M : Type 1} → statement M
 add-submitted-spec =

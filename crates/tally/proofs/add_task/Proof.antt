@@ -7,29 +7,23 @@ use Rattle.tally.proofs.add.Reads as add-reads
 use Rattle.tally.proofs.pixels_if.Reads as pixels-if-reads
 use Rattle.tally.proofs.pixels_of.Reads as pixels-of-reads
 
--- src/lib.rt:109:9
 pixels-of-requires : tie.Need-pixels-of-requires
 pixels-of-requires c κs = search needs
 
--- src/lib.rt:110:9
 pixels-if-requires : tie.Need-pixels-if-requires
 pixels-if-requires c κs = search needs
 
--- src/lib.rt:111:9
 add-requires : tie.Need-add-requires
 add-requires c κs = search needs
 
--- src/lib.rt:112:9
 add-requires-2 : tie.Need-add-requires-2
 add-requires-2 c κs = search needs
 
--- src/lib.rt:113:5
 add-requires-3 : tie.Need-add-requires-3
 add-requires-3 c κs = search needs
 
--- src/lib.rt:104:1
 returns : tie.Need-returns
-returns c = ?
+returns c = rw (c .add3 .ensures, c .before .add2 .ensures, c .before .before .add .ensures, c .before .before .before .pixels-if .ensures, c .before .before .before .before .pixels-of .ensures)
 
 pub add-task-spec : {M : Type 1} → statement M
 add-task-spec =

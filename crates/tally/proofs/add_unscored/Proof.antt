@@ -5,23 +5,18 @@ use Rattle.tally.proofs.add_unscored.Reads as reads
 use Rattle.tally.proofs.add_unscored.Lts as lts
 use Rattle.tally.proofs.add.Reads as add-reads
 
--- src/lib.rt:165:27
 enum-told : tie.Need-enum-told
 enum-told c = search needs
 
--- src/lib.rt:165:27
 add-requires : tie.Need-add-requires
 add-requires c κs = search needs
 
--- src/lib.rt:166:28
 enum-told-2 : tie.Need-enum-told-2
 enum-told-2 c = search needs
 
--- src/lib.rt:161:1
 returns : tie.Need-returns
-returns c = ?
+returns c = rw (c .before .enum-told .given .1) (c .add .ensures)
 
--- src/lib.rt:161:1
 returns-2 : tie.Need-returns-2
 returns-2 c = search needs
 

@@ -1,14 +1,14 @@
+use native.Mathlib.Omega.{arith}
+use Rattle.tally.proofs.Adding.{pixels-small}
 use borrow.Author.Needs.{needs}
 use Rattle.tally.proofs.pixels_of.Statement.{statement}
 use Rattle.tally.proofs.pixels_of.Tie as tie
 use Rattle.tally.proofs.pixels_of.Reads as reads
 use Rattle.tally.proofs.pixels_of.Lts as lts
 
--- src/lib.rt:94:5
 mul-result : tie.Need-mul-result
-mul-result c = ?
+mul-result c = let small = pixels-small (c .args .width) (c .args .height) (omega arith) (omega arith) in omega (arith, small)
 
--- src/lib.rt:91:1
 returns : tie.Need-returns
 returns c = search needs
 
