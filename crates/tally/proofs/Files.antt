@@ -1,6 +1,7 @@
 -- A file, whatever its pieces.
 use mathlib.Core.Path.{_≡_, refl, sym, ap, subst, _∙_}
 use mathlib.Core.Bool.{Bool, true, false, cond, false≢true}
+use mathlib.Core.Logic.{_⊎_, inl, inr}
 use mathlib.Core.List.{List, [], _∷_, _++_, append-nil, append-assoc}
 use Prim.Native.Nat.{ℕ, zero, suc, _+_, _-_, _≤_, _<_}
 use native.Mathlib.Omega.{arith}
@@ -102,12 +103,14 @@ module _ (totals : Totals) (seen held : List ℕ) (t : Tally) (S : Stands totals
   ends-large e = record {
     adds = λ small. let o = S .keeps .over e in absurd (omega (arith, o .large, small (o .count), all-there (o .count)));
     refuses = λ c large. (refl, refl);
+    only = inr (refl, refl);
   }
 
   pub ends-small : (after : Totals) → after .counts ≡ t .running .counts → t .running .fits ≡ true → Adds totals seen (record { refusal = 0; totals = after })
   ends-small after is e = record {
     adds = λ small. (refl, λ c. ap (λ (xs : List ℕ). getD xs (position c) 0) is ∙ S .keeps .exact e c ∙ omega (arith, all-there c));
     refuses = λ c large. absurd (omega (arith, large, S .keeps .exact e c, S .keeps .small c, all-there c));
+    only = inl refl;
   }
 
 -- ---- a piece

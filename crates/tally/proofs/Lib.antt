@@ -3,3 +3,4 @@ pub mod Adding
 pub mod Batch
 pub mod Sums
 pub mod Files
+pub mod Order

@@ -2,3 +2,4 @@
 pub mod Counts
 pub mod Running
 pub mod Tally
+pub mod Sums

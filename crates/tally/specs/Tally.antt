@@ -1,5 +1,6 @@
 -- A file added to the totals, a piece at a time (02, request 14: "19, count too large, totals as before that file").
 use mathlib.Core.Path.{_≡_}
+use mathlib.Core.Logic.{_⊎_}
 use mathlib.Core.List.{List, [], _++_}
 use mathlib.Core.Bool.{Bool, true, false, cond}
 use Prim.Native.Nat.{ℕ, _+_, _≤_, _<_}
@@ -25,6 +26,8 @@ pub record Adds (totals : Totals) (file : List ℕ) (answer : Answer) : Type 0 w
       → (answer .refusal ≡ 0) × ((count : Count) → totalOf count (answer .totals) ≡ totalOf count totals + fileCount count file)
   -- where one does, it is refused, and the totals are as before
   pub refuses : (count : Count) → largest < totalOf count totals + fileCount count file → (answer .refusal ≡ 19) × (answer .totals ≡ totals)
+  -- and nothing else is answered
+  pub only : (answer .refusal ≡ 0) ⊎ ((answer .refusal ≡ 19) × (answer .totals ≡ totals))
 
 -- ---- a piece at a time
 
