@@ -159,6 +159,9 @@ mod library {
         wenditsal_set_up(*mut u8, usize, usize, usize, usize, u32) -> u32;
         wenditsal_open(*mut u8, usize, u32, u32, *mut u32) -> u32;
         wenditsal_submit(*mut u8, usize, *mut u8, usize, u32, *const u8, usize, *mut u32) -> u32;
+        wenditsal_begin(*mut u8, usize, *const u8, usize, u32, usize) -> u32;
+        wenditsal_piece(*mut u8, usize, *mut u8, usize, u32, *const u8, usize, *mut u32) -> u32;
+        wenditsal_cancel(*mut u8, usize, u32) -> u32;
         wenditsal_run(*mut u8, usize, *const u8, usize, *mut u8, usize, *mut u32) -> u32;
         wenditsal_pending(*const u8, usize, u32, *mut u32) -> u32;
         wenditsal_encode(HeaderFields, *mut u8, usize) -> u32;
