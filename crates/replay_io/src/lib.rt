@@ -236,7 +236,14 @@ fn asks_slow() -> bool {
 }
 
 // Replays standard input, or the file that an argument names.
-fn replay_one(edition: Edition, is_input: bool, is_file: bool, index: usize, slow: bool, usage: &[u8]) {
+fn replay_one(
+    edition: Edition,
+    is_input: bool,
+    is_file: bool,
+    index: usize,
+    slow: bool,
+    usage: &[u8],
+) {
     let mut memory = io::large_buffer();
     if is_input {
         replay_from(

@@ -305,8 +305,6 @@ pub fn finish(totals: Totals, tally: Tally) -> Answer
     }
     Answer {
         refusal: 0,
-        totals: Totals {
-            counts: counts,
-        },
+        totals: Totals { counts: counts },
     }
 }

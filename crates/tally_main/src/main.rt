@@ -7,9 +7,7 @@ const PROGRESS: i32 = 4;
 
 // Adds the files of the arguments from 1 on.
 fn add_files(count: usize) {
-    let mut totals = Totals {
-        counts: [0u64; 14],
-    };
+    let mut totals = Totals { counts: [0u64; 14] };
     let mut index = 1;
     let mut refusal = 0;
     while (index < count) & (refusal == 0) {
