@@ -10,7 +10,7 @@ fn add_files(count: usize) {
     let mut totals = Totals { counts: [0u64; 14] };
     let mut index = 1;
     let mut refusal = 0;
-    while (index < count) & (refusal == 0) {
+    while index < count && refusal == 0 {
         let answer = tally_io::add_argument(index, totals);
         let after = answer.totals;
         totals = after;
