@@ -79,7 +79,6 @@ performCall (piece client bytes) s =
 performCall (cancel client) s =
     let r : Reply = cancelResult (s .engine) client in
     record { answer = answerOrRefusal (refusalNumberOf (r .answer)) done; after = mkState (r .engine) (s .ring) (s .memory) }
-
 performCall (close client) s =
     let r : Reply = closeResult (s .engine) (length (s .memory)) client in
     record {

@@ -15,3 +15,5 @@ pub mod Judged
 pub mod Fold
 -- a task whose output rows are rows of its source
 pub mod Moved
+-- a task whose output is its own destination
+pub mod Mixed

@@ -3,21 +3,29 @@ ghost use mathlib.Core.Path.{_≡_};
 ghost use mathlib.Core.Bool.{true, false};
 ghost use Prim.Native.Nat.{_+_, _*_, _≤_, _<_};
 ghost use lib.ListN.{length};
+ghost use Rattle.range.specs.Range.{containedIn};
 ghost use Rattle.pixel.specs.Formats.{bytesPerPixel};
-ghost use Rattle.surface.specs.Surface.{rowLength};
+ghost use Rattle.surface.specs.Surface.{rowLength, span};
 ghost use Rattle.surface.specs.Drawn.{loadPixel};
 ghost use Rattle.rows.specs.Row.{colourIn, HoldsColours};
 ghost use Rattle.raster.specs.Task.{sourceColour};
-ghost use Rattle.raster.specs.Row.{rowDrawn, drawRow, isUniform, uniformColour, SourceRowInBounds, RowFits, RowBuffered, RowFillable, isMoved, RowMovable};
+ghost use Rattle.rows.specs.Mixed.{composite};
+ghost use Rattle.combine.specs.Plan.{planOf};
+ghost use Rattle.raster.specs.Row.{rowDrawn, drawRow, isUniform, uniformColour, SourceRowInBounds, RowFits, RowMixes, RowDrawable, RowBuffered, RowFetched, RowFillable, isMoved, RowMovable, isInPlace, FinishFits};
+use combine::Plan;
+use composite::mix_row;
 use gradient::colour_at;
 use pixel::Colour;
+use pixel::Format;
 use range::Range;
 use register::Source;
 use register::SourceMode;
 use register::Task;
+use row_copy::copy_within;
 use row_copy::fetch_bytes;
 use row_copy::store_bytes;
 use rows::is_straight;
+use rows::origin;
 use rules::same_format;
 use scanline::blend_row;
 use scanline::blit_row;
@@ -30,7 +38,7 @@ use surface::Surface;
 use transform::mirror;
 
 // Whether all pixels of an output row have one colour.
-fn is_uniform(mode: SourceMode) -> bool
+pub fn is_uniform(mode: SourceMode) -> bool
     ensures { λ r. ⌜ r ≡ isUniform mode ⌝ }
 {
     match mode {
@@ -119,16 +127,102 @@ fn store_at(window: &mut [u8], at: usize, output: Surface, source: &[u8])
     store_bytes(&mut window[at..end], output.width as usize, format, source);
 }
 
+// Blends a row of the source's colours with the output's own, in the window from byte `at` on. What the buffer holds afterwards is free.
+fn mix_at(window: &mut [u8], at: usize, task: Task, plan: Plan, source: &mut [u8])
+    requires { ⌜ RowMixes task at plan (now window) (now source) ⌝ }
+    ensures { λ _. ⌜ now (window .exit) ≡ rowDrawn (task .output) at (λ x. composite (task .blending) (task .source .alpha) (task .destination .alpha) (colourIn (now (source .entry)) x) (loadPixel Format.Argb8888 (now (window .entry)) (at + x * 4))) (now (window .entry)) ⌝ }
+{
+    let output = task.output;
+    let blending = task.blending;
+    let s = task.source;
+    let d = task.destination;
+    let end = at + output.row_length();
+    let width = output.width as usize;
+    mix_row(
+        &mut window[at..end],
+        source,
+        width,
+        blending,
+        plan,
+        s.alpha,
+        d.alpha,
+    );
+}
+
+// How a row of the source's colours in a buffer becomes the output's.
+pub enum Finish {
+    // stored as it is
+    Copied,
+    // blended with the output's own row, where that lies
+    InPlace,
+    // blended with a row of the destination in a buffer, and stored from there
+    Blended,
+}
+
+// Whether the output is its own destination, in the format of the buffers.
+fn is_in_place(task: Task) -> bool
+    ensures { λ r. ⌜ r ≡ isInPlace task ⌝ }
+{
+    let d = task.destination;
+    let surface = d.surface;
+    let output = task.output;
+    let from = surface.format;
+    let to = output.format;
+    same_format(from, Format::Argb8888)
+        & same_format(to, Format::Argb8888)
+        & (surface.address == output.address)
+        & (surface.stride == output.stride)
+}
+
+// How the rows of a task become its output's: the same for all of them.
+pub fn finish_of(task: Task) -> Finish
+    ensures { λ r. ⌜ FinishFits r task ⌝ }
+{
+    let blending = task.blending;
+    if blending.on {
+        if is_in_place(task) {
+            return Finish::InPlace;
+        }
+        return Finish::Blended;
+    }
+    Finish::Copied
+}
+
+// Draws row y of a task that copies its source.
+fn copied_row(memory: &mut [u8], window: Range, task: Task, y: u16, source: &[u8])
+    requires { ⌜ RowFetched window (now memory) (now source) (now source) task y × (task .blending .on ≡ false) ⌝ }
+    ensures { λ _. ⌜ now (memory .exit) ≡ drawRow task y (now (memory .entry)) ⌝ }
+{
+    let start = window.start;
+    let end = window.end;
+    let output = task.output;
+    let at = output.row_start(y) - start;
+    blit_at(&mut memory[start..end], at, output, source);
+}
+
+// Draws row y of a task that blends its source with its output.
+fn mixed_row(memory: &mut [u8], window: Range, task: Task, plan: Plan, y: u16, source: &mut [u8])
+    requires { ⌜ RowFetched window (now memory) (now source) (now source) task y × FinishFits Finish.InPlace task × (plan ≡ planOf (task .blending .rule)) ⌝ }
+    ensures { λ _. ⌜ now (memory .exit) ≡ drawRow task y (now (memory .entry)) ⌝ }
+{
+    let start = window.start;
+    let end = window.end;
+    let output = task.output;
+    let at = output.row_start(y) - start;
+    mix_at(&mut memory[start..end], at, task, plan, source);
+}
+
 // Draws row y of a task that blends. What it reads is fetched and blended first; then the window alone is lent.
 fn blended_row(
     memory: &mut [u8],
     window: Range,
     task: Task,
+    plan: Plan,
     y: u16,
     source: &mut [u8],
     destination: &mut [u8],
 )
-    requires { ⌜ RowBuffered window (now memory) (now source) (now destination) task y × (task .blending .on ≡ true) ⌝ }
+    requires { ⌜ RowFetched window (now memory) (now source) (now destination) task y × (task .blending .on ≡ true) × (plan ≡ planOf (task .blending .rule)) ⌝ }
     ensures { λ _. ⌜ now (memory .exit) ≡ drawRow task y (now (memory .entry)) ⌝ }
 {
     let start = window.start;
@@ -141,28 +235,71 @@ fn blended_row(
     let width = output.width as usize;
     let at = output.row_start(y) - start;
     let from = surface.row_start(y);
-    fetch_source(source, width, memory, task.source, y as usize);
     fetch_row(destination, width, memory, from, format);
-    blend_row(destination, source, width, task.blending, s.alpha, d.alpha);
+    blend_row(
+        destination,
+        source,
+        width,
+        task.blending,
+        plan,
+        s.alpha,
+        d.alpha,
+    );
     blit_at(&mut memory[start..end], at, output, destination);
 }
 
-// Draws row y of a task that copies its source.
-fn copied_row(memory: &mut [u8], window: Range, task: Task, y: u16, source: &mut [u8])
-    requires { ⌜ RowBuffered window (now memory) (now source) (now source) task y × (task .blending .on ≡ false) ⌝ }
+// Draws row y of a task whose source colours are in the buffer.
+fn finish_row(
+    memory: &mut [u8],
+    window: Range,
+    task: Task,
+    plan: Plan,
+    finish: Finish,
+    y: u16,
+    source: &mut [u8],
+    destination: &mut [u8],
+)
+    requires { ⌜ RowFetched window (now memory) (now source) (now destination) task y × FinishFits finish task × (plan ≡ planOf (task .blending .rule)) ⌝ }
     ensures { λ _. ⌜ now (memory .exit) ≡ drawRow task y (now (memory .entry)) ⌝ }
 {
-    let start = window.start;
-    let end = window.end;
+    match finish {
+        Finish::Copied => {
+            copied_row(memory, window, task, y, source);
+            return;
+        }
+        Finish::InPlace => {
+            mixed_row(memory, window, task, plan, y, source);
+            return;
+        }
+        Finish::Blended => {
+            blended_row(memory, window, task, plan, y, source, destination);
+            return;
+        }
+    }
+}
+
+// Draws row y of a task by way of the buffers.
+pub fn buffered_row(
+    memory: &mut [u8],
+    window: Range,
+    task: Task,
+    plan: Plan,
+    finish: Finish,
+    y: u16,
+    source: &mut [u8],
+    destination: &mut [u8],
+)
+    requires { ⌜ RowBuffered window (now memory) (now source) (now destination) task y × FinishFits finish task × (plan ≡ planOf (task .blending .rule)) ⌝ }
+    ensures { λ _. ⌜ now (memory .exit) ≡ drawRow task y (now (memory .entry)) ⌝ }
+{
     let output = task.output;
     let width = output.width as usize;
-    let at = output.row_start(y) - start;
     fetch_source(source, width, memory, task.source, y as usize);
-    blit_at(&mut memory[start..end], at, output, source);
+    finish_row(memory, window, task, plan, finish, y, source, destination);
 }
 
 // Whether the output rows of a task without blending are rows of its source, byte by byte.
-fn is_moved(task: Task) -> bool
+pub fn is_moved(task: Task) -> bool
     ensures { λ r. ⌜ r ≡ isMoved task ⌝ }
 {
     let s = task.source;
@@ -174,8 +311,23 @@ fn is_moved(task: Task) -> bool
     mode.is_buffer() & is_straight(s.transform) & same_format(from, to)
 }
 
-// Draws row y of such a task: the source row as it is.
-fn moved_row(memory: &mut [u8], window: Range, task: Task, y: u16, source: &mut [u8])
+// Draws row y of such a task whose source lies in the window: the source row as it is, which no output row meets.
+pub fn moved_row(memory: &mut [u8], window: Range, task: Task, y: u16)
+    requires { ⌜ RowDrawable window (now memory) task y × RowMovable task × (containedIn (span (task .source .surface)) window ≡ true) ⌝ }
+    ensures { λ _. ⌜ now (memory .exit) ≡ drawRow task y (now (memory .entry)) ⌝ }
+{
+    let start = window.start;
+    let end = window.end;
+    let output = task.output;
+    let s = task.source;
+    let from = origin(s.surface, s.transform, 0, y as usize) - start;
+    let to = output.row_start(y) - start;
+    let n = output.row_length();
+    copy_within(&mut memory[start..end], to, from, n);
+}
+
+// Draws row y of such a task: the source row as it is, fetched before the window is lent.
+pub fn carried_row(memory: &mut [u8], window: Range, task: Task, y: u16, source: &mut [u8])
     requires { ⌜ RowBuffered window (now memory) (now source) (now source) task y × RowMovable task ⌝ }
     ensures { λ _. ⌜ now (memory .exit) ≡ drawRow task y (now (memory .entry)) ⌝ }
 {
@@ -190,7 +342,7 @@ fn moved_row(memory: &mut [u8], window: Range, task: Task, y: u16, source: &mut 
 }
 
 // Draws row y of a task, where the row has one colour.
-fn filled_row(memory: &mut [u8], window: Range, task: Task, y: u16)
+pub fn filled_row(memory: &mut [u8], window: Range, task: Task, y: u16)
     requires { ⌜ RowFillable window (now memory) task y ⌝ }
     ensures { λ _. ⌜ now (memory .exit) ≡ drawRow task y (now (memory .entry)) ⌝ }
 {
@@ -201,33 +353,4 @@ fn filled_row(memory: &mut [u8], window: Range, task: Task, y: u16)
     let at = output.row_start(y) - start;
     let c = uniform_colour(s, y as usize);
     fill_at(&mut memory[start..end], at, output, c);
-}
-
-// Draws row y of a task.
-pub fn draw_row(
-    memory: &mut [u8],
-    window: Range,
-    task: Task,
-    y: u16,
-    source: &mut [u8],
-    destination: &mut [u8],
-)
-    requires { ⌜ RowBuffered window (now memory) (now source) (now destination) task y ⌝ }
-    ensures { λ _. ⌜ now (memory .exit) ≡ drawRow task y (now (memory .entry)) ⌝ }
-{
-    if task.blending.on {
-        blended_row(memory, window, task, y, source, destination);
-        return;
-    }
-    if is_moved(task) {
-        moved_row(memory, window, task, y, source);
-        return;
-    }
-    let s = task.source;
-    let mode = s.mode;
-    if is_uniform(mode) {
-        filled_row(memory, window, task, y);
-        return;
-    }
-    copied_row(memory, window, task, y, source);
 }

@@ -1,2 +1,3 @@
 -- Rows of pixels in a format's own bytes.
 pub mod Held
+pub mod Apart

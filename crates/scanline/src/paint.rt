@@ -4,9 +4,10 @@ ghost use Prim.Native.Nat.{_*_, _≤_};
 ghost use lib.ListN.{length};
 ghost use Rattle.rows.specs.Row.{colourIn, HoldsColours, rowStored, RowIsWide};
 ghost use Rattle.rows.specs.Mixed.{composite};
+ghost use Rattle.combine.specs.Plan.{planOf};
 use crate::argb::fill_words;
 use crate::argb::word_of;
-use combine::plan_of;
+use combine::Plan;
 use composite::mix_row;
 use convert::copy;
 use convert::to_565;
@@ -80,20 +81,20 @@ pub fn blend_row(
     source: &mut [u8],
     width: usize,
     blending: Blending,
+    plan: Plan,
     source_alpha: Alpha,
     destination_alpha: Alpha,
 )
-    requires { ⌜ (width * 4 ≤ length (now source)) × (width * 4 ≤ length (now destination)) ⌝ }
+    requires { ⌜ (width * 4 ≤ length (now source)) × (width * 4 ≤ length (now destination)) × (plan ≡ planOf (blending .rule)) ⌝ }
     ensures { λ _. ⌜ HoldsColours (now (destination .exit)) width (λ x. composite blending «source_alpha» «destination_alpha» (colourIn (now (source .entry)) x) (colourIn (now (destination .entry)) x)) ⌝ }
 {
     let n = width * 4;
-    let rule = blending.rule;
     mix_row(
         &mut destination[0..n],
         source,
         width,
         blending,
-        plan_of(rule),
+        plan,
         source_alpha,
         destination_alpha,
     );

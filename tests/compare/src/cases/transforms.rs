@@ -22,6 +22,7 @@ fn turned(turns: u32, (width, height): (u32, u32)) -> (u32, u32) {
 
 pub fn compare(trials: &mut Trials) -> Agreed {
     small(trials)?;
+    rows(trials)?;
     sizes(trials)?;
     long(trials)?;
     solid(trials)
@@ -41,6 +42,18 @@ fn small(trials: &mut Trials) -> Agreed {
             trials.task(&bench, &blended(task, "SRC_OVER"))?;
             trials.task(&bench, &blended(task, "XOR"))?;
         }
+    }
+    Ok(())
+}
+
+/// Rows of one format as they are, of every width up to 70, upside down and not: from common, and from the window before the output and after it.
+fn rows(trials: &mut Trials) -> Agreed {
+    let bench = bench(Numbers { ring: 128, memory: 4000, common: 1000 }, 0);
+    for number in 0..70 * 3 * 2 * 3 {
+        let (width, format, flip) = (1 + number % 70, number as usize / 70 % 3, number / 210 % 2);
+        let address = [3, 1001, 3001][number as usize / 420];
+        let task = copy(place(address, (width, 3), format), place(2001, (width, 3), format), 0, 0, flip);
+        trials.task(&bench, &task)?;
     }
     Ok(())
 }

@@ -8,7 +8,7 @@ use Rattle.rows.specs.Row.{colourAt}
 use Rattle.rows.specs.Mixed.{composite}
 use Rattle.raster.specs.Task.{destinationColour}
 use Rattle.raster.proofs.Pixel.{pixel-blended}
-use Rattle.raster.proofs.Place.{ordered, room, fetches, destination-row, length-window, row-fits, row-drawn}
+use Rattle.raster.proofs.Place.{ordered, room, destination-row, length-window, row-fits, row-drawn}
 use borrow.Author.Needs.{needs}
 use Rattle.raster.proofs.row.blended_row.Statement.{statement}
 use Rattle.raster.proofs.row.blended_row.Tie as tie
@@ -25,42 +25,38 @@ sub-at c = search needs
 row-start-requires-2 : tie.Need-row-start-requires-2
 row-start-requires-2 c κs = search needs
 
-fetch-source-requires : tie.Need-fetch-source-requires
-fetch-source-requires c κs =
-    let s = c .before .before .before .before .before .before .before .before .before .before .before .before in
-    fetches (s .pre .0 .ask) (now (s .args .source)) (s .pre .0 .buffers .source)
-
 fetch-row-requires : tie.Need-fetch-row-requires
 fetch-row-requires c κs =
-    let u = c .before .before .before .before .before .before .before in
+    let u = c .before .before in
     let p = u .before .before .before .before .before .before .before .before .before .before .pre in
-    (omega (arith, u .row-start2 .ensures, destination-row (p .0 .ask) (p .1)), omega (arith, p .0 .buffers .destination, p .0 .ask .drawable .clear .output .narrow))
+    let r = p .0 .row in
+    (omega (arith, u .row-start2 .ensures, destination-row (r .ask) (p .1)), omega (arith, r .buffers .destination, r .ask .drawable .clear .output .narrow))
 
 blend-row-requires : tie.Need-blend-row-requires
 blend-row-requires c κs =
     let g = c .before .before .before .before in
-    let f = g .before .before .before .before .before in
-    let p = f .before .before .before .before .before .before .before .before .before .before .before .before .before .pre .0 in
-    let n = p .ask .drawable .clear .output .narrow in
-    (omega (arith, f .fetch-source .kept .0, p .buffers .source, n), omega (arith, g .fetch-row .kept .0, p .buffers .destination, n))
+    let s = g .before .before .before .before .before .before .before .before .before .before .before .before .before in
+    let r = s .pre .0 .row in
+    let n = r .ask .drawable .clear .output .narrow in
+    (omega (arith, r .buffers .source, n), omega (arith, g .fetch-row .kept .0, r .buffers .destination, n), s .pre .2)
 
 sub-blit-at : tie.Need-sub-blit-at
-sub-blit-at c = ordered (c .before .before .before .before .before .before .before .before .before .before .before .before .before .before .before .before .before .before .before .before .before .before .before .before .before .before .before .pre .0 .ask)
+sub-blit-at c = ordered (c .before .before .before .before .before .before .before .before .before .before .before .before .before .before .before .before .before .before .before .before .before .before .pre .0 .row .ask)
 
 part-blit-at-start : tie.Need-part-blit-at-start
 part-blit-at-start c =
-    let r = c .before .before .before .before .before .before .before .before .before .before .before .before .before .before .before .before .before .before .before .before .before .before .before .before .before .before .before .pre .0 .ask in
+    let r = c .before .before .before .before .before .before .before .before .before .before .before .before .before .before .before .before .before .before .before .before .before .before .pre .0 .row .ask in
     omega (arith, ordered r, room r)
 
 part-blit-at-end : tie.Need-part-blit-at-end
-part-blit-at-end c = omega (arith, room (c .before .before .before .before .before .before .before .before .before .before .before .before .before .before .before .before .before .before .before .before .before .before .before .before .before .before .before .pre .0 .ask))
+part-blit-at-end c = omega (arith, room (c .before .before .before .before .before .before .before .before .before .before .before .before .before .before .before .before .before .before .before .before .before .before .pre .0 .row .ask))
 
 blit-at-requires : tie.Need-blit-at-requires
 blit-at-requires c κs =
     let b = c .before .before .before .before .before .before in
     let g = b .before .before .before .before .before in
-    let t = g .before .before .before .before .before .before .before .before .before in
-    let p = t .before .before .before .before .before .before .before .before .before .pre .0 in
+    let t = g .before .before .before .before in
+    let p = t .before .before .before .before .before .before .before .before .before .pre .0 .row in
     record {
       inside = omega (arith, row-fits (p .ask) _ (t .row-start .ensures), length-window (p .ask));
       room = omega (arith, b .blend-row .kept .0, g .fetch-row .kept .0, p .buffers .destination, p .ask .drawable .clear .output .narrow);
@@ -80,18 +76,17 @@ unfolding destinationColour colourAt
 returns c =
     let b = c .before .before .before .before .before .before .before .before .before in
     let g = b .before .before .before .before .before in
-    let f = g .before .before .before .before .before in
-    let u = f .before .before .before in
+    let u = g .before .before .before in
     let t = u .before in
     let s = t .before .before .before .before .before .before .before .before .before in
     let a = s .args in
     let d = a .task .destination .surface in
     let i = c .before .before .blit-at in
-    row-drawn (s .pre .0 .ask) _ (t .row-start .result) (i .last .0) (t .row-start .ensures) (i .ensures)
+    row-drawn (s .pre .0 .row .ask) _ (t .row-start .result) (i .last .0) (t .row-start .ensures) (i .ensures)
     (λ x l.
     b .blend-row .ensures x l
     ∙ (ap₂ (composite (a .task .blending) (a .task .source .alpha) (a .task .destination .alpha))
-    (f .fetch-source .ensures x l)
+    (s .pre .0 .held x l)
     (g .fetch-row .ensures x l ∙ ap (λ (i : ℕ). loadPixel (d .format) (now (a .memory)) (i + x * bytesPerPixel (d .format))) (u .row-start2 .ensures))
     ∙ sym (pixel-blended (a .task) (now (a .memory)) x (a .y) (s .pre .1))))
 
@@ -103,7 +98,6 @@ blended-row-spec =
     row-start-requires
     sub-at
     row-start-requires-2
-    fetch-source-requires
     fetch-row-requires
     blend-row-requires
     sub-blit-at

@@ -16,7 +16,7 @@ sub-at c = search needs
 uniform-colour-requires : tie.Need-uniform-colour-requires
 uniform-colour-requires c κs =
     let s = c .before .before .before .before in
-    uniform-down (s .pre .ask) (s .pre .uniform)
+    uniform-down (s .pre .ask) (s .pre .fill .uniform)
 
 sub-fill-at : tie.Need-sub-fill-at
 sub-fill-at c = ordered (c .before .before .before .before .before .pre .ask)
@@ -47,8 +47,8 @@ returns c =
     row-drawn (s .pre .ask) _ (t .row-start .result) (f .last .0) (t .row-start .ensures) (f .ensures)
     (λ x l.
     u .uniform-colour .ensures
-    ∙ (source-uniform (a .task .source) (now (a .memory)) x (a .y) (s .pre .uniform) (s .pre .ask .drawable .clear .upright)
-    ∙ sym (pixel-plain (a .task) (now (a .memory)) x (a .y) (s .pre .plain))))
+    ∙ (source-uniform (a .task .source) (now (a .memory)) x (a .y) (s .pre .fill .uniform) (s .pre .ask .drawable .clear .upright)
+    ∙ sym (pixel-plain (a .task) (now (a .memory)) x (a .y) (s .pre .fill .plain))))
 
 pub filled-row-spec : {M : Type 1} → statement M
 filled-row-spec =

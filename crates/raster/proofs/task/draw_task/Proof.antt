@@ -1,87 +1,85 @@
-use mathlib.Core.Path.{_≡_, refl, _∙_}
-use Prim.Native.Nat.{_-_, _≤_}
-use native.Mathlib.Omega.{arith}
-use lib.ListN.{length}
-use denote.Ref.{now}
-use Rattle.raster.proofs.Turn.{begun, none-begun, more-begun, all-begun}
+use mathlib.Core.Path.{sym, _∙_}
+use borrow.Author.Tests.{not-true}
 use borrow.Author.Needs.{needs}
 use Rattle.raster.proofs.task.draw_task.Statement.{statement}
 use Rattle.raster.proofs.task.draw_task.Tie as tie
 
-abbrev Inv-loop : tie.InvT-loop
-Inv-loop memory₀ window task source₀ destination₀ height y₀ memory source destination y =
-    (y ≤ height)
-    × (memory ≡ begun task y memory₀)
-    × (length memory ≡ length memory₀)
-    × (length source ≡ length source₀)
-    × (length destination ≡ length destination₀)
+is-moved-requires : tie.Need-is-moved-requires
+is-moved-requires c κs = search needs
 
-abbrev μ-loop : tie.MeasureT-loop
-μ-loop memory₀ window task source₀ destination₀ height y₀ memory source destination y = height - y
-
-loop-holds : tie.Need-loop-holds Inv-loop μ-loop
-loop-holds c = (search needs, none-begun _ _, refl, refl, refl)
-
-draw-row-requires : tie.Need-draw-row-requires Inv-loop μ-loop
-draw-row-requires c κs =
-    let t = c .before .before .before in
-    let l = t .before .loop in
-    let s = t .before .before .before .before .before .before in
-    record {
-      ask = record { drawable = rw (l .inv .2) (s .pre .0); row = t .loop-test .taken };
-      buffers = record { source = omega (arith, l .inv .3, s .pre .1 .source); destination = omega (arith, l .inv .4, s .pre .1 .destination) };
-    }
-
-add-y : tie.Need-add-y Inv-loop μ-loop
-add-y c =
-    let t = c .before .before .before .before .before .before .before .before .before .before in
-    omega (arith, t .loop-test .taken, t .before .before .before .before .before .before .pre .0 .clear .output .low)
-
-loop-less : tie.Need-loop-less Inv-loop μ-loop
-loop-less c = search needs
-
-loop-again : tie.Need-loop-again Inv-loop μ-loop
-loop-again c =
-    let d = c .before .before .before .before .before .before in
-    let t = d .before .before .before .before in
-    let l = t .before .loop in
-    let s = t .before .before .before .before .before .before in
-    let f = d .draw-row in (
-      search needs,
-      more-begun (s .args .window) _ (s .args .task) (s .pre .0 .clear) (now (s .args .memory)) (l .memory) (f .last .0) (l .y) (t .loop-test .taken) (l .inv .1) (f .ensures),
-      f .kept .0 ∙ l .inv .2,
-      f .kept .1 .1 .1 .1 .0 ∙ l .inv .3,
-      f .kept .1 .1 .1 .1 .1 .0 ∙ l .inv .4,
+unblended-rows-requires : tie.Need-unblended-rows-requires
+unblended-rows-requires c κs =
+    let t = c .before .before in
+    let n = t .before .before .before in
+    let p = n .before .before .before .before .before .before .before .pre in (
+      p .0,
+      record { source = p .1 .source; destination = p .1 .source },
+      record { plain = not-true _ (n .if1 .taken); moved = sym (t .before .is-moved .ensures) ∙ t .if2 .taken },
     )
 
-same-length : tie.Need-same-length Inv-loop μ-loop
+same-length : tie.Need-same-length
 same-length c = search needs
 
-same-length-2 : tie.Need-same-length-2 Inv-loop μ-loop
+same-length-2 : tie.Need-same-length-2
 same-length-2 c = search needs
 
-same-length-3 : tie.Need-same-length-3 Inv-loop μ-loop
+returns : tie.Need-returns
+returns c = search needs
+
+is-uniform-requires : tie.Need-is-uniform-requires
+is-uniform-requires c κs = search needs
+
+filled-rows-requires : tie.Need-filled-rows-requires
+filled-rows-requires c κs =
+    let t = c .before in
+    let n = t .before .before .before .before .before in
+    let p = n .before .before .before .before .before .before .before .pre in
+    (p .0, record { plain = not-true _ (n .if1 .taken); uniform = sym (t .before .is-uniform .ensures) ∙ t .if3 .taken })
+
+same-length-3 : tie.Need-same-length-3
 same-length-3 c = search needs
 
-returns : tie.Need-returns Inv-loop μ-loop
-returns c =
-    let l = c .before .loop in
-    let a = c .before .before .before .before .before .before .args in
-    let e : l .y ≡ a .task .output .height = omega arith in
-    (rw e at (l .inv .1)) ∙ all-begun (a .task) (now (a .memory))
+returns-2 : tie.Need-returns-2
+returns-2 c = search needs
+
+plan-of-requires : tie.Need-plan-of-requires
+plan-of-requires c κs = search needs
+
+finish-of-requires : tie.Need-finish-of-requires
+finish-of-requires c κs = search needs
+
+buffered-rows-requires : tie.Need-buffered-rows-requires
+buffered-rows-requires c κs = search needs
+
+same-length-4 : tie.Need-same-length-4
+same-length-4 c = search needs
+
+same-length-5 : tie.Need-same-length-5
+same-length-5 c = search needs
+
+same-length-6 : tie.Need-same-length-6
+same-length-6 c = search needs
+
+returns-3 : tie.Need-returns-3
+returns-3 c = search needs
 
 pub draw-task-spec : {M : Type 1} → statement M
 draw-task-spec =
     tie.close
     (tie.spec
-    Inv-loop
-    μ-loop
-    loop-holds
-    draw-row-requires
-    add-y
-    loop-less
-    loop-again
+    is-moved-requires
+    unblended-rows-requires
     same-length
     same-length-2
+    returns
+    is-uniform-requires
+    filled-rows-requires
     same-length-3
-    returns)
+    returns-2
+    plan-of-requires
+    finish-of-requires
+    buffered-rows-requires
+    same-length-4
+    same-length-5
+    same-length-6
+    returns-3)

@@ -24,15 +24,12 @@ part-mix-row-start c = search needs
 part-mix-row-end : tie.Need-part-mix-row-end
 part-mix-row-end c = search needs
 
-plan-of-requires : tie.Need-plan-of-requires
-plan-of-requires c κs = search needs
-
 mix-row-requires : tie.Need-mix-row-requires
 mix-row-requires c κs =
-    let s = c .before .before .before .before .before .before in
+    let s = c .before .before .before .before in
     let a = s .args in
     let n : ℕ = a .width * 4 - 0 in
-    let p = planned-is _ _ (c .plan-of .ensures) in
+    let p = planned-is _ _ (s .pre .2) in
     record {
       wide = omega (arith, length-mid 0 n (now (a .destination)) (omega (arith, s .pre .1)));
       room = s .pre .0;
@@ -49,7 +46,7 @@ same-length-2 c = search needs
 returns : tie.Need-returns
 returns c =
     let f = c .before .before .before .before .mix-row in
-    let s = c .before .before .before .before .before .before .before .before .before .before .before in
+    let s = c .before .before .before .before .before .before .before .before .before in
     let a = s .args in
     let n : ℕ = a .width * 4 - 0 in
     let long : length (midOf 0 n (now (a .destination))) ≡ n = length-mid 0 n (now (a .destination)) (omega (arith, s .pre .1)) in
@@ -66,7 +63,6 @@ blend-row-spec =
     sub-mix-row
     part-mix-row-start
     part-mix-row-end
-    plan-of-requires
     mix-row-requires
     same-length
     same-length-2
