@@ -129,7 +129,8 @@ fn print_count(k: usize, number: u64) -> bool
     let a = label(&mut out, k);
     let b = line::decimal(&mut out, a, number);
     let n = line::push(&mut out, b, b'\n');
-    command::print(&out, n)
+    let printed = command::print(&out, n);
+    printed.well
 }
 
 // Prints the fourteen counts.
