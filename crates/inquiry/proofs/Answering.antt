@@ -10,6 +10,7 @@ use lib.ListN.{length, take, drop, length-drop}
 use lib.Seq.{take-all, take-add}
 use lib.Dec.{eqb, leb, ltb}
 use borrow.Author.Tests.{ltb-true, ltb-false, eqb-false, not-true, lt-ltb, le-ltb, le-leb}
+use Rattle.records.specs.declared.Edition.the-variants.{First}
 use Rattle.word.specs.Word.{words}
 use Rattle.word.proofs.Tests.{split, and-true, or-false}
 use Rattle.ring.specs.Segment.{segment, liesInRing, batchWords}
@@ -52,7 +53,7 @@ refusal-none false true = refl
 refusal-none false false = refl
 
 pub taken-is : (client : ℕ) (batch : List ℕ) → taken client (length batch) ≡ eqb (recordRefusal (record { client = client; batch = batch })) 0
-taken-is client batch = refusal-none (ltb 3 client) (badLength setup (length batch))
+taken-is client batch = refusal-none (ltb 3 client) (badLength (setup First) (length batch))
 
 pub taken-facts : (client : ℕ) (batch : List ℕ) → eqb (recordRefusal (record { client = client; batch = batch })) 0 ≡ true → (client ≤ 3) × (0 < length batch)
 taken-facts client batch e =
@@ -84,8 +85,8 @@ module _ (q : Question) (f : Finding) (entry : Entry) where
 
   pub after-accepted : (bounds : Bounds) (last : Touched) (reason : Why) → eqb (recordRefusal entry) 0 ≡ true → f .accepted ≤ 1024
       → bounds ≡ boundsOf (replayWindow (entry .client)) 16384
-      → last ≡ lastFrom (f .touched) (q .address) (numbered (f .accepted) 0 (tasksDrawn (decodeBatch bounds fileReset (batchWords (entry .batch) 0 size))))
-      → reason ≡ cond (eqb (f .accepted) (q .ticket)) (explained (batchWords (entry .batch) 0 size) (decodeBatch bounds fileReset (batchWords (entry .batch) 0 size))) (f .why)
+      → last ≡ lastFrom (f .touched) (q .address) (numbered (f .accepted) 0 (tasksDrawn (decodeBatch bounds (fileReset First) (batchWords (entry .batch) 0 size))))
+      → reason ≡ cond (eqb (f .accepted) (q .ticket)) (explained (batchWords (entry .batch) 0 size) (decodeBatch bounds (fileReset First) (batchWords (entry .batch) 0 size))) (f .why)
       → record { records = f .records + 1; accepted = f .accepted + 1; touched = last; why = reason } ≡ findingAfter q f entry
   unfolding drawnBy
   after-accepted bounds last reason took few bounds-is last-is reason-is =
@@ -174,7 +175,7 @@ module _ (q : Question) where
 
   pub feeds-by : (seen held input held′ : List ℕ) (s : Inquiry) (t : Taken) (fed : Fed) (g : Finding) → g ≡ findingOn q (s .finding) (t .found) held′
       → fed ≡ record { inquiry = record { reader = t .reader; finding = g }; used = t .used }
-      → (Ready (s .reader) held → Takes (s .reader) held input t held′) → Stands q seen s held → Feeds q seen input fed held′
+      → (Ready First (s .reader) held → Takes First (s .reader) held input t held′) → Stands q seen s held → Feeds q seen input fed held′
   feeds-by seen held input held′ s t fed g g-is fed-is takes S =
       let T = takes (S .ready) in
       let bytes : List ℕ = take (t .used) input in
@@ -183,10 +184,10 @@ module _ (q : Question) where
           ready = T .ready;
           counts = on-counts (s .finding) (S .counts) (t .found) held′;
           answers = λ rest.
-              ap (λ (xs : List ℕ). answersOf q (findingFrom q nothingYet (records xs .entries))) (append-assoc seen bytes rest)
+              ap (λ (xs : List ℕ). answersOf q (findingFrom q nothingYet (records First xs .entries))) (append-assoc seen bytes rest)
               ∙ S .answers (bytes ++ rest)
               ∙ ap (λ (file : File). answersOf q (findingFrom q (s .finding) (file .entries))) (T .file rest)
-              ∙ on-answers (s .finding) (S .counts) (t .found) held′ (fileAt (t .reader) held′ rest);
+              ∙ on-answers (s .finding) (S .counts) (t .found) held′ (fileAt First (t .reader) held′ rest);
         };
         some = T .some;
       })
@@ -196,22 +197,22 @@ module _ (q : Question) where
 
   -- at the end no byte follows
   pub ends-by : (seen held : List ℕ) (s : Inquiry) → Stands q seen s held
-      → answersOf q (s .finding) ≡ record { touched = touchedAnswer (records seen) (q .address); fault = faultAnswer (records seen) (q .ticket) }
+      → answersOf q (s .finding) ≡ record { touched = touchedAnswer (records First seen) (q .address); fault = faultAnswer (records First seen) (q .ticket) }
   unfolding findingFrom
   ends-by seen held s S =
-      ap (λ (es : List Entry). answersOf q (findingFrom q (s .finding) es)) (sym (ends-here (s .reader) held (S .ready)))
+      ap (λ (es : List Entry). answersOf q (findingFrom q (s .finding) es)) (sym (ends-here First (s .reader) held (S .ready)))
       ∙ sym (S .answers [])
-      ∙ ap (λ (xs : List ℕ). answersOf q (findingFrom q nothingYet (records xs .entries))) (append-nil seen)
-      ∙ answers-file (records seen)
+      ∙ ap (λ (xs : List ℕ). answersOf q (findingFrom q nothingYet (records First xs .entries))) (append-nil seen)
+      ∙ answers-file (records First seen)
 
 -- ---- the answers, as they are told
 
 module _ (q : Question) (s : Inquiry) (seen held : List ℕ) (S : Stands q seen s held) where
-  pub touched-told : toldTouched (s .finding .records) (q .address) (s .finding .touched) ≡ touchedAnswer (records seen) (q .address)
+  pub touched-told : toldTouched (s .finding .records) (q .address) (s .finding .touched) ≡ touchedAnswer (records First seen) (q .address)
   unfolding answersOf
   touched-told = ap (λ (a : Answers). a .touched) (ends-by q seen held s S)
 
-  pub fault-told : toldFault (s .finding .records) (s .finding .why) ≡ faultAnswer (records seen) (q .ticket)
+  pub fault-told : toldFault (s .finding .records) (s .finding .why) ≡ faultAnswer (records First seen) (q .ticket)
   unfolding answersOf
   fault-told = ap (λ (a : Answers). a .fault) (ends-by q seen held s S)
 

@@ -6,6 +6,7 @@ use mathlib.Core.Bool.{cond, _&&_, _||_}
 use Prim.Native.Nat.{ℕ, _+_, _≤_}
 use lib.ListN.{length, take}
 use lib.Dec.{eqb, ltb}
+use Rattle.records.specs.declared.Edition.the-variants.{First}
 use Rattle.word.specs.Word.{words}
 use Rattle.records.specs.Records.{Entry, records}
 use Rattle.records.specs.declared.Found.{Found}
@@ -54,10 +55,10 @@ answersOf q f = record { touched = toldTouched (f .records) (q .address) (f .tou
 
 -- after these bytes of a file: whatever follows them, the answers of the whole file are those from here on
 pub record Stands (q : Question) (seen : List ℕ) (s : Inquiry) (held : List ℕ) : Type 0 where
-  pub ready : Ready (s .reader) held
+  pub ready : Ready First (s .reader) held
   pub counts : s .finding .accepted ≤ s .finding .records
   pub answers : (rest : List ℕ)
-      → answersOf q (findingFrom q nothingYet (records (seen ++ rest) .entries)) ≡ answersOf q (findingFrom q (s .finding) (fileAt (s .reader) held rest .entries))
+      → answersOf q (findingFrom q nothingYet (records First (seen ++ rest) .entries)) ≡ answersOf q (findingFrom q (s .finding) (fileAt First (s .reader) held rest .entries))
 
 -- after some input more, and it uses a byte of it if there is one
 pub record Feeds (q : Question) (seen : List ℕ) (input : List ℕ) (f : Fed) (held : List ℕ) : Type 0 where

@@ -2,6 +2,7 @@
 ghost use mathlib.Core.Path.{_≡_};
 ghost use mathlib.Core.Bool.{cond};
 ghost use Prim.Native.Nat.{_+_, _*_, _≤_};
+ghost use Rattle.records.specs.declared.Edition.the-variants.{First};
 ghost use Rattle.ring.specs.Segment.{batchWords};
 ghost use Rattle.lines.specs.Lines.{fileReset};
 ghost use Rattle.batch.specs.Batch.{decodeBatch};
@@ -119,7 +120,7 @@ fn detail_of(fault: Fault, register: u32, bank: Bank) -> Detail
 
 // Why the batch of `size` bytes at an offset of the ring is faulty, if it is.
 pub fn explain(ring: &[u8], offset: usize, size: usize, bounds: Bounds) -> Why
-    ensures { λ r. ⌜ r ≡ explained (batchWords (now (ring .entry)) offset size) (decodeBatch bounds fileReset (batchWords (now (ring .entry)) offset size)) ⌝ }
+    ensures { λ r. ⌜ r ≡ explained (batchWords (now (ring .entry)) offset size) (decodeBatch bounds (fileReset First) (batchWords (now (ring .entry)) offset size)) ⌝ }
 {
     let judged = judge(
         ring,

@@ -1,6 +1,7 @@
 // Who drew a byte: the tasks of a batch, one after another.
 ghost use mathlib.Core.Path.{_≡_};
 ghost use mathlib.Core.Bool.{cond};
+ghost use Rattle.records.specs.declared.Edition.the-variants.{First};
 ghost use Rattle.ring.specs.Segment.{batchWords};
 ghost use Rattle.lines.specs.Lines.{fileReset};
 ghost use Rattle.batch.specs.Batch.{decodeBatch, tasksDrawn};
@@ -69,7 +70,7 @@ pub fn after_batch(
     i: usize,
     found: Touched,
 ) -> Touched
-    ensures { λ r. ⌜ r ≡ lastFrom found i (numbered ticket 0 (tasksDrawn (decodeBatch bounds fileReset (batchWords (now (ring .entry)) offset size)))) ⌝ }
+    ensures { λ r. ⌜ r ≡ lastFrom found i (numbered ticket 0 (tasksDrawn (decodeBatch bounds (fileReset First) (batchWords (now (ring .entry)) offset size)))) ⌝ }
 {
     let mut current = Bank::reset(ResetRule::Unblended);
     let mut at = 0;

@@ -6,6 +6,7 @@ ghost use mathlib.Core.List.{List, [], _++_};
 ghost use Prim.Native.Nat.{ℕ, _+_, _*_, _≤_};
 ghost use lib.ListN.{length, take};
 ghost use lib.Dec.{eqb, ltb};
+ghost use Rattle.records.specs.declared.Edition.the-variants.{First};
 ghost use Rattle.ring.specs.Segment.{batchWords};
 ghost use Rattle.lines.specs.Lines.{fileReset};
 ghost use Rattle.batch.specs.Batch.{decodeBatch};
@@ -26,6 +27,7 @@ use provenance::Touched;
 use provenance::TouchedAnswer;
 use provenance::Why;
 use range::Range;
+use records::Edition;
 use records::Found;
 use records::Reader;
 use rules::Bounds;
@@ -79,7 +81,7 @@ fn bounds_of(client: u32) -> Bounds
 
 // Why the batch with the asked ticket faulted, if this is it.
 fn after_why(asked: u32, ticket: u32, batch: &[u8], bounds: Bounds, why: Why) -> Why
-    ensures { λ r. ⌜ r ≡ cond (eqb ticket asked) (explained (batchWords (now (batch .entry)) 0 (length (now (batch .entry)))) (decodeBatch bounds fileReset (batchWords (now (batch .entry)) 0 (length (now (batch .entry)))))) why ⌝ }
+    ensures { λ r. ⌜ r ≡ cond (eqb ticket asked) (explained (batchWords (now (batch .entry)) 0 (length (now (batch .entry)))) (decodeBatch bounds (fileReset First) (batchWords (now (batch .entry)) 0 (length (now (batch .entry)))))) why ⌝ }
 {
     if ticket == asked {
         faulted::explain(batch, 0, batch.len(), bounds)
@@ -128,7 +130,7 @@ fn after_record(question: Question, finding: Finding, client: u32, batch: &[u8])
 
 // The finding after what a step of the reading found in `held`.
 fn after_found(question: Question, finding: Finding, found: Found, held: &[u8]) -> Finding
-    requires { ⌜ Lies found (length (now held)) ⌝ }
+    requires { ⌜ Lies First found (length (now held)) ⌝ }
     ensures { λ r. ⌜ r ≡ findingOn question finding found (now (held .entry)) ⌝ }
 {
     match found {
@@ -163,7 +165,7 @@ pub fn feed(question: Question, inquiry: Inquiry, held: &mut [u8], input: &[u8])
 {
     let reader = inquiry.reader;
     let finding = inquiry.finding;
-    let taken = records::take(reader, held, input);
+    let taken = records::take(Edition::First, reader, held, input);
     let after = taken.reader;
     let found = taken.found;
     let next = after_found(question, finding, found, held);
@@ -200,7 +202,7 @@ pub fn feed_piece(question: Question, inquiry: Inquiry, held: &mut [u8], piece: 
 
 // Who drew the byte last, at the end of the file.
 pub fn who_touched(question: Question, inquiry: Inquiry) -> TouchedAnswer
-    ensures { λ r. ⌜ ((seen held : List ℕ) → Stands question seen inquiry held → r ≡ touchedAnswer (records seen) (question .address)) ⌝ }
+    ensures { λ r. ⌜ ((seen held : List ℕ) → Stands question seen inquiry held → r ≡ touchedAnswer (records First seen) (question .address)) ⌝ }
 {
     let finding = inquiry.finding;
     let touched = finding.touched;
@@ -209,7 +211,7 @@ pub fn who_touched(question: Question, inquiry: Inquiry) -> TouchedAnswer
 
 // Why the batch with the ticket faulted, at the end of the file.
 pub fn why_faulted(question: Question, inquiry: Inquiry) -> FaultAnswer
-    ensures { λ r. ⌜ ((seen held : List ℕ) → Stands question seen inquiry held → r ≡ faultAnswer (records seen) (question .ticket)) ⌝ }
+    ensures { λ r. ⌜ ((seen held : List ℕ) → Stands question seen inquiry held → r ≡ faultAnswer (records First seen) (question .ticket)) ⌝ }
 {
     let finding = inquiry.finding;
     let why = finding.why;

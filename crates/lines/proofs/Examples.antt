@@ -14,6 +14,8 @@ use Rattle.claims.specs.Engine.{answerOrRefusal, performCall, answersOf, initia
 use Rattle.text.specs.Hex.{hexByte, hexBytes, hexWord}
 use Rattle.text.specs.Decimal.{digitsIn, decimal}
 use Rattle.records.specs.Records.{whole, badVersion, badRecord, cutRecord, fileEnds, consEntry, recordsFrom, records}
+use Rattle.records.specs.declared.Edition.the-variants.{First, Second}
+use Rattle.editions.specs.Editions.{scored}
 use Rattle.lines.specs.Lines.{completionLine, refusalLine, setup, opening}
 
 -- `0 0 00010001 0 0`
@@ -39,46 +41,71 @@ unfolding refusalLine digitsIn decimal
 refused = refl
 
 -- an empty file; another version; the version byte alone
-pub empty : records [] ≡ fileEnds badVersion
+pub empty : records First [] ≡ fileEnds badVersion
 unfolding records
 empty = refl
 
-pub other-version : records (2 ∷ []) ≡ fileEnds badVersion
+pub other-version : records First (2 ∷ []) ≡ fileEnds badVersion
 unfolding records
 other-version = refl
 
-pub version-alone : records (1 ∷ []) ≡ fileEnds whole
+pub version-alone : records First (1 ∷ []) ≡ fileEnds whole
 unfolding records recordsFrom
 version-alone = refl
 
 -- one record, of client 3 and one byte
-pub one : records (1 ∷ 0 ∷ 0 ∷ 0 ∷ 2 ∷ 3 ∷ 9 ∷ []) ≡ consEntry (record { client = 3; batch = 9 ∷ [] }) (fileEnds whole)
+pub one : records First (1 ∷ 0 ∷ 0 ∷ 0 ∷ 2 ∷ 3 ∷ 9 ∷ []) ≡ consEntry (record { client = 3; batch = 9 ∷ [] }) (fileEnds whole)
 unfolding records recordsFrom be32At
 one = refl
 
 -- an end inside a length, and inside a record
-pub cut-length : records (1 ∷ 0 ∷ 0 ∷ 0 ∷ []) ≡ fileEnds cutRecord
+pub cut-length : records First (1 ∷ 0 ∷ 0 ∷ 0 ∷ []) ≡ fileEnds cutRecord
 unfolding records recordsFrom
 cut-length = refl
 
-pub cut-body : records (1 ∷ 0 ∷ 0 ∷ 0 ∷ 2 ∷ 3 ∷ []) ≡ fileEnds cutRecord
+pub cut-body : records First (1 ∷ 0 ∷ 0 ∷ 0 ∷ 2 ∷ 3 ∷ []) ≡ fileEnds cutRecord
 unfolding records recordsFrom be32At
 cut-body = refl
 
 -- a length of 0, and one of 32,770, told before the body is missed; 32,769 is allowed
-pub no-length : records (1 ∷ 0 ∷ 0 ∷ 0 ∷ 0 ∷ []) ≡ fileEnds badRecord
+pub no-length : records First (1 ∷ 0 ∷ 0 ∷ 0 ∷ 0 ∷ []) ≡ fileEnds badRecord
 unfolding records recordsFrom be32At
 no-length = refl
 
-pub long : records (1 ∷ 0 ∷ 0 ∷ 128 ∷ 2 ∷ []) ≡ fileEnds badRecord
+pub long : records First (1 ∷ 0 ∷ 0 ∷ 128 ∷ 2 ∷ []) ≡ fileEnds badRecord
 unfolding records recordsFrom be32At
 long = refl
 
-pub longest : records (1 ∷ 0 ∷ 0 ∷ 128 ∷ 1 ∷ []) ≡ fileEnds cutRecord
+pub longest : records First (1 ∷ 0 ∷ 0 ∷ 128 ∷ 1 ∷ []) ≡ fileEnds cutRecord
 unfolding records recordsFrom be32At
 longest = refl
 
 -- set up is accepted, and the four windows are opened
-pub opens-four : answersOf opening (initialState setup [] []) ≡ opened 0 ∷ opened 1 ∷ opened 2 ∷ opened 3 ∷ []
+pub opens-four : answersOf opening (initialState (setup First) [] []) ≡ opened 0 ∷ opened 1 ∷ opened 2 ∷ opened 3 ∷ []
 unfolding answersOf performCall answerOrRefusal setUpResult openResult initialRecord withClient unlessRefused firstRefusal answerUnlessRefused valid windowsOf lowestClosed overlapsAny windowsValid pendingCountsMatch endToEnd lengthsAllowed clientsOpen ticketsConsecutive inTicketOrder readyBatches sumOver
 opens-four = refl
+
+-- ---- edition 2
+
+-- version 1 is a bad one there
+pub second-version : records Second (1 ∷ []) ≡ fileEnds badVersion
+unfolding records
+second-version = refl
+
+-- a length of 4, and one of 32,774; 32,773 is allowed
+pub second-short : records Second (2 ∷ 0 ∷ 0 ∷ 0 ∷ 4 ∷ []) ≡ fileEnds badRecord
+unfolding records recordsFrom be32At
+second-short = refl
+
+pub second-long : records Second (2 ∷ 0 ∷ 0 ∷ 128 ∷ 6 ∷ []) ≡ fileEnds badRecord
+unfolding records recordsFrom be32At
+second-long = refl
+
+pub second-longest : records Second (2 ∷ 0 ∷ 0 ∷ 128 ∷ 5 ∷ []) ≡ fileEnds cutRecord
+unfolding records recordsFrom be32At
+second-longest = refl
+
+-- an end inside the score
+pub second-cut : records Second (2 ∷ 0 ∷ 0 ∷ 0 ∷ 5 ∷ 3 ∷ 63 ∷ []) ≡ fileEnds cutRecord
+unfolding records recordsFrom be32At
+second-cut = refl

@@ -10,7 +10,7 @@ use Rattle.model.specs.Calls.{CompletionStatus, completed}
 use Rattle.claims.specs.Engine.{answerOrRefusal}
 use Rattle.text.specs.Hex.{digitOf, hexByte, hexBytes, hexWord}
 use Rattle.text.specs.Decimal.{digitsIn, decimal}
-use Rattle.lines.specs.Lines.{spaced, completionLine, refusalLine, answerLine}
+use Rattle.lines.specs.Lines.{spaced, completionLine, refusalLine, answerLine, badScoreLine}
 use Rattle.lines.specs.Answered.{lineFeeds, OneLine}
 
 pub feeds-append : (xs ys : List ℕ) → lineFeeds (xs ++ ys) ≡ lineFeeds xs + lineFeeds ys
@@ -100,3 +100,7 @@ pub answer-one : (number client ticket : ℕ) (v : CompletionStatus) → OneLine
 unfolding answerLine answerOrRefusal
 answer-one zero client ticket v = completion-one client ticket v
 answer-one (suc number) client ticket v = refusal-one client (suc number)
+
+pub bad-score-feed : lineFeeds badScoreLine ≡ 1
+unfolding lineFeeds badScoreLine
+bad-score-feed = refl

@@ -3,37 +3,39 @@ use mathlib.Core.Path.{_≡_, refl}
 use mathlib.Core.List.{List}
 use Prim.Native.Nat.{ℕ}
 use lib.ListN.{replicate}
-use Rattle.reset.specs.declared.ResetRule.the-variants.{Unblended}
 use Rattle.record.specs.declared.Window.{Window}
 use Rattle.record.specs.declared.Record.{Record}
 use Rattle.queue.specs.Calls.{setUpResult, openResult}
 use Rattle.claims.specs.Engine.{mkState, performCall, stateAfter}
+use Rattle.records.specs.declared.Edition.{Edition}
+use Rattle.editions.specs.Editions.{resetOf}
 use Rattle.lines.specs.Lines.{engineOpened, replayStart}
 
 abbrev windowFrom : ℕ → Window
 windowFrom start = record { start = start; length = 12288 }
 
-abbrev opened : Record
-opened =
-    let none : Record = setUpResult 32768 65536 16384 Unblended .engine in
-    let one : Record = openResult none (windowFrom 16384) .engine in
-    let two : Record = openResult one (windowFrom 28672) .engine in
-    let three : Record = openResult two (windowFrom 40960) .engine in
-    openResult three (windowFrom 53248) .engine
+module _ (edition : Edition) where
+  abbrev opened : Record
+  opened =
+      let none : Record = setUpResult 32768 65536 16384 (resetOf edition) .engine in
+      let one : Record = openResult none (windowFrom 16384) .engine in
+      let two : Record = openResult one (windowFrom 28672) .engine in
+      let three : Record = openResult two (windowFrom 40960) .engine in
+      openResult three (windowFrom 53248) .engine
 
-pub started-engine : (ring memory : List ℕ) → engineOpened ring memory .engine ≡ opened
-unfolding engineOpened stateAfter performCall
-started-engine ring memory = refl
+  pub started-engine : (ring memory : List ℕ) → engineOpened edition ring memory .engine ≡ opened
+  unfolding engineOpened stateAfter performCall
+  started-engine ring memory = refl
 
-pub starting-engine : replayStart .engine ≡ opened
-unfolding replayStart
-starting-engine = started-engine (replicate 32768 0) (replicate 65536 0)
+  pub starting-engine : replayStart edition .engine ≡ opened
+  unfolding replayStart
+  starting-engine = started-engine (replicate 32768 0) (replicate 65536 0)
 
--- opening changes neither ring nor memory
-pub started-state : (ring memory : List ℕ) → mkState (engineOpened ring memory .engine) ring memory ≡ engineOpened ring memory
-unfolding engineOpened stateAfter performCall
-started-state ring memory = refl
+  -- opening changes neither ring nor memory
+  pub started-state : (ring memory : List ℕ) → mkState (engineOpened edition ring memory .engine) ring memory ≡ engineOpened edition ring memory
+  unfolding engineOpened stateAfter performCall
+  started-state ring memory = refl
 
-pub starting-state : mkState (replayStart .engine) (replicate 32768 0) (replicate 65536 0) ≡ replayStart
-unfolding replayStart
-starting-state = started-state (replicate 32768 0) (replicate 65536 0)
+  pub starting-state : mkState (replayStart edition .engine) (replicate 32768 0) (replicate 65536 0) ≡ replayStart edition
+  unfolding replayStart
+  starting-state = started-state (replicate 32768 0) (replicate 65536 0)

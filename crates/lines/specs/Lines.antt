@@ -1,16 +1,17 @@
--- The lines that a replay file prints (01, "Writer and replay"), as bytes of ASCII.
+-- The lines that a replay file prints (01, "Writer and replay"; 02, request 14: edition 2 "prints as the first does"), as bytes of ASCII.
 use mathlib.Core.List.{List, [], _∷_, _++_}
 use mathlib.Core.Bool.{Bool, true, false, cond}
 use Prim.Native.Nat.{ℕ}
 use lib.ListN.{replicate}
-use Rattle.reset.specs.declared.ResetRule.the-variants.{Unblended}
 use Rattle.register.specs.declared.bank.Bank.{Bank}
 use Rattle.register.specs.Bank.{resetBank}
 use Rattle.model.specs.Calls.{Setup, Call, opens, submit, run, CompletionStatus, Answer, opened, accepted, completed, ready, missing, done, refused}
 use Rattle.claims.specs.Engine.{State, CallResult, performCall, stateAfter, initialState}
 use Rattle.text.specs.Hex.{hexWord}
 use Rattle.text.specs.Decimal.{decimal}
+use Rattle.records.specs.declared.Edition.{Edition}
 use Rattle.records.specs.Records.{Entry, FileEnd, whole, badVersion, badRecord, cutRecord, File}
+use Rattle.editions.specs.Editions.{resetOf, scoreHolds, submission}
 
 -- ---- one line
 
@@ -50,6 +51,10 @@ endingLine badVersion = 98 ∷ 97 ∷ 100 ∷ 32 ∷ 118 ∷ 101 ∷ 114 ∷ 115
 endingLine badRecord = 98 ∷ 97 ∷ 100 ∷ 32 ∷ 114 ∷ 101 ∷ 99 ∷ 111 ∷ 114 ∷ 100 ∷ 10 ∷ []
 endingLine cutRecord = 99 ∷ 117 ∷ 116 ∷ 32 ∷ 114 ∷ 101 ∷ 99 ∷ 111 ∷ 114 ∷ 100 ∷ 10 ∷ []
 
+-- "A score word outside 0 to 1, or NaN, prints `bad score` for that record"
+unfoldable pub badScoreLine : List ℕ
+badScoreLine = 98 ∷ 97 ∷ 100 ∷ 32 ∷ 115 ∷ 99 ∷ 111 ∷ 114 ∷ 101 ∷ 10 ∷ []
+
 -- ---- the records, one after another
 
 abbrev pub isAccepted : Answer → Bool
@@ -71,23 +76,30 @@ submitAndRun entry s =
 abbrev pub entryLine : Entry → State → List ℕ
 entryLine entry s = answerLine (entry .client) (submitAndRun entry s .answer)
 
-unfoldable pub printedFrom : State → List Entry → FileEnd → List ℕ
-printedFrom s [] ending = endingLine ending
-printedFrom s (entry ∷ entries) ending = entryLine entry s ++ printedFrom (submitAndRun entry s .after) entries ending
+-- of a record with a bad score nothing is submitted
+abbrev pub recordLine : Edition → Entry → State → List ℕ
+recordLine edition entry s = cond (scoreHolds edition entry) (entryLine (submission edition entry) s) badScoreLine
+
+abbrev pub recordAfter : Edition → Entry → State → State
+recordAfter edition entry s = cond (scoreHolds edition entry) (submitAndRun (submission edition entry) s .after) s
+
+unfoldable pub printedFrom : Edition → State → List Entry → FileEnd → List ℕ
+printedFrom edition s [] ending = endingLine ending
+printedFrom edition s (entry ∷ entries) ending = recordLine edition entry s ++ printedFrom edition (recordAfter edition entry s) entries ending
 
 -- what a file prints from a state of the engine on
-abbrev pub linesFrom : State → File → List ℕ
-linesFrom s file = printedFrom s (file .entries) (file .ending)
+abbrev pub linesFrom : Edition → State → File → List ℕ
+linesFrom edition s file = printedFrom edition s (file .entries) (file .ending)
 
 -- ---- the start
 
--- "a 32,768-byte ring, 65,536 .. bytes of memory, 16,384 of them common"; "Replay of edition 1 files must go on with 0x00001300" (02, request 2)
-abbrev pub setup : Setup
-setup = record { ring = 32768; memory = 65536; common = 16384; reset = Unblended }
+-- "a 32,768-byte ring, 65,536 .. bytes of memory, 16,384 of them common", with the edition's reset rule
+abbrev pub setup : Edition → Setup
+setup edition = record { ring = 32768; memory = 65536; common = 16384; reset = resetOf edition }
 
 -- the registers at the start of every batch of a file
-abbrev pub fileReset : Bank
-fileReset = resetBank (setup .reset)
+abbrev pub fileReset : Edition → Bank
+fileReset edition = resetBank (setup edition .reset)
 
 -- "four windows of 12,288", after common
 abbrev pub opening : List Call
@@ -99,13 +111,13 @@ opening =
     ∷ []
 
 -- set up and opened, with this ring and memory
-unfoldable pub engineOpened : (ring memory : List ℕ) → State
-engineOpened ring memory = stateAfter opening (initialState setup ring memory)
+unfoldable pub engineOpened : Edition → (ring memory : List ℕ) → State
+engineOpened edition ring memory = stateAfter opening (initialState (setup edition) ring memory)
 
 -- the program's: all of both zero
-unfoldable pub replayStart : State
-replayStart = engineOpened (replicate 32768 0) (replicate 65536 0)
+unfoldable pub replayStart : Edition → State
+replayStart edition = engineOpened edition (replicate 32768 0) (replicate 65536 0)
 
 -- what a file prints
-unfoldable pub lines : File → List ℕ
-lines file = linesFrom replayStart file
+unfoldable pub lines : Edition → File → List ℕ
+lines edition file = linesFrom edition (replayStart edition) file

@@ -2,6 +2,7 @@
 use ppm::Named;
 use ppm::Number;
 use ppm::Rectangle;
+use records::Edition;
 use surface::Surface;
 
 // The rectangle that the arguments name. What is wrong with them is reported.
@@ -73,7 +74,7 @@ fn main() {
         return;
     };
     let mut memory = io::large_buffer();
-    if replay_io::replay_argument(1, &mut memory, false, false) {
+    if replay_io::replay_argument(Edition::First, 1, &mut memory, false, false) {
         write_picture(&memory, s);
     }
 }

@@ -8,6 +8,7 @@ use native.Mathlib.Omega.{arith}
 use lib.ListN.{length, getD}
 use lib.Dec.{eqb}
 use borrow.Author.Tests.{eqb-true}
+use Rattle.records.specs.declared.Edition.the-variants.{First}
 use Rattle.word.specs.Word.{words}
 use Rattle.word.proofs.Tests.{and-true}
 use Rattle.register.specs.Bank.{writeRegister}
@@ -140,13 +141,13 @@ blames entries ticket answer e = go (named NoFault 0 ticket entries)
           among = a .among;
           status = statusWordOf (verdictOf r);
           completes = completes (a .before) (n .entry) (a .taken)
-              ∙ ap (λ (t : ℕ). completed (n .entry .client) t (verdict (n .entry))) (a .with)
+              ∙ ap (λ (t : ℕ). completed (n .entry .client) t (verdict First (n .entry))) (a .with)
               ∙ ap (completed (n .entry .client) ticket) (verdict-says r (s .fault) (answer .place) (answer .fault) (s .ends) (s .number));
           word = s .word;
           refuses = λ register held d.
               let three = register-named (s .fault) (registerAt ws (answer .place / 4)) (r .bank) register held (sym (s .detail) ∙ d) in (
                 three .1,
                 three .2 ∙ ap (heldIn (r .bank)) (sym (three .1)),
-                rw (three .1, s .word) (forbids (boundsOf (replayWindow (n .entry .client)) 16384) fileReset ws (answer .place) (s .ends ∙ ap (λ (f : Fault). faulty f (answer .place)) (three .0))),
+                rw (three .1, s .word) (forbids (boundsOf (replayWindow (n .entry .client)) 16384) (fileReset First) ws (answer .place) (s .ends ∙ ap (λ (f : Fault). faulty f (answer .place)) (three .0))),
               );
         }

@@ -7,6 +7,7 @@ use native.Mathlib.Omega.{arith}
 use lib.ListN.{length, replicate, length-append, length-replicate}
 use lib.Dec.{eqb}
 use borrow.Author.Tests.{eqb-true}
+use Rattle.records.specs.declared.Edition.the-variants.{First}
 use Rattle.register.specs.declared.task.Task.{Task}
 use Rattle.batch.specs.Batch.{tasksDrawn}
 use Rattle.claims.specs.Engine.{answerOrRefusal}
@@ -45,10 +46,10 @@ module _ (count ticket : ℕ) (entry : Entry) (entries : List Entry) where
 
 -- what the engine answers of a record after others
 pub completes : (before : List Entry) (entry : Entry) → recordRefusal entry ≡ 0
-    → submitAndRun entry (submitAndRunAll before replayStart) .answer ≡ completed (entry .client) (ticketOfCount (acceptedFrom 0 before)) (verdict entry)
+    → submitAndRun entry (submitAndRunAll before (replayStart First)) .answer ≡ completed (entry .client) (ticketOfCount (acceptedFrom 0 before)) (verdict First entry)
 unfolding replayStart answerOrRefusal
 completes before entry taken =
-    answered .each (replicate 32768 0) (replicate 65536 0) (length-replicate {A = ℕ} 32768 0) (length-replicate {A = ℕ} 65536 0) before entry .answers ∙ rw taken
+    answered First .each (replicate 32768 0) (replicate 65536 0) (length-replicate {A = ℕ} 32768 0) (length-replicate {A = ℕ} 65536 0) before entry .answers ∙ rw taken
 
 -- ---- all of a list
 
@@ -134,7 +135,7 @@ given entries before after d e =
       entry = f .entry;
       after = a .after;
       among = a .among;
-      completes = completes (a .before) (f .entry) (a .taken) ∙ ap (λ (t : ℕ). completed (f .entry .client) t (verdict (f .entry))) (a .with);
+      completes = completes (a .before) (f .entry) (a .taken) ∙ ap (λ (t : ℕ). completed (f .entry .client) t (verdict First (f .entry))) (a .with);
       earlier = n .earlier;
       later = n .later;
       tasks = n .tasks;

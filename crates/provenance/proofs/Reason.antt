@@ -7,6 +7,7 @@ use Prim.Native.Nat.{ℕ, _<_}
 use native.Mathlib.Omega.{arith}
 use lib.ListN.{length, getD, replicate, length-replicate, getD-replicate}
 use lib.Dec.{eqb}
+use Rattle.records.specs.declared.Edition.the-variants.{First}
 use Rattle.word.specs.Word.{words}
 use Rattle.register.specs.declared.task.Task.{Task}
 use Rattle.rules.specs.declared.task.Bounds.{Bounds}
@@ -44,15 +45,15 @@ record-rows count entry = go (eqb (recordRefusal entry) 0)
     go : (b : Bool) → AllRows (tasksOf (cond b (numbered (ticketOfCount count) 0 (tasksDrawn (readingOf entry))) []))
     go true =
         let bounds = boundsOf (replayWindow (entry .client)) 16384 in
-        rw tasks-numbered (sound-rows bounds (tasksDrawn (readingOf entry)) (drawn-sound bounds fileReset (words (entry .batch))))
+        rw tasks-numbered (sound-rows bounds (tasksDrawn (readingOf entry)) (drawn-sound bounds (fileReset First) (words (entry .batch))))
     go false = tt
 
 -- memory after it
-record-draws : (count : ℕ) (entry : Entry) (memory : List ℕ) → drawnAfter entry memory ≡ drawTasks (tasksOf (drawnBy count entry)) memory
+record-draws : (count : ℕ) (entry : Entry) (memory : List ℕ) → drawnAfter First entry memory ≡ drawTasks (tasksOf (drawnBy count entry)) memory
 unfolding drawnBy tasksOf drawBatch drawTasks
 record-draws count entry memory = go (eqb (recordRefusal entry) 0)
   where
-    go : (b : Bool) → cond b (drawBatch (boundsOf (replayWindow (entry .client)) 16384) fileReset (words (entry .batch)) memory) memory
+    go : (b : Bool) → cond b (drawBatch (boundsOf (replayWindow (entry .client)) 16384) (fileReset First) (words (entry .batch)) memory) memory
         ≡ drawTasks (tasksOf (cond b (numbered (ticketOfCount count) 0 (tasksDrawn (readingOf entry))) [])) memory
     go true = rw tasks-numbered
     go false = refl
@@ -78,7 +79,7 @@ accepted-more (b ∷ bs) entry count = accepted-more bs entry (countAfter count 
 
 module _ (ring memory : List ℕ) (long : length ring ≡ 32768) (size : length memory ≡ 65536) where
   abbrev reached : List Entry → State
-  reached before = submitAndRunAll before (engineOpened ring memory)
+  reached before = submitAndRunAll before (engineOpened First ring memory)
 
   memory-from : (entries before : List Entry) → submitAndRunAll entries (reached before) .memory ≡ drawTasks (tasksOf (drawnFrom (acceptedFrom 0 before) entries)) (reached before .memory)
   unfolding submitAndRunAll drawnFrom tasksOf drawTasks
@@ -88,9 +89,9 @@ module _ (ring memory : List ℕ) (long : length ring ≡ 32768) (size : length 
       let now : List Task = tasksOf (drawnBy count entry) in
       let then : List Task = tasksOf (drawnFrom (countAfter count entry) entries) in
       let next : State = submitAndRun entry (reached before) .after in
-      let one : next .memory ≡ drawTasks now (reached before .memory) = answered .each ring memory long size before entry .draws ∙ record-draws count entry (reached before .memory) in
+      let one : next .memory ≡ drawTasks now (reached before .memory) = answered First .each ring memory long size before entry .draws ∙ record-draws count entry (reached before .memory) in
       let on : submitAndRunAll entries next .memory ≡ drawTasks then (next .memory) =
-      rw (served-more before entry (engineOpened ring memory), accepted-more before entry 0) at (memory-from entries (before ++ entry ∷ [])) in
+      rw (served-more before entry (engineOpened First ring memory), accepted-more before entry 0) at (memory-from entries (before ++ entry ∷ [])) in
       on
       ∙ ap (drawTasks then) one
       ∙ sym (draw-append now then (reached before .memory))
@@ -98,13 +99,13 @@ module _ (ring memory : List ℕ) (long : length ring ≡ 32768) (size : length 
 
 -- ---- from the start
 
-engine : (entries : List Entry) → submitAndRunAll entries replayStart .memory ≡ memoryAfter (drawnFrom 0 entries)
+engine : (entries : List Entry) → submitAndRunAll entries (replayStart First) .memory ≡ memoryAfter (drawnFrom 0 entries)
 unfolding replayStart zeros submitAndRunAll acceptedFrom
 engine entries =
     let zero-ring = length-replicate {A = ℕ} 32768 0 in
     let zero-memory = length-replicate {A = ℕ} 65536 0 in
     memory-from (replicate 32768 0) (replicate 65536 0) zero-ring zero-memory entries []
-    ∙ ap (λ (s : State). drawTasks (tasksOf (drawnFrom 0 entries)) (s .memory)) (sym starting-state)
+    ∙ ap (λ (s : State). drawTasks (tasksOf (drawnFrom 0 entries)) (s .memory)) (sym (starting-state First))
 
 zeros-long : length zeros ≡ 65536
 unfolding zeros

@@ -4,6 +4,7 @@ use mathlib.Core.List.{List, [], _∷_, _++_}
 use mathlib.Core.Bool.{cond}
 use Prim.Native.Nat.{ℕ, _+_}
 use lib.Dec.{eqb}
+use Rattle.records.specs.declared.Edition.the-variants.{First}
 use Rattle.word.specs.Word.{words}
 use Rattle.register.specs.declared.task.Task.{Task}
 use Rattle.batch.specs.Batch.{DecodedBatch, decodeBatch, tasksDrawn}
@@ -25,7 +26,7 @@ numbered ticket number (t ∷ ts) = record { ticket = ticket; number = number; t
 
 -- what a record's batch says in its own client's window
 abbrev pub readingOf : Entry → DecodedBatch
-readingOf entry = decodeBatch (boundsOf (replayWindow (entry .client)) 16384) fileReset (words (entry .batch))
+readingOf entry = decodeBatch (boundsOf (replayWindow (entry .client)) 16384) (fileReset First) (words (entry .batch))
 
 -- the tasks that a record draws, so many records having been accepted before it; a refused one draws nothing
 unfoldable pub drawnBy : (count : ℕ) → Entry → List Drawn

@@ -4,6 +4,7 @@ use mathlib.Core.Path.{_≡_}
 use mathlib.Core.List.{List, [], _∷_, _++_}
 use Prim.Native.Nat.{ℕ, _<_, _/_}
 use lib.ListN.{length, getD, replicate}
+use Rattle.records.specs.declared.Edition.the-variants.{First}
 use Rattle.word.specs.Word.{words}
 use Rattle.surface.specs.Surface.{InRow}
 use Rattle.register.specs.Bank.{writeRegister}
@@ -37,7 +38,7 @@ memoryAfter ds = drawTasks (tasksOf ds) zeros
 
 -- byte i of memory after the engine submitted and ran these records
 abbrev pub byteAfter : List Entry → ℕ → ℕ
-byteAfter entries i = getD (submitAndRunAll entries replayStart .memory) i 0
+byteAfter entries i = getD (submitAndRunAll entries (replayStart First) .memory) i 0
 
 -- the batch of a drawn task: the engine completed it with this ticket, and this is the task's number there
 pub record Given (entries : List Entry) (drawn : Drawn) : Type 0 where
@@ -45,7 +46,7 @@ pub record Given (entries : List Entry) (drawn : Drawn) : Type 0 where
   pub entry : Entry
   pub after : List Entry
   pub among : entries ≡ before ++ entry ∷ after
-  pub completes : submitAndRun entry (submitAndRunAll before replayStart) .answer ≡ completed (entry .client) (drawn .ticket) (verdict entry)
+  pub completes : submitAndRun entry (submitAndRunAll before (replayStart First)) .answer ≡ completed (entry .client) (drawn .ticket) (verdict First entry)
   pub earlier : List Task
   pub later : List Task
   pub tasks : tasksDrawn (readingOf entry) ≡ earlier ++ drawn .task ∷ later
@@ -87,7 +88,7 @@ pub record Blamed (entries : List Entry) (ticket : ℕ) (answer : Explanation) :
   pub among : entries ≡ before ++ entry ∷ after
   -- the engine's run answered this ticket, this fault and this place
   pub status : ℕ
-  pub completes : submitAndRun entry (submitAndRunAll before replayStart) .answer ≡ completed (entry .client) ticket (record { status = status; fault = answer .fault; offset = answer .place })
+  pub completes : submitAndRun entry (submitAndRunAll before (replayStart First)) .answer ≡ completed (entry .client) ticket (record { status = status; fault = answer .fault; offset = answer .place })
   pub word : answer .word ≡ getD (words (entry .batch)) (answer .place / 4) 0
   -- 24: this is the register that the word is for, this is what it held, and it does not take the word
   pub refuses : (register held : ℕ) → answer .detail ≡ Register register held
@@ -95,7 +96,7 @@ pub record Blamed (entries : List Entry) (ticket : ℕ) (answer : Explanation) :
 
 pub record Promise : Type 0 where
   -- the engine draws just these tasks, record for record
-  pub engine : (entries : List Entry) → submitAndRunAll entries replayStart .memory ≡ memoryAfter (drawnFrom 0 entries)
+  pub engine : (entries : List Entry) → submitAndRunAll entries (replayStart First) .memory ≡ memoryAfter (drawnFrom 0 entries)
   -- the reason is true
   pub reason : (entries : List Entry) (i : ℕ) → i < 65536 → True entries i (touchedBy entries i)
   pub blames : (entries : List Entry) (ticket : ℕ) (answer : Explanation) → faultedBy entries ticket ≡ Faulted answer → Blamed entries ticket answer

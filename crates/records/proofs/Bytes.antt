@@ -10,18 +10,30 @@ use lib.Dec.{eqb, ltb}
 use borrow.Author.Tests.{lt-ltb, le-ltb, ltb-false, eqb-false}
 use Rattle.word.specs.Word.{be32At}
 use Rattle.word.proofs.Tests.{or-false}
+use Rattle.records.specs.declared.Edition.{Edition}
+use Rattle.records.specs.declared.Edition.the-variants.{First, Second}
 use Rattle.records.specs.declared.Stage.the-variants.{Records, Ended}
 use Rattle.records.specs.declared.Found.the-variants.{Record, BadRecord}
 use Rattle.records.specs.Records.{lengthField, badSize, entryOf}
-use Rattle.records.specs.Reading.{entryIn, missing, undecided, decided}
+use Rattle.records.specs.Reading.{entryIn, roomOf, batchStart, missing, undecided, decided}
+
+-- the room of either edition
+pub room-between : (edition : Edition) → (32773 ≤ roomOf edition) × (roomOf edition ≤ 32777)
+room-between First = (omega arith, omega arith)
+room-between Second = (omega arith, omega arith)
 
 -- a length that is not bad
-pub good-size : (size : ℕ) → badSize size ≡ false → (1 ≤ size) × (size ≤ 32769)
-good-size size e =
+pub good-size : (edition : Edition) (size : ℕ) → badSize edition size ≡ false → (1 ≤ size) × (4 + size ≤ roomOf edition) × (batchStart edition ≤ 4 + size)
+good-size First size e =
     let both = or-false (eqb size 0) (ltb 32769 size) e in
     let some = eqb-false size 0 (both .0) in
     let few = ltb-false 32769 size (both .1) in
-    (omega arith, omega arith)
+    (omega arith, omega arith, omega arith)
+good-size Second size e =
+    let both = or-false (ltb size 5) (ltb 32773 size) e in
+    let some = ltb-false size 5 (both .0) in
+    let few = ltb-false 32773 size (both .1) in
+    (omega arith, omega arith, omega arith)
 
 -- ---- bytes behind those of a record
 
@@ -36,41 +48,6 @@ entry-front xs ys some h =
     let rest = drop-append-le 5 xs ys (omega arith) in
     let batch = take-append-le (lengthField xs - 1) (drop 5 xs) ys (omega (arith, length-drop 5 xs)) in
     rw (size-front xs ys (omega arith), client, rest, batch)
-
--- ---- what is decided
-
-module _ (bytes : List ℕ) (used : ℕ) where
-  pub decided-short : length bytes < 4 → decided bytes used ≡ undecided (length bytes) used
-  unfolding decided
-  decided-short h = rw (lt-ltb (length bytes) 4 h)
-
-  pub decided-bad : 4 ≤ length bytes → badSize (lengthField bytes) ≡ true → decided bytes used ≡ record { reader = record { stage = Ended; held = 0 }; used = used; found = BadRecord }
-  unfolding decided
-  decided-bad h bad = rw (le-ltb (length bytes) 4 h, bad)
-
-  pub decided-part : 4 ≤ length bytes → badSize (lengthField bytes) ≡ false → length bytes < 4 + lengthField bytes → decided bytes used ≡ undecided (length bytes) used
-  unfolding decided
-  decided-part h good part = rw (le-ltb (length bytes) 4 h, good, lt-ltb (length bytes) (4 + lengthField bytes) part)
-
-  pub decided-whole : badSize (lengthField bytes) ≡ false → 4 + lengthField bytes ≤ length bytes
-      → decided bytes used ≡ record { reader = record { stage = Records; held = 0 }; used = used; found = Record (4 + lengthField bytes) }
-  unfolding decided
-  decided-whole good all =
-      let h : 4 ≤ length bytes = omega arith in
-      rw (le-ltb (length bytes) 4 h, good, le-ltb (length bytes) (4 + lengthField bytes) all)
-
-module _ (bytes : List ℕ) where
-  pub missing-short : length bytes < 4 → missing bytes ≡ 4 - length bytes
-  unfolding missing
-  missing-short h = rw (lt-ltb (length bytes) 4 h)
-
-  pub missing-bad : 4 ≤ length bytes → badSize (lengthField bytes) ≡ true → missing bytes ≡ 0
-  unfolding missing
-  missing-bad h bad = rw (le-ltb (length bytes) 4 h, bad)
-
-  pub missing-rest : 4 ≤ length bytes → badSize (lengthField bytes) ≡ false → missing bytes ≡ 4 + lengthField bytes - length bytes
-  unfolding missing
-  missing-rest h good = rw (le-ltb (length bytes) 4 h, good)
 
 -- ---- the first bytes of a buffer
 
@@ -90,42 +67,83 @@ module _ (held : List ℕ) (have : ℕ) (within : have ≤ length held) where
       let body : 4 + lengthField (take have held) - 5 ≡ lengthField held - 1 = omega (arith, size-there (omega arith)) in
       sym (entry-front (take have held) (drop have held) some all) ∙ ap entryOf (take-append-drop have held) ∙ rw body
 
-  pub have-short : have < 4 → 4 - have ≡ missing (take have held)
-  have-short h =
-      let few : length (take have held) < 4 = omega (arith, there) in
-      sym (missing-short (take have held) few ∙ ap (λ (n : ℕ). 4 - n) there)
+-- ---- of an edition
 
-  module _ (size : ℕ) (size-is : size ≡ lengthField held) (h : 4 ≤ have) where
-    four : 4 ≤ length (take have held)
-    four = omega (arith, there)
+module _ (edition : Edition) where
+  -- ---- what is decided
 
-    same : lengthField (take have held) ≡ size
-    same = size-there h ∙ sym size-is
+  module _ (bytes : List ℕ) (used : ℕ) where
+    pub decided-short : length bytes < 4 → decided edition bytes used ≡ undecided (length bytes) used
+    unfolding decided
+    decided-short h = rw (lt-ltb (length bytes) 4 h)
 
-    judged : (b : Bool) → badSize size ≡ b → badSize (lengthField (take have held)) ≡ b
-    judged b e = ap badSize same ∙ e
+    pub decided-bad : 4 ≤ length bytes → badSize edition (lengthField bytes) ≡ true → decided edition bytes used ≡ record { reader = record { stage = Ended; held = 0 }; used = used; found = BadRecord }
+    unfolding decided
+    decided-bad h bad = rw (le-ltb (length bytes) 4 h, bad)
 
-    pub have-bad : badSize size ≡ true → 0 ≡ missing (take have held)
-    have-bad bad = sym (missing-bad (take have held) four (judged true bad))
+    pub decided-part : 4 ≤ length bytes → badSize edition (lengthField bytes) ≡ false → length bytes < 4 + lengthField bytes → decided edition bytes used ≡ undecided (length bytes) used
+    unfolding decided
+    decided-part h good part = rw (le-ltb (length bytes) 4 h, good, lt-ltb (length bytes) (4 + lengthField bytes) part)
 
-    pub have-rest : badSize size ≡ false → 4 + size - have ≡ missing (take have held)
-    have-rest good = sym (missing-rest (take have held) four (judged false good) ∙ rw (same, there))
+    pub decided-whole : badSize edition (lengthField bytes) ≡ false → 4 + lengthField bytes ≤ length bytes
+        → decided edition bytes used ≡ record { reader = record { stage = Records; held = 0 }; used = used; found = Record (4 + lengthField bytes) }
+    unfolding decided
+    decided-whole good all =
+        let h : 4 ≤ length bytes = omega arith in
+        rw (le-ltb (length bytes) 4 h, good, le-ltb (length bytes) (4 + lengthField bytes) all)
 
-    pub decides-bad : (used : ℕ) → badSize size ≡ true → record { reader = record { stage = Ended; held = 0 }; used = used; found = BadRecord } ≡ decided (take have held) used
-    decides-bad used bad = sym (decided-bad (take have held) used four (judged true bad))
+  module _ (bytes : List ℕ) where
+    pub missing-short : length bytes < 4 → missing edition bytes ≡ 4 - length bytes
+    unfolding missing
+    missing-short h = rw (lt-ltb (length bytes) 4 h)
 
-    pub decides-part : (used : ℕ) → badSize size ≡ false → have < 4 + size → undecided have used ≡ decided (take have held) used
-    decides-part used good part =
-        let less : length (take have held) < 4 + lengthField (take have held) = omega (arith, there, same) in
-        sym (decided-part (take have held) used four (judged false good) less ∙ rw there)
+    pub missing-bad : 4 ≤ length bytes → badSize edition (lengthField bytes) ≡ true → missing edition bytes ≡ 0
+    unfolding missing
+    missing-bad h bad = rw (le-ltb (length bytes) 4 h, bad)
 
-    pub decides-whole : (used : ℕ) → badSize size ≡ false → 4 + size ≤ have
-        → record { reader = record { stage = Records; held = 0 }; used = used; found = Record (4 + size) } ≡ decided (take have held) used
-    decides-whole used good all =
-        let full : 4 + lengthField (take have held) ≤ length (take have held) = omega (arith, there, same) in
-        sym (decided-whole (take have held) used (judged false good) full ∙ rw same)
+    pub missing-rest : 4 ≤ length bytes → badSize edition (lengthField bytes) ≡ false → missing edition bytes ≡ 4 + lengthField bytes - length bytes
+    unfolding missing
+    missing-rest h good = rw (le-ltb (length bytes) 4 h, good)
 
-  pub decides-short : (used : ℕ) → have < 4 → undecided have used ≡ decided (take have held) used
-  decides-short used h =
-      let few : length (take have held) < 4 = omega (arith, there) in
-      sym (decided-short (take have held) used few ∙ rw there)
+  -- ---- of the first bytes of a buffer
+
+  module _ (held : List ℕ) (have : ℕ) (within : have ≤ length held) where
+    pub have-short : have < 4 → 4 - have ≡ missing edition (take have held)
+    have-short h =
+        let few : length (take have held) < 4 = omega (arith, there held have within) in
+        sym (missing-short (take have held) few ∙ ap (λ (n : ℕ). 4 - n) (there held have within))
+
+    module _ (size : ℕ) (size-is : size ≡ lengthField held) (h : 4 ≤ have) where
+      four : 4 ≤ length (take have held)
+      four = omega (arith, there held have within)
+
+      same : lengthField (take have held) ≡ size
+      same = size-there held have within h ∙ sym size-is
+
+      judged : (b : Bool) → badSize edition size ≡ b → badSize edition (lengthField (take have held)) ≡ b
+      judged b e = ap (badSize edition) same ∙ e
+
+      pub have-bad : badSize edition size ≡ true → 0 ≡ missing edition (take have held)
+      have-bad bad = sym (missing-bad (take have held) four (judged true bad))
+
+      pub have-rest : badSize edition size ≡ false → 4 + size - have ≡ missing edition (take have held)
+      have-rest good = sym (missing-rest (take have held) four (judged false good) ∙ rw (same, there held have within))
+
+      pub decides-bad : (used : ℕ) → badSize edition size ≡ true → record { reader = record { stage = Ended; held = 0 }; used = used; found = BadRecord } ≡ decided edition (take have held) used
+      decides-bad used bad = sym (decided-bad (take have held) used four (judged true bad))
+
+      pub decides-part : (used : ℕ) → badSize edition size ≡ false → have < 4 + size → undecided have used ≡ decided edition (take have held) used
+      decides-part used good part =
+          let less : length (take have held) < 4 + lengthField (take have held) = omega (arith, there held have within, same) in
+          sym (decided-part (take have held) used four (judged false good) less ∙ rw (there held have within))
+
+      pub decides-whole : (used : ℕ) → badSize edition size ≡ false → 4 + size ≤ have
+          → record { reader = record { stage = Records; held = 0 }; used = used; found = Record (4 + size) } ≡ decided edition (take have held) used
+      decides-whole used good all =
+          let full : 4 + lengthField (take have held) ≤ length (take have held) = omega (arith, there held have within, same) in
+          sym (decided-whole (take have held) used (judged false good) full ∙ rw same)
+
+    pub decides-short : (used : ℕ) → have < 4 → undecided have used ≡ decided edition (take have held) used
+    decides-short used h =
+        let few : length (take have held) < 4 = omega (arith, there held have within) in
+        sym (decided-short (take have held) used few ∙ rw (there held have within))

@@ -14,148 +14,17 @@ use Rattle.word.proofs.Splice.{spliced-none}
 use Rattle.word.proofs.Tests.{split, and-true}
 use Rattle.ring.specs.Copied.{copiedIn}
 use Rattle.ring.proofs.Copied.{copied-one}
+use Rattle.records.specs.declared.Edition.{Edition}
 use Rattle.records.specs.declared.Stage.{Stage}
 use Rattle.records.specs.declared.Stage.the-variants.{Version, Records, Ended}
 use Rattle.records.specs.declared.Reader.{Reader}
 use Rattle.records.specs.declared.Found.the-variants.{Nothing, Record, BadVersion, BadRecord}
 use Rattle.records.specs.declared.Taken.{Taken}
-use Rattle.records.specs.Records.{Entry, FileEnd, File, whole, badVersion, badRecord, cutRecord, fileEnds, consEntry, lengthField, badSize, entryOf, recordsFrom, records}
-use Rattle.records.specs.Reading.{fileFrom, fileIn, fileAt, entryIn, onto, missing, Due, Ready, Over, Takes, Lies, endingAt, decided, versionTaken, nothingTaken, keptIn, recordTaken, takenIn, bufferSuffices, takenBy, heldAfter}
-use Rattle.records.proofs.Bytes.{good-size, size-front, entry-front, decided-short, decided-bad, decided-part, decided-whole, missing-short, missing-bad, missing-rest, there, entry-there}
+use Rattle.records.specs.Records.{Entry, FileEnd, File, whole, badVersion, badRecord, cutRecord, fileEnds, consEntry, versionOf, lengthField, badSize, entryOf, recordsFrom, records}
+use Rattle.records.specs.Reading.{fileFrom, fileIn, fileAt, entryIn, onto, roomOf, missing, Due, Ready, Over, Takes, Lies, endingAt, decided, versionTaken, nothingTaken, keptIn, recordTaken, takenIn, bufferSuffices, takenBy, heldAfter}
+use Rattle.records.proofs.Bytes.{room-between, good-size, size-front, entry-front, decided-short, decided-bad, decided-part, decided-whole, missing-short, missing-bad, missing-rest, there, entry-there}
 
--- ---- fuel
-
--- the record at the front, with what comes of the bytes behind it
-abbrev front : List ℕ → File → File
-front bytes rest =
-    cond (ltb (length bytes) 4) (fileEnds cutRecord)
-    (cond (badSize (lengthField bytes)) (fileEnds badRecord)
-    (cond (ltb (length bytes) (4 + lengthField bytes)) (fileEnds cutRecord)
-    (consEntry (entryOf bytes) rest)))
-
-fuel-free : (f g : ℕ) (bytes : List ℕ) → length bytes ≤ f → length bytes ≤ g → recordsFrom f bytes ≡ recordsFrom g bytes
-unfolding recordsFrom
-fuel-free zero zero bytes p q = refl
-fuel-free zero (suc g) [] p q = refl
-fuel-free zero (suc g) (b ∷ more) p q = absurd (omega arith)
-fuel-free (suc f) zero [] p q = refl
-fuel-free (suc f) zero (b ∷ more) p q = absurd (omega arith)
-fuel-free (suc f) (suc g) [] p q = refl
-fuel-free (suc f) (suc g) (b ∷ more) p q =
-    let less = length-drop (4 + lengthField (b ∷ more)) (b ∷ more) in
-    ap (front (b ∷ more)) (fuel-free f g (drop (4 + lengthField (b ∷ more)) (b ∷ more)) (omega arith) (omega arith))
-
-file-open : (bytes : List ℕ) → 1 ≤ length bytes → fileFrom bytes ≡ front bytes (fileFrom (drop (4 + lengthField bytes) bytes))
-unfolding recordsFrom
-file-open [] h = absurd (omega arith)
-file-open (b ∷ more) h =
-    let less = length-drop (4 + lengthField (b ∷ more)) (b ∷ more) in
-    ap (front (b ∷ more)) (fuel-free (length more) (length (drop (4 + lengthField (b ∷ more)) (b ∷ more))) (drop (4 + lengthField (b ∷ more)) (b ∷ more)) (omega arith) (omega arith))
-
-module _ (bytes : List ℕ) where
-  file-short : 1 ≤ length bytes → length bytes < 4 → fileFrom bytes ≡ fileEnds cutRecord
-  file-short some h = file-open bytes some ∙ rw (lt-ltb (length bytes) 4 h)
-
-  module _ (h : 4 ≤ length bytes) where
-    file-bad : badSize (lengthField bytes) ≡ true → fileFrom bytes ≡ fileEnds badRecord
-    file-bad bad = file-open bytes (omega arith) ∙ rw (le-ltb (length bytes) 4 h, bad)
-
-    file-part : badSize (lengthField bytes) ≡ false → length bytes < 4 + lengthField bytes → fileFrom bytes ≡ fileEnds cutRecord
-    file-part good part = file-open bytes (omega arith) ∙ rw (le-ltb (length bytes) 4 h, good, lt-ltb (length bytes) (4 + lengthField bytes) part)
-
-    file-whole : badSize (lengthField bytes) ≡ false → 4 + lengthField bytes ≤ length bytes → fileFrom bytes ≡ consEntry (entryOf bytes) (fileFrom (drop (4 + lengthField bytes) bytes))
-    file-whole good all = file-open bytes (omega arith) ∙ rw (le-ltb (length bytes) 4 h, good, le-ltb (length bytes) (4 + lengthField bytes) all)
-
--- ---- by cases: how far the bytes of a record are there
-
-data Reach (bytes : List ℕ) : Type 0 where
-  short : length bytes < 4 → Reach bytes
-  bad : 4 ≤ length bytes → badSize (lengthField bytes) ≡ true → Reach bytes
-  part : 4 ≤ length bytes → badSize (lengthField bytes) ≡ false → length bytes < 4 + lengthField bytes → Reach bytes
-  full : 4 ≤ length bytes → badSize (lengthField bytes) ≡ false → 4 + lengthField bytes ≤ length bytes → Reach bytes
-
-reach : (bytes : List ℕ) → Reach bytes
-reach bytes = go (split (length bytes) 4)
-  where
-    last : 4 ≤ length bytes → badSize (lengthField bytes) ≡ false → (length bytes < 4 + lengthField bytes) ⊎ (4 + lengthField bytes ≤ length bytes) → Reach bytes
-    last h good (inl less) = part h good less
-    last h good (inr more) = full h good more
-
-    judge : 4 ≤ length bytes → (b : Bool) → badSize (lengthField bytes) ≡ b → Reach bytes
-    judge h true e = bad h e
-    judge h false e = last h e (split (length bytes) (4 + lengthField bytes))
-
-    go : (length bytes < 4) ⊎ (4 ≤ length bytes) → Reach bytes
-    go (inl h) = short h
-    go (inr h) = judge h (badSize (lengthField bytes)) refl
-
--- ---- the bytes in the buffer are decided
-
-module _ (held : List ℕ) (have used : ℕ) (within : have ≤ length held) where
-  abbrev bytes : List ℕ
-  bytes = take have held
-
-  -- no more bytes than the record has
-  abbrev Exact : Type 0
-  Exact = 4 ≤ length bytes → badSize (lengthField bytes) ≡ false → length bytes ≤ 4 + lengthField bytes
-
-  record Decides (d : Taken) : Type 0 where
-    file : (rest : List ℕ) → fileFrom (bytes ++ rest) ≡ onto (d .found) held (fileAt (d .reader) held rest)
-    over : Over (d .found) (d .reader .stage)
-    few : d .reader .held < 32773
-    due : Due (d .reader .stage) (take (d .reader .held) held)
-
-  itself : take (length bytes) held ≡ bytes
-  itself = ap (λ (n : ℕ). take n held) (there held have within)
-
-  decides-by : Reach bytes → Exact → Decides (decided bytes used)
-  decides-by (short h) exact = rw (decided-short bytes used h) (record {
-    file = λ rest. rw itself;
-    over = tt;
-    few = omega arith;
-    due = rw (itself, missing-short bytes h) (omega arith);
-  })
-  decides-by (bad h is) exact = rw (decided-bad bytes used h is) (record {
-    file = λ rest.
-        let long : 4 ≤ length (bytes ++ rest) = omega (arith, length-append bytes rest) in
-        file-bad (bytes ++ rest) long (ap badSize (size-front bytes rest h) ∙ is);
-    over = refl;
-    few = omega arith;
-    due = tt;
-  })
-  decides-by (part h is less) exact = rw (decided-part bytes used h is less) (record {
-    file = λ rest. rw itself;
-    over = tt;
-    few = omega (arith, good-size (lengthField bytes) is .1);
-    due = rw (itself, missing-rest bytes h is) (omega arith);
-  })
-  decides-by (full h is more) exact = rw (decided-whole bytes used is more) (record {
-    file = λ rest.
-        let long : 4 ≤ length (bytes ++ rest) = omega (arith, length-append bytes rest) in
-        let same = size-front bytes rest h in
-        let all : 4 + lengthField (bytes ++ rest) ≤ length (bytes ++ rest) = omega (arith, length-append bytes rest) in
-        let some = good-size (lengthField bytes) is .0 in
-        let end : length bytes ≡ 4 + lengthField (bytes ++ rest) = omega (arith, exact h is) in
-        let behind = drop-at bytes rest (4 + lengthField (bytes ++ rest)) end in
-        file-whole (bytes ++ rest) long (ap badSize same ∙ is) all
-        ∙ ap (λ (e : Entry). consEntry e (fileFrom (drop (4 + lengthField (bytes ++ rest)) (bytes ++ rest)))) (entry-front bytes rest some more ∙ entry-there held have within some (omega (arith, there held have within)))
-        ∙ ap (λ (xs : List ℕ). consEntry (entryIn held (4 + lengthField bytes)) (fileFrom xs)) behind;
-    over = tt;
-    few = omega arith;
-    due = rw (missing-short [] (omega arith)) (omega arith);
-  })
-
--- no more bytes are taken than the record has
-exact-by : (bytes input : List ℕ) → 0 < missing bytes → Reach bytes
-    → let all : List ℕ = bytes ++ take (missing bytes) input in 4 ≤ length all → badSize (lengthField all) ≡ false → length all ≤ 4 + lengthField all
-exact-by bytes input some (short h) = λ long good.
-    omega (arith, length-append bytes (take (missing bytes) input), length-take (missing bytes) input, missing-short bytes h)
-exact-by bytes input some (bad h is) = absurd (omega (arith, missing-bad bytes h is))
-exact-by bytes input some (part h is less) = λ long good.
-    omega (arith, length-append bytes (take (missing bytes) input), length-take (missing bytes) input, missing-rest bytes h is, size-front bytes (take (missing bytes) input) h)
-exact-by bytes input some (full h is more) = absurd (omega (arith, missing-rest bytes h is))
-
--- ---- a step inside a record
+-- ---- lists
 
 take-least : (n k : ℕ) (xs : List ℕ) → k ≡ min n (length xs) → take k xs ≡ take n xs
 take-least n k xs e = go (split n (length xs))
@@ -173,159 +42,298 @@ kept-there h kept held =
     let rest : List ℕ = drop (h + length kept) held in
     rw (sym (append-assoc (take h held) kept rest)) (take-append-seam (take h held ++ kept) rest)
 
-module _ (have : ℕ) (held input : List ℕ) (taken : ℕ) (held′ : List ℕ) (t : Taken) (wanted : ℕ) (want : wanted ≡ missing (take have held)) (fits : have + wanted ≤ 32773)
-    (room : 32773 ≤ length held) (same : length held′ ≡ length held) (least : taken ≡ min wanted (length input)) (is-held : held′ ≡ copiedIn held have (take taken input))
-    (is : t ≡ decided (take (have + taken) held′) taken) where
-  abbrev so-far : List ℕ
-  so-far = take have held
+module _ (edition : Edition) where
+  -- ---- fuel
 
-  abbrev kept : List ℕ
-  kept = keptIn Records so-far input
+  -- the record at the front, with what comes of the bytes behind it
+  abbrev front : List ℕ → File → File
+  front bytes rest =
+      cond (ltb (length bytes) 4) (fileEnds cutRecord)
+      (cond (badSize edition (lengthField bytes)) (fileEnds badRecord)
+      (cond (ltb (length bytes) (4 + lengthField bytes)) (fileEnds cutRecord)
+      (consEntry (entryOf bytes) rest)))
 
-  kept-is : take taken input ≡ kept
-  kept-is = take-least wanted taken input least ∙ ap (λ (n : ℕ). take n input) want
+  fuel-free : (f g : ℕ) (bytes : List ℕ) → length bytes ≤ f → length bytes ≤ g → recordsFrom edition f bytes ≡ recordsFrom edition g bytes
+  unfolding recordsFrom
+  fuel-free zero zero bytes p q = refl
+  fuel-free zero (suc g) [] p q = refl
+  fuel-free zero (suc g) (b ∷ more) p q = absurd (omega arith)
+  fuel-free (suc f) zero [] p q = refl
+  fuel-free (suc f) zero (b ∷ more) p q = absurd (omega arith)
+  fuel-free (suc f) (suc g) [] p q = refl
+  fuel-free (suc f) (suc g) (b ∷ more) p q =
+      let less = length-drop (4 + lengthField (b ∷ more)) (b ∷ more) in
+      ap (front (b ∷ more)) (fuel-free f g (drop (4 + lengthField (b ∷ more)) (b ∷ more)) (omega arith) (omega arith))
 
-  size : length kept ≡ taken
-  size = ap length (sym kept-is) ∙ length-take taken input ∙ omega arith
+  file-open : (bytes : List ℕ) → 1 ≤ length bytes → fileFrom edition bytes ≡ front bytes (fileFrom edition (drop (4 + lengthField bytes) bytes))
+  unfolding recordsFrom
+  file-open [] h = absurd (omega arith)
+  file-open (b ∷ more) h =
+      let less = length-drop (4 + lengthField (b ∷ more)) (b ∷ more) in
+      ap (front (b ∷ more)) (fuel-free (length more) (length (drop (4 + lengthField (b ∷ more)) (b ∷ more))) (drop (4 + lengthField (b ∷ more)) (b ∷ more)) (omega arith) (omega arith))
 
-  -- the buffer after it
-  pub record-held : held′ ≡ spliced have kept held
-  record-held =
-      let small : length kept ≤ length held - have = omega (arith, size) in
-      is-held ∙ ap (copiedIn held have) kept-is ∙ copied-one held have kept small
+  module _ (bytes : List ℕ) where
+    file-short : 1 ≤ length bytes → length bytes < 4 → fileFrom edition bytes ≡ fileEnds cutRecord
+    file-short some h = file-open bytes some ∙ rw (lt-ltb (length bytes) 4 h)
 
-  all : take (have + taken) held′ ≡ so-far ++ kept
-  all =
-      let count : length (so-far ++ kept) ≡ have + taken = length-append so-far kept ∙ omega (arith, size, length-take-le have held (omega arith)) in
-      rw (record-held, sym count) (kept-there have kept held)
+    module _ (h : 4 ≤ length bytes) where
+      file-bad : badSize edition (lengthField bytes) ≡ true → fileFrom edition bytes ≡ fileEnds badRecord
+      file-bad bad = file-open bytes (omega arith) ∙ rw (le-ltb (length bytes) 4 h, bad)
 
-  -- what is taken, of any bytes
-  pub record-exact : t ≡ recordTaken so-far input
-  record-exact = is ∙ ap (λ (xs : List ℕ). decided xs taken) all ∙ ap (decided (so-far ++ kept)) (sym size)
+      file-part : badSize edition (lengthField bytes) ≡ false → length bytes < 4 + lengthField bytes → fileFrom edition bytes ≡ fileEnds cutRecord
+      file-part good part = file-open bytes (omega arith) ∙ rw (le-ltb (length bytes) 4 h, good, lt-ltb (length bytes) (4 + lengthField bytes) part)
 
-  pub record-takes : t .used ≡ taken → 0 < missing so-far → Takes (record { stage = Records; held = have }) held input t held′
-  record-takes used some =
-      let exact : Exact held′ (have + taken) taken (omega arith) = rw all (exact-by so-far input some (reach so-far)) in
-      let d = decides-by held′ (have + taken) taken (omega arith) (reach (take (have + taken) held′)) exact in
-      rw is (record {
-        file = λ rest.
-            ap (λ (n : ℕ). fileFrom (so-far ++ (take n input ++ rest))) (sym (ap (λ (x : Taken). x .used) is) ∙ used)
-            ∙ ap (λ (xs : List ℕ). fileFrom (so-far ++ (xs ++ rest))) kept-is
-            ∙ ap fileFrom (sym (append-assoc so-far kept rest))
-            ∙ ap (λ (xs : List ℕ). fileFrom (xs ++ rest)) (sym all)
-            ∙ d .file rest;
-        over = d .over;
-        ready = record { room = omega arith; few = d .few; due = d .due };
-        some = λ one. let go : taken ≡ decided (take (have + taken) held′) taken .used = sym used ∙ ap (λ (x : Taken). x .used) is in omega (arith, want);
-      })
+      file-whole : badSize edition (lengthField bytes) ≡ false → 4 + lengthField bytes ≤ length bytes → fileFrom edition bytes ≡ consEntry (entryOf bytes) (fileFrom edition (drop (4 + lengthField bytes) bytes))
+      file-whole good all = file-open bytes (omega arith) ∙ rw (le-ltb (length bytes) 4 h, good, le-ltb (length bytes) (4 + lengthField bytes) all)
 
--- ---- the other steps
+  -- ---- by cases: how far the bytes of a record are there
 
--- the version byte is one of the input
-pub version-used : (version : ℕ) → (versionTaken version .used ≡ 1) × ((room : ℕ) → Lies (versionTaken version .found) room)
-version-used version = go (eqb version 1)
-  where
-    go : (b : Bool) → let u : Taken = cond b (record { reader = record { stage = Records; held = 0 }; used = 1; found = Nothing }) (record { reader = record { stage = Ended; held = 0 }; used = 1; found = BadVersion }) in
-        (u .used ≡ 1) × ((room : ℕ) → Lies (u .found) room)
-    go true = (refl, λ room. tt)
-    go false = (refl, λ room. tt)
+  data Reach (bytes : List ℕ) : Type 0 where
+    short : length bytes < 4 → Reach bytes
+    bad : 4 ≤ length bytes → badSize edition (lengthField bytes) ≡ true → Reach bytes
+    part : 4 ≤ length bytes → badSize edition (lengthField bytes) ≡ false → length bytes < 4 + lengthField bytes → Reach bytes
+    full : 4 ≤ length bytes → badSize edition (lengthField bytes) ≡ false → 4 + lengthField bytes ≤ length bytes → Reach bytes
 
-module _ (r : Reader) (held input : List ℕ) (t : Taken) (ready : Ready r held) where
-  -- nothing taken
-  pub nothing-takes : length input ≡ 0 → t ≡ record { reader = r; used = 0; found = Nothing } → Takes r held input t held
-  nothing-takes none is = rw is (record { file = λ rest. refl; over = tt; ready = ready; some = λ one. absurd (omega arith) })
-
-  -- after the end
-  pub ended-takes : r .stage ≡ Ended → t ≡ record { reader = r; used = length input; found = Nothing } → Takes r held input t held
-  ended-takes stage is = rw is (record { file = λ rest. rw stage; over = tt; ready = ready; some = λ one. one })
-
-  pub version-takes : r .stage ≡ Version → (length input ≡ 0 → ⊥) → t ≡ versionTaken (getD input 0 0) → Takes r held input t held
-  unfolding records
-  version-takes stage some is = rw is (go input some)
+  reach : (bytes : List ℕ) → Reach bytes
+  reach bytes = go (split (length bytes) 4)
     where
-      by : (b : Bool) (version : ℕ) (more : List ℕ)
-          → let u : Taken = cond b (record { reader = record { stage = Records; held = 0 }; used = 1; found = Nothing }) (record { reader = record { stage = Ended; held = 0 }; used = 1; found = BadVersion }) in
-          ((rest : List ℕ) → cond b (fileFrom rest) (fileEnds badVersion) ≡ onto (u .found) held (fileAt (u .reader) held rest)) × Ready (u .reader) held × (1 ≤ u .used) × Over (u .found) (u .reader .stage)
-      by true version more = (λ rest. refl, record { room = ready .room; few = omega arith; due = rw (missing-short [] (omega arith)) (omega arith) }, omega arith, tt)
-      by false version more = (λ rest. refl, record { room = ready .room; few = omega arith; due = tt }, omega arith, refl)
+      last : 4 ≤ length bytes → badSize edition (lengthField bytes) ≡ false → (length bytes < 4 + lengthField bytes) ⊎ (4 + lengthField bytes ≤ length bytes) → Reach bytes
+      last h good (inl less) = part h good less
+      last h good (inr more) = full h good more
 
-      go : (xs : List ℕ) → (length xs ≡ 0 → ⊥) → Takes r held xs (versionTaken (getD xs 0 0)) held
-      go [] some = absurd (some refl)
-      go (version ∷ more) some =
-          let all = by (eqb version 1) version more in
-          let one = version-used version .0 in
-          record { file = λ rest. rw (stage, one) (all .0 rest); over = all .3; ready = all .1; some = λ one. all .2 }
+      judge : 4 ≤ length bytes → (b : Bool) → badSize edition (lengthField bytes) ≡ b → Reach bytes
+      judge h true e = bad h e
+      judge h false e = last h e (split (length bytes) (4 + lengthField bytes))
 
--- ---- the end of the file
+      go : (length bytes < 4) ⊎ (4 ≤ length bytes) → Reach bytes
+      go (inl h) = short h
+      go (inr h) = judge h (badSize edition (lengthField bytes)) refl
 
-pub file-ends : (r : Reader) (held : List ℕ) → Ready r held → fileAt r held [] ≡ fileEnds (endingAt (r .stage) (length (take (r .held) held)))
-unfolding records recordsFrom
-file-ends r held ready = go (r .stage) (take (r .held) held) (ready .due)
-  where
-    last : (bytes : List ℕ) → Reach bytes → 0 < missing bytes → fileFrom bytes ≡ fileEnds (endingAt Records (length bytes))
-    last [] far some = refl
-    last (b ∷ more) (short h) some = file-short (b ∷ more) (omega arith) h
-    last (b ∷ more) (bad h is) some = absurd (omega (arith, missing-bad (b ∷ more) h is))
-    last (b ∷ more) (part h is less) some = file-part (b ∷ more) h is less
-    last (b ∷ more) (full h is more′) some = absurd (omega (arith, missing-rest (b ∷ more) h is))
+  -- ---- the bytes in the buffer are decided
 
-    go : (g : Stage) (bytes : List ℕ) → Due g bytes → fileIn g bytes [] ≡ fileEnds (endingAt g (length bytes))
-    go Version bytes due = refl
-    go Records bytes due = rw (append-nil bytes) (last bytes (reach bytes) due)
-    go Ended bytes due = refl
+  module _ (held : List ℕ) (have used : ℕ) (within : have ≤ length held) where
+    abbrev bytes : List ℕ
+    bytes = take have held
 
--- so no record is left
-pub ends-here : (r : Reader) (held : List ℕ) → Ready r held → fileAt r held [] .entries ≡ []
-ends-here r held ready = ap (λ (f : File). f .entries) (file-ends r held ready)
+    -- no more bytes than the record has
+    abbrev Exact : Type 0
+    Exact = 4 ≤ length bytes → badSize edition (lengthField bytes) ≡ false → length bytes ≤ 4 + lengthField bytes
 
--- ---- the test of the buffer
+    record Decides (d : Taken) : Type 0 where
+      file : (rest : List ℕ) → fileFrom edition (bytes ++ rest) ≡ onto (d .found) held (fileAt edition (d .reader) held rest)
+      over : Over (d .found) (d .reader .stage)
+      few : d .reader .held < roomOf edition
+      due : Due edition (d .reader .stage) (take (d .reader .held) held)
 
-pub ready-enough : (r : Reader) (held : List ℕ) → Ready r held → bufferSuffices r held ≡ true
-ready-enough r held ready = rw (le-leb 32773 (length held) (ready .room), lt-ltb (r .held) 32773 (ready .few))
+    itself : take (length bytes) held ≡ bytes
+    itself = ap (λ (n : ℕ). take n held) (there held have within)
 
-pub enough-both : (r : Reader) (held : List ℕ) → bufferSuffices r held ≡ true → (32773 ≤ length held) × (r .held < 32773)
-enough-both r held e =
-    let both = and-true (leb 32773 (length held)) (ltb (r .held) 32773) e in
-    (leb-true 32773 (length held) (both .0), ltb-true (r .held) 32773 (both .1))
+    decides-by : Reach bytes → Exact → Decides (decided edition bytes used)
+    decides-by (short h) exact = rw (decided-short edition bytes used h) (record {
+      file = λ rest. rw itself;
+      over = tt;
+      few = omega (arith, room-between edition);
+      due = rw (itself, missing-short edition bytes h) (omega arith);
+    })
+    decides-by (bad h is) exact = rw (decided-bad edition bytes used h is) (record {
+      file = λ rest.
+          let long : 4 ≤ length (bytes ++ rest) = omega (arith, length-append bytes rest) in
+          file-bad (bytes ++ rest) long (ap (badSize edition) (size-front bytes rest h) ∙ is);
+      over = refl;
+      few = omega (arith, room-between edition);
+      due = tt;
+    })
+    decides-by (part h is less) exact = rw (decided-part edition bytes used h is less) (record {
+      file = λ rest. rw itself;
+      over = tt;
+      few = omega (arith, good-size edition (lengthField bytes) is .1);
+      due = rw (itself, missing-rest edition bytes h is) (omega arith);
+    })
+    decides-by (full h is more) exact = rw (decided-whole edition bytes used is more) (record {
+      file = λ rest.
+          let long : 4 ≤ length (bytes ++ rest) = omega (arith, length-append bytes rest) in
+          let same = size-front bytes rest h in
+          let all : 4 + lengthField (bytes ++ rest) ≤ length (bytes ++ rest) = omega (arith, length-append bytes rest) in
+          let some = good-size edition (lengthField bytes) is .0 in
+          let end : length bytes ≡ 4 + lengthField (bytes ++ rest) = omega (arith, exact h is) in
+          let behind = drop-at bytes rest (4 + lengthField (bytes ++ rest)) end in
+          file-whole (bytes ++ rest) long (ap (badSize edition) same ∙ is) all
+          ∙ ap (λ (e : Entry). consEntry e (fileFrom edition (drop (4 + lengthField (bytes ++ rest)) (bytes ++ rest)))) (entry-front bytes rest some more ∙ entry-there held have within some (omega (arith, there held have within)))
+          ∙ ap (λ (xs : List ℕ). consEntry (entryIn held (4 + lengthField bytes)) (fileFrom edition xs)) behind;
+      over = tt;
+      few = omega (arith, room-between edition);
+      due = rw (missing-short edition [] (omega arith)) (omega arith);
+    })
 
--- a reader inside a record
-pub inside-takes : (r : Reader) (held input : List ℕ) (t : Taken) (held′ : List ℕ) → r .stage ≡ Records → (0 < missing (take (r .held) held) → Takes (record { stage = Records; held = r .held }) held input t held′)
-    → Ready r held → Takes r held input t held′
-inside-takes r held input t held′ stage takes ready =
-    let due : 0 < missing (take (r .held) held) = rw stage at (ready .due) in
-    subst (λ (g : Stage). Takes (record { stage = g; held = r .held }) held input t held′) (sym stage) (takes due)
+  -- no more bytes are taken than the record has
+  exact-by : (bytes input : List ℕ) → 0 < missing edition bytes → Reach bytes
+      → let all : List ℕ = bytes ++ take (missing edition bytes) input in 4 ≤ length all → badSize edition (lengthField all) ≡ false → length all ≤ 4 + lengthField all
+  exact-by bytes input some (short h) = λ long good.
+      omega (arith, length-append bytes (take (missing edition bytes) input), length-take (missing edition bytes) input, missing-short edition bytes h)
+  exact-by bytes input some (bad h is) = absurd (omega (arith, missing-bad edition bytes h is))
+  exact-by bytes input some (part h is less) = λ long good.
+      omega (arith, length-append bytes (take (missing edition bytes) input), length-take (missing edition bytes) input, missing-rest edition bytes h is, size-front bytes (take (missing edition bytes) input) h)
+  exact-by bytes input some (full h is more) = absurd (omega (arith, missing-rest edition bytes h is))
 
--- ---- the step by itself
+  -- ---- a step inside a record
 
-module _ (r : Reader) (held input : List ℕ) (t : Taken) (held′ : List ℕ) where
-  abbrev Exactly : Type 0
-  Exactly = (t ≡ takenBy r held input) × (held′ ≡ heldAfter r held input)
+  module _ (have : ℕ) (held input : List ℕ) (taken : ℕ) (held′ : List ℕ) (t : Taken) (wanted : ℕ) (want : wanted ≡ missing edition (take have held)) (fits : have + wanted ≤ roomOf edition)
+      (room : roomOf edition ≤ length held) (same : length held′ ≡ length held) (least : taken ≡ min wanted (length input)) (is-held : held′ ≡ copiedIn held have (take taken input))
+      (is : t ≡ decided edition (take (have + taken) held′) taken) where
+    abbrev so-far : List ℕ
+    so-far = take have held
 
-  -- a buffer that does not suffice
-  pub exactly-not : bufferSuffices r held ≡ false → t ≡ nothingTaken r 0 → held′ ≡ held → Exactly
-  unfolding takenBy heldAfter
-  exactly-not e is same = rw e (is, same)
+    abbrev kept : List ℕ
+    kept = keptIn edition Records so-far input
 
-  module _ (e : bufferSuffices r held ≡ true) where
-    pub exactly-in : (g : Stage) → r .stage ≡ g → t ≡ takenIn g r (take (r .held) held) input → held′ ≡ spliced (r .held) (keptIn g (take (r .held) held) input) held → Exactly
+    kept-is : take taken input ≡ kept
+    kept-is = take-least wanted taken input least ∙ ap (λ (n : ℕ). take n input) want
+
+    size : length kept ≡ taken
+    size = ap length (sym kept-is) ∙ length-take taken input ∙ omega arith
+
+    -- the buffer after it
+    pub record-held : held′ ≡ spliced have kept held
+    record-held =
+        let small : length kept ≤ length held - have = omega (arith, size) in
+        is-held ∙ ap (copiedIn held have) kept-is ∙ copied-one held have kept small
+
+    all : take (have + taken) held′ ≡ so-far ++ kept
+    all =
+        let count : length (so-far ++ kept) ≡ have + taken = length-append so-far kept ∙ omega (arith, size, length-take-le have held (omega arith)) in
+        rw (record-held, sym count) (kept-there have kept held)
+
+    -- what is taken, of any bytes
+    pub record-exact : t ≡ recordTaken edition so-far input
+    record-exact = is ∙ ap (λ (xs : List ℕ). decided edition xs taken) all ∙ ap (decided edition (so-far ++ kept)) (sym size)
+
+    pub record-takes : t .used ≡ taken → 0 < missing edition so-far → Takes edition (record { stage = Records; held = have }) held input t held′
+    record-takes used some =
+        let exact : Exact held′ (have + taken) taken (omega arith) = rw all (exact-by so-far input some (reach so-far)) in
+        let d = decides-by held′ (have + taken) taken (omega arith) (reach (take (have + taken) held′)) exact in
+        rw is (record {
+          file = λ rest.
+              ap (λ (n : ℕ). fileFrom edition (so-far ++ (take n input ++ rest))) (sym (ap (λ (x : Taken). x .used) is) ∙ used)
+              ∙ ap (λ (xs : List ℕ). fileFrom edition (so-far ++ (xs ++ rest))) kept-is
+              ∙ ap (fileFrom edition) (sym (append-assoc so-far kept rest))
+              ∙ ap (λ (xs : List ℕ). fileFrom edition (xs ++ rest)) (sym all)
+              ∙ d .file rest;
+          over = d .over;
+          ready = record { room = omega arith; few = d .few; due = d .due };
+          some = λ one. let go : taken ≡ decided edition (take (have + taken) held′) taken .used = sym used ∙ ap (λ (x : Taken). x .used) is in omega (arith, want);
+        })
+
+  -- ---- the other steps
+
+  -- the version byte is one of the input
+  pub version-used : (version : ℕ) → (versionTaken edition version .used ≡ 1) × ((room : ℕ) → Lies edition (versionTaken edition version .found) room)
+  version-used version = go (eqb version (versionOf edition))
+    where
+      go : (b : Bool) → let u : Taken = cond b (record { reader = record { stage = Records; held = 0 }; used = 1; found = Nothing }) (record { reader = record { stage = Ended; held = 0 }; used = 1; found = BadVersion }) in
+          (u .used ≡ 1) × ((room : ℕ) → Lies edition (u .found) room)
+      go true = (refl, λ room. tt)
+      go false = (refl, λ room. tt)
+
+  module _ (r : Reader) (held input : List ℕ) (t : Taken) (ready : Ready edition r held) where
+    -- nothing taken
+    pub nothing-takes : length input ≡ 0 → t ≡ record { reader = r; used = 0; found = Nothing } → Takes edition r held input t held
+    nothing-takes none is = rw is (record { file = λ rest. refl; over = tt; ready = ready; some = λ one. absurd (omega arith) })
+
+    -- after the end
+    pub ended-takes : r .stage ≡ Ended → t ≡ record { reader = r; used = length input; found = Nothing } → Takes edition r held input t held
+    ended-takes stage is = rw is (record { file = λ rest. rw stage; over = tt; ready = ready; some = λ one. one })
+
+    pub version-takes : r .stage ≡ Version → (length input ≡ 0 → ⊥) → t ≡ versionTaken edition (getD input 0 0) → Takes edition r held input t held
+    unfolding records
+    version-takes stage some is = rw is (go input some)
+      where
+        by : (b : Bool) (version : ℕ) (more : List ℕ)
+            → let u : Taken = cond b (record { reader = record { stage = Records; held = 0 }; used = 1; found = Nothing }) (record { reader = record { stage = Ended; held = 0 }; used = 1; found = BadVersion }) in
+            ((rest : List ℕ) → cond b (fileFrom edition rest) (fileEnds badVersion) ≡ onto (u .found) held (fileAt edition (u .reader) held rest)) × Ready edition (u .reader) held × (1 ≤ u .used) × Over (u .found) (u .reader .stage)
+        by true version more = (λ rest. refl, record { room = ready .room; few = omega (arith, room-between edition); due = rw (missing-short edition [] (omega arith)) (omega arith) }, omega arith, tt)
+        by false version more = (λ rest. refl, record { room = ready .room; few = omega (arith, room-between edition); due = tt }, omega arith, refl)
+
+        go : (xs : List ℕ) → (length xs ≡ 0 → ⊥) → Takes edition r held xs (versionTaken edition (getD xs 0 0)) held
+        go [] some = absurd (some refl)
+        go (version ∷ more) some =
+            let all = by (eqb version (versionOf edition)) version more in
+            let one = version-used version .0 in
+            record { file = λ rest. rw (stage, one) (all .0 rest); over = all .3; ready = all .1; some = λ one. all .2 }
+
+  -- ---- the end of the file
+
+  pub file-ends : (r : Reader) (held : List ℕ) → Ready edition r held → fileAt edition r held [] ≡ fileEnds (endingAt (r .stage) (length (take (r .held) held)))
+  unfolding records recordsFrom
+  file-ends r held ready = go (r .stage) (take (r .held) held) (ready .due)
+    where
+      last : (bytes : List ℕ) → Reach bytes → 0 < missing edition bytes → fileFrom edition bytes ≡ fileEnds (endingAt Records (length bytes))
+      last [] far some = refl
+      last (b ∷ more) (short h) some = file-short (b ∷ more) (omega arith) h
+      last (b ∷ more) (bad h is) some = absurd (omega (arith, missing-bad edition (b ∷ more) h is))
+      last (b ∷ more) (part h is less) some = file-part (b ∷ more) h is less
+      last (b ∷ more) (full h is more′) some = absurd (omega (arith, missing-rest edition (b ∷ more) h is))
+
+      go : (g : Stage) (bytes : List ℕ) → Due edition g bytes → fileIn edition g bytes [] ≡ fileEnds (endingAt g (length bytes))
+      go Version bytes due = refl
+      go Records bytes due = rw (append-nil bytes) (last bytes (reach bytes) due)
+      go Ended bytes due = refl
+
+  -- so no record is left
+  pub ends-here : (r : Reader) (held : List ℕ) → Ready edition r held → fileAt edition r held [] .entries ≡ []
+  ends-here r held ready = ap (λ (f : File). f .entries) (file-ends r held ready)
+
+  -- ---- the test of the buffer
+
+  pub ready-enough : (r : Reader) (held : List ℕ) → Ready edition r held → bufferSuffices edition r held ≡ true
+  ready-enough r held ready = rw (le-leb (roomOf edition) (length held) (ready .room), lt-ltb (r .held) (roomOf edition) (ready .few))
+
+  pub enough-both : (r : Reader) (held : List ℕ) → bufferSuffices edition r held ≡ true → (roomOf edition ≤ length held) × (r .held < roomOf edition)
+  enough-both r held e =
+      let both = and-true (leb (roomOf edition) (length held)) (ltb (r .held) (roomOf edition)) e in
+      (leb-true (roomOf edition) (length held) (both .0), ltb-true (r .held) (roomOf edition) (both .1))
+
+  -- by the room that was asked for
+  pub suffices-by : (r : Reader) (held : List ℕ) (room : ℕ) → room ≡ roomOf edition → (b : Bool) → leb room (length held) && ltb (r .held) room ≡ b → bufferSuffices edition r held ≡ b
+  suffices-by r held room is b e = rw (← is) e
+
+  -- a reader inside a record
+  pub inside-takes : (r : Reader) (held input : List ℕ) (t : Taken) (held′ : List ℕ) → r .stage ≡ Records → (0 < missing edition (take (r .held) held) → Takes edition (record { stage = Records; held = r .held }) held input t held′)
+      → Ready edition r held → Takes edition r held input t held′
+  inside-takes r held input t held′ stage takes ready =
+      let due : 0 < missing edition (take (r .held) held) = rw stage at (ready .due) in
+      subst (λ (g : Stage). Takes edition (record { stage = g; held = r .held }) held input t held′) (sym stage) (takes due)
+
+  -- ---- the step by itself
+
+  module _ (r : Reader) (held input : List ℕ) (t : Taken) (held′ : List ℕ) where
+    abbrev Exactly : Type 0
+    Exactly = (t ≡ takenBy edition r held input) × (held′ ≡ heldAfter edition r held input)
+
+    -- a buffer that does not suffice
+    pub exactly-not : bufferSuffices edition r held ≡ false → t ≡ nothingTaken r 0 → held′ ≡ held → Exactly
     unfolding takenBy heldAfter
-    exactly-in g stage is buffer = rw e (
-      is ∙ ap (λ (x : Stage). takenIn x r (take (r .held) held) input) (sym stage),
-      buffer ∙ ap (λ (x : Stage). spliced (r .held) (keptIn x (take (r .held) held) input) held) (sym stage),
-    )
+    exactly-not e is same = rw e (is, same)
 
-    -- outside a record no byte is kept
-    pub exactly-version : r .stage ≡ Version → held′ ≡ held → t ≡ takenIn Version r (take (r .held) held) input → Exactly
-    exactly-version stage same is = exactly-in Version stage is (same ∙ sym (spliced-none (r .held) held))
+    module _ (e : bufferSuffices edition r held ≡ true) where
+      pub exactly-in : (g : Stage) → r .stage ≡ g → t ≡ takenIn edition g r (take (r .held) held) input → held′ ≡ spliced (r .held) (keptIn edition g (take (r .held) held) input) held → Exactly
+      unfolding takenBy heldAfter
+      exactly-in g stage is buffer = rw e (
+        is ∙ ap (λ (x : Stage). takenIn edition x r (take (r .held) held) input) (sym stage),
+        buffer ∙ ap (λ (x : Stage). spliced (r .held) (keptIn edition x (take (r .held) held) input) held) (sym stage),
+      )
 
-    pub exactly-ended : r .stage ≡ Ended → held′ ≡ held → t ≡ nothingTaken r (length input) → Exactly
-    exactly-ended stage same is = exactly-in Ended stage is (same ∙ sym (spliced-none (r .held) held))
+      -- outside a record no byte is kept
+      pub exactly-version : r .stage ≡ Version → held′ ≡ held → t ≡ takenIn edition Version r (take (r .held) held) input → Exactly
+      exactly-version stage same is = exactly-in Version stage is (same ∙ sym (spliced-none (r .held) held))
 
--- the version byte, if there is one
-pub version-none : (r : Reader) (bytes input : List ℕ) → length input ≡ 0 → takenIn Version r bytes input ≡ nothingTaken r 0
-version-none r bytes [] none = refl
-version-none r bytes (version ∷ more) none = absurd (omega arith)
+      pub exactly-ended : r .stage ≡ Ended → held′ ≡ held → t ≡ nothingTaken r (length input) → Exactly
+      exactly-ended stage same is = exactly-in Ended stage is (same ∙ sym (spliced-none (r .held) held))
 
-pub version-some : (r : Reader) (bytes input : List ℕ) → (length input ≡ 0 → ⊥) → takenIn Version r bytes input ≡ versionTaken (getD input 0 0)
-version-some r bytes [] some = absurd (some refl)
-version-some r bytes (version ∷ more) some = refl
+  -- the version byte, if there is one
+  pub version-none : (r : Reader) (bytes input : List ℕ) → length input ≡ 0 → takenIn edition Version r bytes input ≡ nothingTaken r 0
+  version-none r bytes [] none = refl
+  version-none r bytes (version ∷ more) none = absurd (omega arith)
+
+  pub version-some : (r : Reader) (bytes input : List ℕ) → (length input ≡ 0 → ⊥) → takenIn edition Version r bytes input ≡ versionTaken edition (getD input 0 0)
+  version-some r bytes [] some = absurd (some refl)
+  version-some r bytes (version ∷ more) some = refl

@@ -7,27 +7,29 @@ use Prim.Native.Nat.{ℕ, zero, suc, _+_, _-_, _≤_, _<_}
 use lib.ListN.{length, getD, take, drop}
 use lib.Dec.{eqb, leb, ltb}
 use Rattle.word.specs.Splice.{spliced}
+use Rattle.records.specs.declared.Edition.{Edition}
+use Rattle.records.specs.declared.Edition.the-variants.{First, Second}
 use Rattle.records.specs.declared.Stage.{Stage}
 use Rattle.records.specs.declared.Stage.the-variants.{Version, Records, Ended}
 use Rattle.records.specs.declared.Reader.{Reader}
 use Rattle.records.specs.declared.Found.{Found}
 use Rattle.records.specs.declared.Found.the-variants.{Nothing, Record, BadVersion, BadRecord}
 use Rattle.records.specs.declared.Taken.{Taken}
-use Rattle.records.specs.Records.{Entry, FileEnd, whole, badVersion, badRecord, cutRecord, File, fileEnds, consEntry, lengthField, badSize, recordsFrom, records}
+use Rattle.records.specs.Records.{Entry, FileEnd, whole, badVersion, badRecord, cutRecord, File, fileEnds, consEntry, versionOf, lengthField, badSize, recordsFrom, records}
 
 -- ---- what is to come
 
-abbrev pub fileFrom : List ℕ → File
-fileFrom bytes = recordsFrom (length bytes) bytes
+abbrev pub fileFrom : Edition → List ℕ → File
+fileFrom edition bytes = recordsFrom edition (length bytes) bytes
 
 -- the file from a stage on, of which these bytes are held and the rest follows; after its end nothing is looked at
-abbrev pub fileIn : Stage → (bytes rest : List ℕ) → File
-fileIn Version bytes rest = records rest
-fileIn Records bytes rest = fileFrom (bytes ++ rest)
-fileIn Ended bytes rest = fileEnds whole
+abbrev pub fileIn : Edition → Stage → (bytes rest : List ℕ) → File
+fileIn edition Version bytes rest = records edition rest
+fileIn edition Records bytes rest = fileFrom edition (bytes ++ rest)
+fileIn edition Ended bytes rest = fileEnds whole
 
-abbrev pub fileAt : Reader → (held rest : List ℕ) → File
-fileAt r held rest = fileIn (r .stage) (take (r .held) held) rest
+abbrev pub fileAt : Edition → Reader → (held rest : List ℕ) → File
+fileAt edition r held rest = fileIn edition (r .stage) (take (r .held) held) rest
 
 -- a whole record that lies in the buffer, after the four bytes of its length, up to `end`
 abbrev pub entryIn : (held : List ℕ) → (end : ℕ) → Entry
@@ -43,22 +45,27 @@ onto BadRecord held rest = record { entries = rest .entries; ending = badRecord 
 -- ---- a reader that may go on
 
 -- how many bytes are missing to the next thing to decide
-unfoldable pub missing : List ℕ → ℕ
-missing bytes =
+unfoldable pub missing : Edition → List ℕ → ℕ
+missing edition bytes =
     cond (ltb (length bytes) 4) (4 - length bytes)
-    (cond (badSize (lengthField bytes)) 0
+    (cond (badSize edition (lengthField bytes)) 0
     (4 + lengthField bytes - length bytes))
 
-abbrev pub Due : Stage → List ℕ → Type 0
-Due Version bytes = Unit {0}
-Due Records bytes = 0 < missing bytes
-Due Ended bytes = Unit {0}
+abbrev pub Due : Edition → Stage → List ℕ → Type 0
+Due edition Version bytes = Unit {0}
+Due edition Records bytes = 0 < missing edition bytes
+Due edition Ended bytes = Unit {0}
+
+-- the bytes of the longest record and of its length
+abbrev pub roomOf : Edition → ℕ
+roomOf First = 32773
+roomOf Second = 32777
 
 -- the longest record and its length have room, and nothing that could be decided is left undecided
-pub record Ready (r : Reader) (held : List ℕ) : Type 0 where
-  pub room : 32773 ≤ length held
-  pub few : r .held < 32773
-  pub due : Due (r .stage) (take (r .held) held)
+pub record Ready (edition : Edition) (r : Reader) (held : List ℕ) : Type 0 where
+  pub room : roomOf edition ≤ length held
+  pub few : r .held < roomOf edition
+  pub due : Due edition (r .stage) (take (r .held) held)
 
 -- ---- one step
 
@@ -69,19 +76,24 @@ Over (Record end) stage = Unit {0}
 Over BadVersion stage = stage ≡ Ended
 Over BadRecord stage = stage ≡ Ended
 
-pub record Takes (r : Reader) (held input : List ℕ) (t : Taken) (held′ : List ℕ) : Type 0 where
+pub record Takes (edition : Edition) (r : Reader) (held input : List ℕ) (t : Taken) (held′ : List ℕ) : Type 0 where
   -- the bytes that it used, whatever follows them
-  pub file : (rest : List ℕ) → fileAt r held (take (t .used) input ++ rest) ≡ onto (t .found) held′ (fileAt (t .reader) held′ rest)
+  pub file : (rest : List ℕ) → fileAt edition r held (take (t .used) input ++ rest) ≡ onto (t .found) held′ (fileAt edition (t .reader) held′ rest)
   pub over : Over (t .found) (t .reader .stage)
-  pub ready : Ready (t .reader) held′
+  pub ready : Ready edition (t .reader) held′
   pub some : 1 ≤ length input → 1 ≤ t .used
 
+-- where the batch begins in the buffer: behind the length and the client, and in edition 2 behind the score
+abbrev pub batchStart : Edition → ℕ
+batchStart First = 5
+batchStart Second = 9
+
 -- a record that was found lies in the buffer
-abbrev pub Lies : Found → (room : ℕ) → Type 0
-Lies Nothing room = Unit {0}
-Lies (Record end) room = (5 ≤ end) × (end ≤ room)
-Lies BadVersion room = Unit {0}
-Lies BadRecord room = Unit {0}
+abbrev pub Lies : Edition → Found → (room : ℕ) → Type 0
+Lies edition Nothing room = Unit {0}
+Lies edition (Record end) room = (batchStart edition ≤ end) × (end ≤ room)
+Lies edition BadVersion room = Unit {0}
+Lies edition BadRecord room = Unit {0}
 
 -- how a file ends where no byte follows, with so many bytes of an unfinished record
 abbrev pub endingAt : Stage → (have : ℕ) → FileEnd
@@ -97,16 +109,16 @@ endingAt Ended have = whole
 abbrev pub undecided : (have used : ℕ) → Taken
 undecided have used = record { reader = record { stage = Records; held = have }; used = used; found = Nothing }
 
-unfoldable pub decided : List ℕ → (used : ℕ) → Taken
-decided bytes used =
+unfoldable pub decided : Edition → List ℕ → (used : ℕ) → Taken
+decided edition bytes used =
     cond (ltb (length bytes) 4) (undecided (length bytes) used)
-    (cond (badSize (lengthField bytes)) (record { reader = record { stage = Ended; held = 0 }; used = used; found = BadRecord })
+    (cond (badSize edition (lengthField bytes)) (record { reader = record { stage = Ended; held = 0 }; used = used; found = BadRecord })
     (cond (ltb (length bytes) (4 + lengthField bytes)) (undecided (length bytes) used)
     (record { reader = record { stage = Records; held = 0 }; used = used; found = Record (4 + lengthField bytes) })))
 
-abbrev pub versionTaken : (version : ℕ) → Taken
-versionTaken version =
-    cond (eqb version 1)
+abbrev pub versionTaken : Edition → (version : ℕ) → Taken
+versionTaken edition version =
+    cond (eqb version (versionOf edition))
     (record { reader = record { stage = Records; held = 0 }; used = 1; found = Nothing })
     (record { reader = record { stage = Ended; held = 0 }; used = 1; found = BadVersion })
 
@@ -114,29 +126,29 @@ abbrev pub nothingTaken : Reader → (used : ℕ) → Taken
 nothingTaken r used = record { reader = r; used = used; found = Nothing }
 
 -- the bytes that it keeps behind those of an unfinished record
-abbrev pub keptIn : Stage → (bytes input : List ℕ) → List ℕ
-keptIn Version bytes input = []
-keptIn Records bytes input = take (missing bytes) input
-keptIn Ended bytes input = []
+abbrev pub keptIn : Edition → Stage → (bytes input : List ℕ) → List ℕ
+keptIn edition Version bytes input = []
+keptIn edition Records bytes input = take (missing edition bytes) input
+keptIn edition Ended bytes input = []
 
-abbrev pub recordTaken : (bytes input : List ℕ) → Taken
-recordTaken bytes input = decided (bytes ++ keptIn Records bytes input) (length (keptIn Records bytes input))
+abbrev pub recordTaken : Edition → (bytes input : List ℕ) → Taken
+recordTaken edition bytes input = decided edition (bytes ++ keptIn edition Records bytes input) (length (keptIn edition Records bytes input))
 
 -- after the end of the file all input is used up
-abbrev pub takenIn : Stage → Reader → (bytes input : List ℕ) → Taken
-takenIn Version r bytes [] = nothingTaken r 0
-takenIn Version r bytes (version ∷ more) = versionTaken version
-takenIn Records r bytes input = recordTaken bytes input
-takenIn Ended r bytes input = nothingTaken r (length input)
+abbrev pub takenIn : Edition → Stage → Reader → (bytes input : List ℕ) → Taken
+takenIn edition Version r bytes [] = nothingTaken r 0
+takenIn edition Version r bytes (version ∷ more) = versionTaken edition version
+takenIn edition Records r bytes input = recordTaken edition bytes input
+takenIn edition Ended r bytes input = nothingTaken r (length input)
 
 -- the longest record and its length fit in the buffer, and an unfinished record may have so many bytes
-abbrev pub bufferSuffices : Reader → (held : List ℕ) → Bool
-bufferSuffices r held = leb 32773 (length held) && ltb (r .held) 32773
+abbrev pub bufferSuffices : Edition → Reader → (held : List ℕ) → Bool
+bufferSuffices edition r held = leb (roomOf edition) (length held) && ltb (r .held) (roomOf edition)
 
 -- one step, or nothing at all where the buffer does not suffice
-unfoldable pub takenBy : Reader → (held input : List ℕ) → Taken
-takenBy r held input = cond (bufferSuffices r held) (takenIn (r .stage) r (take (r .held) held) input) (nothingTaken r 0)
+unfoldable pub takenBy : Edition → Reader → (held input : List ℕ) → Taken
+takenBy edition r held input = cond (bufferSuffices edition r held) (takenIn edition (r .stage) r (take (r .held) held) input) (nothingTaken r 0)
 
 -- and the buffer after it
-unfoldable pub heldAfter : Reader → (held input : List ℕ) → List ℕ
-heldAfter r held input = cond (bufferSuffices r held) (spliced (r .held) (keptIn (r .stage) (take (r .held) held) input) held) held
+unfoldable pub heldAfter : Edition → Reader → (held input : List ℕ) → List ℕ
+heldAfter edition r held input = cond (bufferSuffices edition r held) (spliced (r .held) (keptIn edition (r .stage) (take (r .held) held) input) held) held

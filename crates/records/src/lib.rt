@@ -1,11 +1,48 @@
-// A replay file read as records, a piece at a time and in constant memory. The caller lends `held`, for the bytes of one record.
+// A replay file of either edition read as records, a piece at a time and in constant memory. The caller lends `held`, for the bytes of one record.
 ghost use mathlib.Core.Path.{_≡_};
 ghost use Prim.Native.Nat.{_+_, _≤_, _<_};
 ghost use lib.ListN.{length, take};
 ghost use Rattle.records.specs.declared.Stage.the-variants.{Version, Records};
-ghost use Rattle.records.specs.Records.{badSize, lengthField};
+ghost use Rattle.records.specs.Records.{versionOf, badSize, lengthField};
 ghost use Rattle.word.specs.Splice.{spliced};
-ghost use Rattle.records.specs.Reading.{missing, Ready, Takes, Lies, undecided, decided, versionTaken, keptIn, recordTaken, takenBy, heldAfter};
+ghost use Rattle.records.specs.Reading.{roomOf, batchStart, missing, Ready, Takes, Lies, undecided, decided, versionTaken, keptIn, recordTaken, takenBy, heldAfter};
+
+// The edition of a file. The second has a score in each record.
+pub enum Edition {
+    First,
+    Second,
+}
+
+impl Edition {
+    pub fn version(self) -> u8
+        ensures { λ r. ⌜ r ≡ versionOf self ⌝ }
+    {
+        match self {
+            Edition::First => 1,
+            Edition::Second => 2,
+        }
+    }
+
+    // The bytes of the longest record and of its length: so long `held` is to be.
+    pub fn room(self) -> usize
+        ensures { λ r. ⌜ r ≡ roomOf self ⌝ }
+    {
+        match self {
+            Edition::First => 32773,
+            Edition::Second => 32777,
+        }
+    }
+
+    // Where the batch of a record begins in `held`.
+    pub fn batch_start(self) -> usize
+        ensures { λ r. ⌜ r ≡ batchStart self ⌝ }
+    {
+        match self {
+            Edition::First => 5,
+            Edition::Second => 9,
+        }
+    }
+}
 
 // What is to come next: the version byte, a record, or nothing that is looked at.
 pub enum Stage {
@@ -20,7 +57,7 @@ pub struct Reader {
     pub held: usize,
 }
 
-// What a step found. A record lies in `held` up to an end: its client at 4, its batch from 5 on.
+// What a step found. A record lies in `held` up to an end: its client at 4, then in edition 2 its score, then its batch.
 pub enum Found {
     Nothing,
     Record(usize),
@@ -45,22 +82,25 @@ pub fn start() -> Reader
 }
 
 // Whether a record may not have this length.
-fn bad_size(size: usize) -> bool
-    ensures { λ r. ⌜ r ≡ badSize size ⌝ }
+fn bad_size(edition: Edition, size: usize) -> bool
+    ensures { λ r. ⌜ r ≡ badSize edition size ⌝ }
 {
-    (size == 0) | (32769 < size)
+    match edition {
+        Edition::First => (size == 0) | (32769 < size),
+        Edition::Second => (size < 5) | (32773 < size),
+    }
 }
 
 // How many bytes of a record are missing to the next thing to decide, of which the first `have` bytes of `held` are there.
-fn bytes_missing(held: &[u8], have: usize) -> usize
-    requires { ⌜ (32773 ≤ length (now held)) × (have < 32773) ⌝ }
-    ensures { λ r. ⌜ (r ≡ missing (take have (now (held .entry)))) × (have + r ≤ 32773) ⌝ }
+fn bytes_missing(edition: Edition, held: &[u8], have: usize) -> usize
+    requires { ⌜ (roomOf edition ≤ length (now held)) × (have < roomOf edition) ⌝ }
+    ensures { λ r. ⌜ (r ≡ missing edition (take have (now (held .entry)))) × (have + r ≤ roomOf edition) ⌝ }
 {
     if have < 4 {
         return 4 - have;
     }
     let size = word::read_be32(held, 0) as usize;
-    if bad_size(size) {
+    if bad_size(edition, size) {
         return 0;
     }
     let end = 4 + size;
@@ -68,15 +108,15 @@ fn bytes_missing(held: &[u8], have: usize) -> usize
 }
 
 // What comes of the bytes of a record that are there, the first `have` of `held`.
-fn decide(held: &[u8], have: usize, used: usize) -> Taken
-    requires { ⌜ (32773 ≤ length (now held)) × (have ≤ 32773) ⌝ }
-    ensures { λ r. ⌜ (r ≡ decided (take have (now (held .entry))) used) × Lies (r .found) (length (now (held .entry))) × (r .used ≡ used) ⌝ }
+fn decide(edition: Edition, held: &[u8], have: usize, used: usize) -> Taken
+    requires { ⌜ (roomOf edition ≤ length (now held)) × (have ≤ roomOf edition) ⌝ }
+    ensures { λ r. ⌜ (r ≡ decided edition (take have (now (held .entry))) used) × Lies edition (r .found) (length (now (held .entry))) × (r .used ≡ used) ⌝ }
 {
     if have < 4 {
         return partly(have, used);
     }
     let size = word::read_be32(held, 0) as usize;
-    if bad_size(size) {
+    if bad_size(edition, size) {
         return Taken {
             reader: Reader {
                 stage: Stage::Ended,
@@ -115,19 +155,19 @@ fn partly(have: usize, used: usize) -> Taken
 }
 
 // Input for a record, of which the first `have` bytes of `held` are there.
-fn take_record(have: usize, held: &mut [u8], input: &[u8]) -> Taken
-    requires { ⌜ (32773 ≤ length (now held)) × (have < 32773) ⌝ }
-    ensures { λ r. ⌜ (r .used ≤ length (now (input .entry))) × Lies (r .found) (length (now (held .entry)))
-        × (0 < missing (take have (now (held .entry)))
-        → Takes (record { stage = Records; held = have }) (now (held .entry)) (now (input .entry)) r (now (held .exit)))
-        × (r ≡ recordTaken (take have (now (held .entry))) (now (input .entry)))
-        × (now (held .exit) ≡ spliced have (keptIn Records (take have (now (held .entry))) (now (input .entry))) (now (held .entry))) ⌝ }
+fn take_record(edition: Edition, have: usize, held: &mut [u8], input: &[u8]) -> Taken
+    requires { ⌜ (roomOf edition ≤ length (now held)) × (have < roomOf edition) ⌝ }
+    ensures { λ r. ⌜ (r .used ≤ length (now (input .entry))) × Lies edition (r .found) (length (now (held .entry)))
+        × (0 < missing edition (take have (now (held .entry)))
+        → Takes edition (record { stage = Records; held = have }) (now (held .entry)) (now (input .entry)) r (now (held .exit)))
+        × (r ≡ recordTaken edition (take have (now (held .entry))) (now (input .entry)))
+        × (now (held .exit) ≡ spliced have (keptIn edition Records (take have (now (held .entry))) (now (input .entry))) (now (held .entry))) ⌝ }
 {
-    let wanted = bytes_missing(held, have);
+    let wanted = bytes_missing(edition, held, have);
     let taken = range::least(wanted, input.len());
     // It never goes on at byte 0: no record is longer than `held`.
     ring::copy_in(held, have, &input[..taken]);
-    decide(held, have + taken, taken)
+    decide(edition, held, have + taken, taken)
 }
 
 // So many bytes passed over.
@@ -142,10 +182,10 @@ fn passed(reader: Reader, used: usize, found: Found) -> Taken
 }
 
 // The version byte.
-fn judge_version(version: u8) -> Taken
-    ensures { λ r. ⌜ r ≡ versionTaken version ⌝ }
+fn judge_version(edition: Edition, version: u8) -> Taken
+    ensures { λ r. ⌜ r ≡ versionTaken edition version ⌝ }
 {
-    if version == 1 {
+    if version == edition.version() {
         return Taken {
             reader: Reader {
                 stage: Stage::Records,
@@ -167,13 +207,14 @@ fn judge_version(version: u8) -> Taken
 
 // Takes from the input at most as many bytes as are missing to the next thing to decide, and so finds one thing at most.
 // Where the buffer does not suffice, nothing is used.
-pub fn take(reader: Reader, held: &mut [u8], input: &[u8]) -> Taken
-    ensures { λ r. ⌜ (r .used ≤ length (now (input .entry))) × Lies (r .found) (length (now (held .entry)))
-        × (Ready reader (now (held .entry)) → Takes reader (now (held .entry)) (now (input .entry)) r (now (held .exit)))
-        × (r ≡ takenBy reader (now (held .entry)) (now (input .entry))) × (now (held .exit) ≡ heldAfter reader (now (held .entry)) (now (input .entry))) ⌝ }
+pub fn take(edition: Edition, reader: Reader, held: &mut [u8], input: &[u8]) -> Taken
+    ensures { λ r. ⌜ (r .used ≤ length (now (input .entry))) × Lies edition (r .found) (length (now (held .entry)))
+        × (Ready edition reader (now (held .entry)) → Takes edition reader (now (held .entry)) (now (input .entry)) r (now (held .exit)))
+        × (r ≡ takenBy edition reader (now (held .entry)) (now (input .entry))) × (now (held .exit) ≡ heldAfter edition reader (now (held .entry)) (now (input .entry))) ⌝ }
 {
     let have = reader.held;
-    let enough = (32773 <= held.len()) & (have < 32773);
+    let room = edition.room();
+    let enough = (room <= held.len()) & (have < room);
     if !enough {
         return passed(reader, 0, Found::Nothing);
     }
@@ -183,9 +224,9 @@ pub fn take(reader: Reader, held: &mut [u8], input: &[u8]) -> Taken
             if input.len() == 0 {
                 return passed(reader, 0, Found::Nothing);
             }
-            judge_version(input[0])
+            judge_version(edition, input[0])
         }
-        Stage::Records => take_record(have, held, input),
+        Stage::Records => take_record(edition, have, held, input),
         Stage::Ended => passed(reader, input.len(), Found::Nothing),
     }
 }

@@ -1,21 +1,25 @@
 -- Laws of feed and finish, as the code takes them.
 use mathlib.Core.Path.{_≡_, refl, sym, ap, subst, _∙_}
-use mathlib.Core.Bool.{cond}
+use mathlib.Core.Bool.{Bool, true, false, cond}
 use mathlib.Core.List.{List, []}
-use Prim.Native.Nat.{ℕ, zero, suc, _≤_, _<_}
+use Prim.Native.Nat.{ℕ, zero, suc, _-_, _≤_, _<_}
 use native.Mathlib.Omega.{arith}
-use lib.ListN.{length}
+use lib.ListN.{length, getD, take, drop}
 use borrow.Author.Tests.{le-leb, lt-leb}
+use Rattle.records.specs.declared.Edition.{Edition}
+use Rattle.records.specs.declared.Edition.the-variants.{First, Second}
 use Rattle.records.specs.declared.Stage.{Stage}
 use Rattle.records.specs.declared.Stage.the-variants.{Version, Records, Ended}
 use Rattle.records.specs.declared.Found.{Found}
 use Rattle.records.specs.declared.Found.the-variants.{Nothing, Record as OneRecord, BadVersion, BadRecord}
 use Rattle.records.specs.declared.Taken.{Taken}
-use Rattle.records.specs.Records.{badVersion, badRecord, cutRecord}
-use Rattle.records.specs.Reading.{entryIn, Ready, Takes, endingAt, nothingTaken, takenBy, heldAfter}
+use Rattle.records.specs.Records.{Entry, badVersion, badRecord, cutRecord}
+use Rattle.records.specs.Reading.{batchStart, entryIn, Ready, Takes, endingAt, nothingTaken, takenBy, heldAfter}
 use Rattle.record.specs.declared.Record.{Record}
 use Rattle.claims.specs.Engine.{State, mkState}
-use Rattle.lines.specs.Lines.{endingLine, entryLine, submitAndRun}
+use Rattle.editions.specs.Editions.{scoreHolds, submission, scoreIn}
+use Rattle.editions.proofs.Records.{score-in, submission-in}
+use Rattle.lines.specs.Lines.{endingLine, badScoreLine, submitAndRun, entryLine, recordLine, recordAfter}
 use Rattle.replay.specs.declared.Replay.{Replay}
 use Rattle.replay.specs.declared.Fed.{Fed}
 use Rattle.replay.specs.declared.Served.{Served}
@@ -24,18 +28,18 @@ use Rattle.replay.proofs.Printing.{prints-none}
 
 -- ---- what was found
 
-module _ (engine : Record) (ring memory held line : List ℕ) (found : Found) where
+module _ (edition : Edition) (engine : Record) (ring memory held line : List ℕ) (found : Found) where
   abbrev here : State
   here = mkState engine ring memory
 
   abbrev Found-serves : Served → (ring′ memory′ line′ : List ℕ) → Type 0
-  Found-serves s ring′ memory′ line′ = Serves (foundText found held here) (foundState found held here) line s ring′ memory′ line′
+  Found-serves s ring′ memory′ line′ = Serves (foundText edition found held here) (foundState edition found held here) line s ring′ memory′ line′
 
   pub found-nothing : found ≡ Nothing → Found-serves (record { engine = engine; written = 0 }) ring memory line
   found-nothing e = rw e (record { engine-is = refl; ring-is = refl; memory-is = refl; prints = prints-none line })
 
   pub found-record : (end : ℕ) → found ≡ OneRecord end → (s : Served) (ring′ memory′ line′ : List ℕ)
-      → Serves (entryLine (entryIn held end) here) (submitAndRun (entryIn held end) here .after) line s ring′ memory′ line′ → Found-serves s ring′ memory′ line′
+      → Serves (recordLine edition (entryIn held end) here) (recordAfter edition (entryIn held end) here) line s ring′ memory′ line′ → Found-serves s ring′ memory′ line′
   found-record end e s ring′ memory′ line′ serves = rw e serves
 
   pub found-version : (written : ℕ) (line′ : List ℕ) → found ≡ BadVersion → Prints (endingLine badVersion) line written line′
@@ -46,6 +50,34 @@ module _ (engine : Record) (ring memory held line : List ℕ) (found : Found) wh
       → Found-serves (record { engine = engine; written = written }) ring memory line′
   found-bad written line′ e prints = rw e (record { engine-is = refl; ring-is = refl; memory-is = refl; prints = prints })
 
+-- ---- a record
+
+-- there is a byte for its client
+pub lies-some : (edition : Edition) (end room : ℕ) → (batchStart edition ≤ end) × (end ≤ room) → 5 ≤ room
+lies-some First end room lies = omega arith
+lies-some Second end room lies = omega arith
+
+module _ (edition : Edition) (engine : Record) (ring memory held line : List ℕ) (end : ℕ) (lies : (batchStart edition ≤ end) × (end ≤ length held)) where
+  abbrev begun : State
+  begun = mkState engine ring memory
+
+  abbrev Record-serves : Served → (ring′ memory′ line′ : List ℕ) → Type 0
+  Record-serves s ring′ memory′ line′ = Serves (recordLine edition (entryIn held end) begun) (recordAfter edition (entryIn held end) begun) line s ring′ memory′ line′
+
+  holds : (b good : Bool) → good ≡ scoreIn edition held end → good ≡ b → scoreHolds edition (entryIn held end) ≡ b
+  holds b good is e = sym (score-in edition held end lies) ∙ sym is ∙ e
+
+  -- its score is bad
+  pub record-bad : (good : Bool) (written : ℕ) (line′ : List ℕ) → good ≡ scoreIn edition held end → good ≡ false → Prints badScoreLine line written line′
+      → Record-serves (record { engine = engine; written = written }) ring memory line′
+  record-bad good written line′ is e prints = rw (holds false good is e) (record { engine-is = refl; ring-is = refl; memory-is = refl; prints = prints })
+
+  -- it is submitted
+  pub record-good : (good : Bool) (start : ℕ) (s : Served) (ring′ memory′ line′ : List ℕ) → good ≡ scoreIn edition held end → good ≡ true → start ≡ batchStart edition
+      → let entry : Entry = record { client = getD held 4 0; batch = take (end - start) (drop start held) } in
+      Serves (entryLine entry begun) (submitAndRun entry begun .after) line s ring′ memory′ line′ → Record-serves s ring′ memory′ line′
+  record-good good start s ring′ memory′ line′ is e at serves = rw (holds true good is e, submission-in edition held end lies, ← at) serves
+
 -- ---- feed
 
 module _ (r : Replay) (held ring memory input line : List ℕ) where
@@ -54,6 +86,7 @@ module _ (r : Replay) (held ring memory input line : List ℕ) where
   feeds-short short =
       let test = lt-leb 128 (length line) short in
       record {
+        edition-is = refl;
         used-is = rw test;
         reader-is = rw test;
         held-is = rw test;
@@ -65,16 +98,17 @@ module _ (r : Replay) (held ring memory input line : List ℕ) where
         takes = λ room. absurd (omega arith);
       }
 
-  module _ (room : 128 ≤ length line) (t : Taken) (held′ : List ℕ) (is : t ≡ takenBy (r .reader) held input) (is-held : held′ ≡ heldAfter (r .reader) held input) where
+  module _ (room : 128 ≤ length line) (t : Taken) (held′ : List ℕ) (is : t ≡ takenBy (r .edition) (r .reader) held input) (is-held : held′ ≡ heldAfter (r .edition) (r .reader) held input) where
     step-is : fedStep r held input line ≡ t
     unfolding fedStep
     step-is = rw (le-leb 128 (length line) room) (sym is)
 
-    pub feeds-taken : (s : Served) (ring′ memory′ line′ : List ℕ) → t .used ≤ length input → (Ready (r .reader) held → Takes (r .reader) held input t held′)
-        → Serves (foundText (t .found) held′ (stateOf r ring memory)) (foundState (t .found) held′ (stateOf r ring memory)) line s ring′ memory′ line′
-        → FeedContract r held ring memory input line (record { replay = record { engine = s .engine; reader = t .reader }; used = t .used; written = s .written }) held′ ring′ memory′ line′
+    pub feeds-taken : (s : Served) (ring′ memory′ line′ : List ℕ) → t .used ≤ length input → (Ready (r .edition) (r .reader) held → Takes (r .edition) (r .reader) held input t held′)
+        → Serves (foundText (r .edition) (t .found) held′ (stateOf r ring memory)) (foundState (r .edition) (t .found) held′ (stateOf r ring memory)) line s ring′ memory′ line′
+        → FeedContract r held ring memory input line (record { replay = record { edition = r .edition; engine = s .engine; reader = t .reader }; used = t .used; written = s .written }) held′ ring′ memory′ line′
     unfolding fedHeld
     feeds-taken s ring′ memory′ line′ within takes serves = record {
+      edition-is = refl;
       used-is = rw step-is;
       reader-is = rw step-is;
       held-is = rw (le-leb 128 (length line) room) is-held;

@@ -7,13 +7,14 @@ use lib.ListN.{length}
 use lib.Dec.{leb}
 use Rattle.word.specs.Splice.{spliced}
 use Rattle.claims.specs.Engine.{State, mkState}
+use Rattle.records.specs.declared.Edition.{Edition}
 use Rattle.records.specs.declared.Stage.the-variants.{Version}
 use Rattle.records.specs.declared.Found.{Found}
 use Rattle.records.specs.declared.Found.the-variants.{Nothing, Record, BadVersion, BadRecord}
 use Rattle.records.specs.declared.Taken.{Taken}
 use Rattle.records.specs.Records.{badVersion, badRecord}
 use Rattle.records.specs.Reading.{entryIn, Ready, Takes, endingAt, nothingTaken, takenBy, heldAfter}
-use Rattle.lines.specs.Lines.{endingLine, submitAndRun, entryLine, replayStart}
+use Rattle.lines.specs.Lines.{endingLine, recordLine, recordAfter, replayStart}
 use Rattle.replay.specs.declared.Replay.{Replay}
 use Rattle.replay.specs.declared.Fed.{Fed}
 use Rattle.replay.specs.declared.Served.{Served}
@@ -22,8 +23,8 @@ use Rattle.replay.specs.declared.Served.{Served}
 abbrev pub stateOf : Replay → (ring memory : List ℕ) → State
 stateOf r ring memory = mkState (r .engine) ring memory
 
-abbrev pub atStart : Replay
-atStart = record { engine = replayStart .engine; reader = record { stage = Version; held = 0 } }
+abbrev pub atStart : Edition → Replay
+atStart edition = record { edition = edition; engine = replayStart edition .engine; reader = record { stage = Version; held = 0 } }
 
 -- a text at the start of a line's buffer; other bytes are as they were
 pub record Prints (text line : List ℕ) (written : ℕ) (line′ : List ℕ) : Type 0 where
@@ -32,38 +33,39 @@ pub record Prints (text line : List ℕ) (written : ℕ) (line′ : List ℕ) : 
 
 -- ---- what the reading found (crate records): what is printed of it, and the engine after it
 
-abbrev pub foundText : Found → (held : List ℕ) → State → List ℕ
-foundText Nothing held s = []
-foundText (Record end) held s = entryLine (entryIn held end) s
-foundText BadVersion held s = endingLine badVersion
-foundText BadRecord held s = endingLine badRecord
+abbrev pub foundText : Edition → Found → (held : List ℕ) → State → List ℕ
+foundText edition Nothing held s = []
+foundText edition (Record end) held s = recordLine edition (entryIn held end) s
+foundText edition BadVersion held s = endingLine badVersion
+foundText edition BadRecord held s = endingLine badRecord
 
-abbrev pub foundState : Found → (held : List ℕ) → State → State
-foundState Nothing held s = s
-foundState (Record end) held s = submitAndRun (entryIn held end) s .after
-foundState BadVersion held s = s
-foundState BadRecord held s = s
+abbrev pub foundState : Edition → Found → (held : List ℕ) → State → State
+foundState edition Nothing held s = s
+foundState edition (Record end) held s = recordAfter edition (entryIn held end) s
+foundState edition BadVersion held s = s
+foundState edition BadRecord held s = s
 
 -- ---- feed
 
 -- one step of the reading, or nothing at all where the line may be too short
 unfoldable pub fedStep : Replay → (held input line : List ℕ) → Taken
-fedStep r held input line = cond (leb 128 (length line)) (takenBy (r .reader) held input) (nothingTaken (r .reader) 0)
+fedStep r held input line = cond (leb 128 (length line)) (takenBy (r .edition) (r .reader) held input) (nothingTaken (r .reader) 0)
 
 unfoldable pub fedHeld : Replay → (held input line : List ℕ) → List ℕ
-fedHeld r held input line = cond (leb 128 (length line)) (heldAfter (r .reader) held input) held
+fedHeld r held input line = cond (leb 128 (length line)) (heldAfter (r .edition) (r .reader) held input) held
 
 pub record FeedContract (r : Replay) (held ring memory input line : List ℕ) (f : Fed) (held′ ring′ memory′ line′ : List ℕ) : Type 0 where
+  pub edition-is : f .replay .edition ≡ r .edition
   pub used-is : f .used ≡ fedStep r held input line .used
   pub reader-is : f .replay .reader ≡ fedStep r held input line .reader
   pub held-is : held′ ≡ fedHeld r held input line
-  pub engine-is : f .replay .engine ≡ foundState (fedStep r held input line .found) held′ (stateOf r ring memory) .engine
-  pub ring-is : ring′ ≡ foundState (fedStep r held input line .found) held′ (stateOf r ring memory) .ring
-  pub memory-is : memory′ ≡ foundState (fedStep r held input line .found) held′ (stateOf r ring memory) .memory
-  pub prints : Prints (foundText (fedStep r held input line .found) held′ (stateOf r ring memory)) line (f .written) line′
+  pub engine-is : f .replay .engine ≡ foundState (r .edition) (fedStep r held input line .found) held′ (stateOf r ring memory) .engine
+  pub ring-is : ring′ ≡ foundState (r .edition) (fedStep r held input line .found) held′ (stateOf r ring memory) .ring
+  pub memory-is : memory′ ≡ foundState (r .edition) (fedStep r held input line .found) held′ (stateOf r ring memory) .memory
+  pub prints : Prints (foundText (r .edition) (fedStep r held input line .found) held′ (stateOf r ring memory)) line (f .written) line′
   -- so the file goes on from there, whatever follows
   pub within : f .used ≤ length input
-  pub takes : 128 ≤ length line → Ready (r .reader) held → Takes (r .reader) held input (fedStep r held input line) held′
+  pub takes : 128 ≤ length line → Ready (r .edition) (r .reader) held → Takes (r .edition) (r .reader) held input (fedStep r held input line) held′
 
 -- ---- finish
 

@@ -5,8 +5,10 @@ use mathlib.Core.List.{List, [], _∷_, _++_}
 use Prim.Native.Nat.{ℕ, _≤_}
 use lib.ListN.{length, take, drop, replicate}
 use Rattle.claims.specs.Engine.{State}
+use Rattle.records.specs.declared.Edition.{Edition}
 use Rattle.records.specs.Records.{records}
-use Rattle.records.specs.Reading.{fileAt, Ready}
+use Rattle.records.specs.Reading.{roomOf, fileAt, Ready}
+use Rattle.editions.specs.Editions.{submissions}
 use Rattle.lines.specs.Lines.{engineOpened, linesFrom, lines}
 use Rattle.lines.specs.Answered.{submitAndRunAll}
 use Rattle.replay.specs.declared.Replay.{Replay}
@@ -18,9 +20,12 @@ use Rattle.replay.specs.Calls.{stateOf, atStart, Prints, FeedContract, f
 -- After these bytes of a file, of which this text was printed, from an engine on: whatever follows, the lines of the whole file are this text
 -- and then those from here on, and the engine after the whole file is the one after the rest from here on.
 pub record Stands (engine : State) (seen text : List ℕ) (r : Replay) (held ring memory : List ℕ) : Type 0 where
-  pub ready : Ready (r .reader) held
-  pub prints : (rest : List ℕ) → linesFrom engine (records (seen ++ rest)) ≡ text ++ linesFrom (stateOf r ring memory) (fileAt (r .reader) held rest)
-  pub leaves : (rest : List ℕ) → submitAndRunAll (records (seen ++ rest) .entries) engine ≡ submitAndRunAll (fileAt (r .reader) held rest .entries) (stateOf r ring memory)
+  pub ready : Ready (r .edition) (r .reader) held
+  pub prints : (rest : List ℕ)
+      → linesFrom (r .edition) engine (records (r .edition) (seen ++ rest)) ≡ text ++ linesFrom (r .edition) (stateOf r ring memory) (fileAt (r .edition) (r .reader) held rest)
+  pub leaves : (rest : List ℕ)
+      → submitAndRunAll (submissions (r .edition) (records (r .edition) (seen ++ rest) .entries)) engine
+      ≡ submitAndRunAll (submissions (r .edition) (fileAt (r .edition) (r .reader) held rest .entries)) (stateOf r ring memory)
 
 -- ---- calls
 
@@ -47,18 +52,18 @@ pub data FeedTrace : Replay → (held ring memory line : List ℕ) → (pieces :
 
 -- ---- the promise: from start's replay on, with buffers that suffice
 
-pub record ChunkingIrrelevant : Type 0 where
+pub record ChunkingIrrelevant (edition : Edition) : Type 0 where
   -- any pieces print what the file prints
-  pub calls : (held line : List ℕ) (pieces : List (List ℕ)) (output : List ℕ) → 32773 ≤ length held → 128 ≤ length line
-      → FeedTrace atStart held (replicate 32768 0) (replicate 65536 0) line pieces output
-      → output ≡ lines (records (concatChunks pieces))
+  pub calls : (held line : List ℕ) (pieces : List (List ℕ)) (output : List ℕ) → roomOf edition ≤ length held → 128 ≤ length line
+      → FeedTrace (atStart edition) held (replicate 32768 0) (replicate 65536 0) line pieces output
+      → output ≡ lines edition (records edition (concatChunks pieces))
   -- a call at a time: at the start; after a call of feed, which uses a byte if there is one; at the end, in print and in the engine
-  pub starts : (held ring memory : List ℕ) → 32773 ≤ length held → Stands (engineOpened ring memory) [] [] atStart held ring memory
+  pub starts : (held ring memory : List ℕ) → roomOf edition ≤ length held → Stands (engineOpened edition ring memory) [] [] (atStart edition) held ring memory
   pub feeds : (engine : State) (seen text : List ℕ) (r : Replay) (held ring memory input line : List ℕ) (f : Fed) (held′ ring′ memory′ line′ : List ℕ)
       → FeedContract r held ring memory input line f held′ ring′ memory′ line′ → 128 ≤ length line → Stands engine seen text r held ring memory
       → Stands engine (seen ++ take (f .used) input) (text ++ take (f .written) line′) (f .replay) held′ ring′ memory′ × (1 ≤ length input → 1 ≤ f .used)
   pub finishes : (engine : State) (seen text : List ℕ) (r : Replay) (held ring memory line : List ℕ) (written : ℕ) (line′ : List ℕ)
       → Stands engine seen text r held ring memory → 128 ≤ length line → Prints (finishedText r line) line written line′
-      → text ++ take written line′ ≡ linesFrom engine (records seen)
+      → text ++ take written line′ ≡ linesFrom (r .edition) engine (records (r .edition) seen)
   pub left : (engine : State) (seen text : List ℕ) (r : Replay) (held ring memory : List ℕ) → Stands engine seen text r held ring memory
-      → stateOf r ring memory ≡ submitAndRunAll (records seen .entries) engine
+      → stateOf r ring memory ≡ submitAndRunAll (submissions (r .edition) (records (r .edition) seen .entries)) engine

@@ -1,4 +1,4 @@
-// A replay file read, run and printed, a piece at a time and in constant memory. The caller lends every buffer: `held` for
+// A replay file of either edition read, run and printed, a piece at a time and in constant memory. The caller lends every buffer: `held` for
 // the bytes of an unfinished record, the engine's ring and memory, and `line` for the one line that a call may print.
 ghost use mathlib.Core.Path.{_≡_};
 ghost use Prim.Native.Nat.{ℕ, _≤_, _<_};
@@ -8,21 +8,23 @@ ghost use Rattle.queue.specs.Answers.{refusalNumberOf};
 ghost use Rattle.engine.specs.Outcome.{runRefusalOf as refusalOf, valuesOf};
 ghost use Rattle.claims.specs.Engine.{mkState, answerOrRefusal, completion};
 ghost use Rattle.records.specs.Records.{badVersion};
-ghost use Rattle.records.specs.Reading.{Lies};
-ghost use Rattle.lines.specs.Lines.{completionLine, refusalLine, answerLine, endingLine, entryLine, submitAndRun};
+ghost use Rattle.records.specs.declared.Found.the-variants.{Record as OneRecord};
+ghost use Rattle.records.specs.Reading.{entryIn, Lies};
+ghost use Rattle.lines.specs.Lines.{completionLine, refusalLine, answerLine, endingLine, entryLine, submitAndRun, recordLine, recordAfter};
 ghost use Rattle.replay.specs.Calls.{atStart, Prints, Serves, foundText, foundState, FeedContract, finishedText};
 use batch::Verdict;
 use engine::Outcome;
 use queue::Answer;
 use record::Record;
+use records::Edition;
 use records::Found;
 use records::Reader;
 use records::Stage;
-use reset::ResetRule;
 use text::line;
 
-// Where a replay stands: the engine, and the reading of the file.
+// Where a replay stands: the edition of the file, the engine, and the reading of the file.
 pub struct Replay {
+    pub edition: Edition,
     pub engine: Record,
     pub reader: Reader,
 }
@@ -40,12 +42,12 @@ struct Served {
     pub written: usize,
 }
 
-// The start of a replay: the engine set up, with four windows behind common. Ring and memory are to be 32,768 and 65,536
-// bytes, all zero.
-pub fn start() -> Replay
-    ensures { λ r. ⌜ r ≡ atStart ⌝ }
+// The start of a replay: the engine set up by the edition's reset rule, with four windows behind common. Ring and memory are to be
+// 32,768 and 65,536 bytes, all zero.
+pub fn start(edition: Edition) -> Replay
+    ensures { λ r. ⌜ r ≡ atStart edition ⌝ }
 {
-    let none = engine::set_up(32768, 65536, 16384, ResetRule::Unblended);
+    let none = engine::set_up(32768, 65536, 16384, editions::reset_of(edition));
     let first = none.engine;
     let one = engine::open(first, 16384, 12288);
     let second = one.engine;
@@ -56,6 +58,7 @@ pub fn start() -> Replay
     let four = engine::open(fourth, 53248, 12288);
     let engine = four.engine;
     Replay {
+        edition: edition,
         engine: engine,
         reader: records::start(),
     }
@@ -155,8 +158,43 @@ fn bad_version(line: &mut [u8]) -> usize
     line::copy(line, b"bad version\n")
 }
 
+// The record that lies in `held` up to an end, if its score holds.
+fn serve_record(
+    edition: Edition,
+    engine: Record,
+    held: &[u8],
+    end: usize,
+    ring: &mut [u8],
+    memory: &mut [u8],
+    line: &mut [u8],
+    slow: bool,
+) -> Served
+    requires { ⌜ Lies edition (OneRecord end) (length (now held)) × (128 ≤ length (now line)) ⌝ }
+    ensures { λ r. ⌜ Serves (recordLine edition (entryIn (now (held .entry)) end) (mkState engine (now (ring .entry)) (now (memory .entry))))
+        (recordAfter edition (entryIn (now (held .entry)) end) (mkState engine (now (ring .entry)) (now (memory .entry))))
+        (now (line .entry)) r (now (ring .exit)) (now (memory .exit)) (now (line .exit)) ⌝ }
+{
+    if !editions::score_in(edition, held, end) {
+        return Served {
+            engine: engine,
+            written: line::copy(line, b"bad score\n"),
+        };
+    }
+    let start = edition.batch_start();
+    serve(
+        engine,
+        ring,
+        memory,
+        held[4] as u32,
+        &held[start..end],
+        line,
+        slow,
+    )
+}
+
 // What comes of what the reading found in `held`.
 fn after_found(
+    edition: Edition,
     engine: Record,
     found: Found,
     held: &[u8],
@@ -165,21 +203,13 @@ fn after_found(
     line: &mut [u8],
     slow: bool,
 ) -> Served
-    requires { ⌜ Lies found (length (now held)) × (128 ≤ length (now line)) ⌝ }
-    ensures { λ r. ⌜ Serves (foundText found (now (held .entry)) (mkState engine (now (ring .entry)) (now (memory .entry))))
-        (foundState found (now (held .entry)) (mkState engine (now (ring .entry)) (now (memory .entry))))
+    requires { ⌜ Lies edition found (length (now held)) × (128 ≤ length (now line)) ⌝ }
+    ensures { λ r. ⌜ Serves (foundText edition found (now (held .entry)) (mkState engine (now (ring .entry)) (now (memory .entry))))
+        (foundState edition found (now (held .entry)) (mkState engine (now (ring .entry)) (now (memory .entry))))
         (now (line .entry)) r (now (ring .exit)) (now (memory .exit)) (now (line .exit)) ⌝ }
 {
     match found {
-        Found::Record(end) => serve(
-            engine,
-            ring,
-            memory,
-            held[4] as u32,
-            &held[5..end],
-            line,
-            slow,
-        ),
+        Found::Record(end) => serve_record(edition, engine, held, end, ring, memory, line, slow),
         Found::Nothing => Served {
             engine: engine,
             written: 0,
@@ -216,15 +246,17 @@ pub fn feed(
             written: 0,
         };
     }
+    let edition = replay.edition;
     let engine = replay.engine;
     let reader = replay.reader;
-    let taken = records::take(reader, held, input);
+    let taken = records::take(edition, reader, held, input);
     let after = taken.reader;
     let found = taken.found;
-    let served = after_found(engine, found, held, ring, memory, line, slow);
+    let served = after_found(edition, engine, found, held, ring, memory, line, slow);
     let next = served.engine;
     Fed {
         replay: Replay {
+            edition: edition,
             engine: next,
             reader: after,
         },

@@ -1,11 +1,10 @@
-// Replay files read from a descriptor and replayed, and their lines written to standard output. No contract can say
+// Replay files of either edition read from a descriptor and replayed, and their lines written to standard output. No contract can say
 // which bytes are read or written; that the memory is what some bytes make of it is proved.
-ghost use Prim.Native.Nat.{_≤_};
-ghost use lib.ListN.{length};
 ghost use Rattle.claims.specs.Engine.{State};
-ghost use Rattle.lines.specs.Lines.{engineOpened};
+ghost use Rattle.records.specs.declared.Edition.{Edition};
 ghost use Rattle.replay_io.specs.Gather.{FeedLinesContract};
 ghost use Rattle.replay_io.specs.Reached.{Reached, Replayed};
+use records::Edition;
 use replay::Fed;
 use replay::Replay;
 
@@ -81,8 +80,8 @@ fn feed_piece(
     shows: bool,
     slow: bool,
 ) -> Progress
-    ensures { λ r. ⌜ ((engine : State) → Reached engine replay (now (held .entry)) (now (ring .entry)) (now (memory .entry))
-        → Reached engine (r .replay) (now (held .exit)) (now (ring .exit)) (now (memory .exit))) ⌝ }
+    ensures { λ r. ⌜ ((edition : Edition) (engine : State) → Reached edition engine replay (now (held .entry)) (now (ring .entry)) (now (memory .entry))
+        → Reached edition engine (r .replay) (now (held .exit)) (now (ring .exit)) (now (memory .exit))) ⌝ }
 {
     let mut out = io::large_buffer();
     let mut now = replay;
@@ -119,8 +118,8 @@ fn read_some(
     shows: bool,
     slow: bool,
 ) -> Progress
-    ensures { λ r. ⌜ ((engine : State) → Reached engine replay (now (held .entry)) (now (ring .entry)) (now (memory .entry))
-        → Reached engine (r .replay) (now (held .exit)) (now (ring .exit)) (now (memory .exit))) ⌝ }
+    ensures { λ r. ⌜ ((edition : Edition) (engine : State) → Reached edition engine replay (now (held .entry)) (now (ring .entry)) (now (memory .entry))
+        → Reached edition engine (r .replay) (now (held .exit)) (now (ring .exit)) (now (memory .exit))) ⌝ }
 {
     let mut piece = io::large_buffer();
     let got = command::read_piece(fd, name, &mut piece);
@@ -138,17 +137,18 @@ fn read_some(
 fn read_all(
     fd: i32,
     name: &[u8],
+    replay: Replay,
     held: &mut [u8],
     ring: &mut [u8],
     memory: &mut [u8],
     shows: bool,
     slow: bool,
 ) -> Progress
-    ensures { λ r. ⌜ (32773 ≤ length (now (held .entry))
-        → Reached (engineOpened (now (ring .entry)) (now (memory .entry))) (r .replay) (now (held .exit)) (now (ring .exit)) (now (memory .exit))) ⌝ }
+    ensures { λ r. ⌜ ((edition : Edition) (engine : State) → Reached edition engine replay (now (held .entry)) (now (ring .entry)) (now (memory .entry))
+        → Reached edition engine (r .replay) (now (held .exit)) (now (ring .exit)) (now (memory .exit))) ⌝ }
 {
     let mut progress = Progress {
-        replay: replay::start(),
+        replay,
         more: true,
         well: true,
     };
@@ -171,14 +171,22 @@ fn finish(replay: Replay, shows: bool) -> bool {
 }
 
 // Replays what a descriptor reads, to its end, in memory, which is to be 65,536 zero bytes. Shows the lines or not, by the
-// slow engine or by the fast one. Answers
-// whether nothing failed; what did fail is reported on standard error.
-pub fn replay_from(fd: i32, name: &[u8], memory: &mut [u8], shows: bool, slow: bool) -> bool
-    ensures { λ _. ⌜ Replayed (now (memory .entry)) (now (memory .exit)) ⌝ }
+// slow engine or by the fast one. Answers whether nothing failed; what did fail is reported on standard error.
+pub fn replay_from(
+    edition: Edition,
+    fd: i32,
+    name: &[u8],
+    memory: &mut [u8],
+    shows: bool,
+    slow: bool,
+) -> bool
+    ensures { λ _. ⌜ Replayed edition (now (memory .entry)) (now (memory .exit)) ⌝ }
 {
-    let mut held = [0u8; 32773];
+    // The longest record of either edition has room.
+    let mut held = [0u8; 32777];
     let mut ring = [0u8; 32768];
-    let done = read_all(fd, name, &mut held, &mut ring, memory, shows, slow);
+    let start = replay::start(edition);
+    let done = read_all(fd, name, start, &mut held, &mut ring, memory, shows, slow);
     let replay = done.replay;
     if !done.well {
         return false;
@@ -187,8 +195,14 @@ pub fn replay_from(fd: i32, name: &[u8], memory: &mut [u8], shows: bool, slow: b
 }
 
 // The same, of the file that an argument of the program names.
-pub fn replay_argument(index: usize, memory: &mut [u8], shows: bool, slow: bool) -> bool
-    ensures { λ _. ⌜ Replayed (now (memory .entry)) (now (memory .exit)) ⌝ }
+pub fn replay_argument(
+    edition: Edition,
+    index: usize,
+    memory: &mut [u8],
+    shows: bool,
+    slow: bool,
+) -> bool
+    ensures { λ _. ⌜ Replayed edition (now (memory .entry)) (now (memory .exit)) ⌝ }
 {
     let mut path = io::buffer();
     let opened = command::open_argument(index, &mut path);
@@ -196,7 +210,67 @@ pub fn replay_argument(index: usize, memory: &mut [u8], shows: bool, slow: bool)
     if fd < 0 {
         return false;
     }
-    let well = replay_from(fd, &path[..opened.length], memory, shows, slow);
+    let well = replay_from(edition, fd, &path[..opened.length], memory, shows, slow);
     libc::close(fd);
     well
+}
+
+// ---- the programs
+
+fn is_slow(text: &[u8]) -> bool {
+    if text.len() != 6 {
+        return false;
+    }
+    (text[0] == b'-')
+        & (text[1] == b'-')
+        & (text[2] == b's')
+        & (text[3] == b'l')
+        & (text[4] == b'o')
+        & (text[5] == b'w')
+}
+
+// Whether the first argument asks for the slow engine. One that is missing or too long for the buffer counts as empty.
+fn asks_slow() -> bool {
+    let mut text = io::buffer();
+    let n = os::arg(1, &mut text);
+    is_slow(&text[..n])
+}
+
+// Replays standard input, or the file that an argument names.
+fn replay_one(
+    edition: Edition,
+    is_input: bool,
+    is_file: bool,
+    index: usize,
+    slow: bool,
+    usage: &[u8],
+) {
+    let mut memory = io::large_buffer();
+    if is_input {
+        replay_from(
+            edition,
+            libc::STDIN_FILENO,
+            b"standard input",
+            &mut memory,
+            true,
+            slow,
+        );
+        return;
+    }
+    if is_file {
+        replay_argument(edition, index, &mut memory, true, slow);
+        return;
+    }
+    io::write_all(libc::STDERR_FILENO, usage);
+}
+
+// Prints the lines of a replay file of an edition: the one that the program's argument names, or standard input. With --slow before it the
+// file is run by the slow engine, which prints the same lines. With other arguments `usage` is told on standard error.
+pub fn print_lines(edition: Edition, usage: &[u8]) {
+    let count = os::arg_count();
+    if asks_slow() {
+        replay_one(edition, count == 2, count == 3, 2, true, usage);
+        return;
+    }
+    replay_one(edition, count == 1, count == 2, 1, false, usage);
 }

@@ -9,6 +9,9 @@
 //! compare fuzz SECONDS SEED                      random and damaged input of every kind, until the time is over
 //! compare replays COUNT SEED PROGRAM [WORD ..]   random replay files, on PROGRAM's standard input
 //! compare cuts FILE PROGRAM [WORD ..]            a replay file cut at every byte
+//! compare replays2 COUNT SEED PROGRAM [WORD ..]  random replay files of edition 2, likewise
+//! compare cuts2 FILE PROGRAM [WORD ..]           one of edition 2 cut at every byte
+//! compare tally COUNT SEED PROGRAM               lots of random files of both editions, counted by PROGRAM
 //! compare provenance COUNT SEED SAMPLES TOUCHED FAULT
 //!                                                who drew a byte and why a batch faulted, asked of two programs
 mod bench;
@@ -17,6 +20,7 @@ mod fuzz;
 mod lent;
 mod linked;
 mod lists;
+mod month;
 mod orders;
 mod provenance;
 mod replays;
@@ -43,12 +47,16 @@ fn compared(words: &[&str]) -> Result<bool> {
         ["fuzz", seconds, seed] => Ok(fuzz::compare(number(seconds)?, number(seed)?)),
         ["replays", count, seed, program @ ..] => replays::compare(number(count)?, number(seed)?, program),
         ["cuts", file, program @ ..] => replays::cuts(file, program),
+        ["replays2", count, seed, program @ ..] => month::replays2(number(count)?, number(seed)?, program),
+        ["cuts2", file, program @ ..] => replays::cuts_of(file, program, independent::second::played),
+        ["tally", count, seed, program] => month::compare(number(count)?, number(seed)?, program),
         ["provenance", count, seed, samples, touched, fault] => {
             provenance::compare(number(count)?, number(seed)?, samples, [touched, fault])
         }
         _ => Err(Error::other(
             "usage: calls | lists COUNT SEED | orders COUNT SEED | pages | settings | tints COUNT SEED | fuzz SECONDS SEED \
-             | replays COUNT SEED PROGRAM | cuts FILE PROGRAM | provenance COUNT SEED SAMPLES TOUCHED FAULT",
+             | replays COUNT SEED PROGRAM | cuts FILE PROGRAM | replays2 .. | cuts2 .. | tally COUNT SEED PROGRAM \
+             | provenance COUNT SEED SAMPLES TOUCHED FAULT",
         )),
     }
 }

@@ -1,4 +1,5 @@
 //! Replay files read by a program and by the independent program.
+use independent::engine::Book;
 use independent::registers::Task;
 use independent::replay::played;
 use independent::replay_files;
@@ -22,8 +23,11 @@ fn printed(program: &[&str], file: &[u8]) -> Result<Vec<u8>> {
     status.code().map(|_| lines).ok_or_else(|| Error::other(format!("{path} was ended by a signal")))
 }
 
+/// The lines of a file and the book after it, as the independent program plays it.
+type Played = fn(&[u8]) -> (String, Book);
+
 /// Compares one file, and answers its lines, and the tasks that rule 28 was asked about, if they agree.
-fn agreed(program: &[&str], file: &[u8], name: &str) -> Result<Option<(String, Vec<Task>)>> {
+fn agreed(program: &[&str], file: &[u8], name: &str, played: Played) -> Result<Option<(String, Vec<Task>)>> {
     let (expected, book) = played(file);
     let found = printed(program, file)?;
     if found == expected.as_bytes() {
@@ -44,12 +48,17 @@ fn kind(line: &str) -> String {
     }
 }
 
-/// Whether a program prints what it should of so many random files of a seed.
+/// Whether a program prints what it should of so many random files of edition 1 of a seed.
 pub fn compare(count: u64, seed: u64, program: &[&str]) -> Result<bool> {
+    compare_files(count, seed, program, replay_files::file, played)
+}
+
+/// Whether a program prints what it should of so many files of a seed.
+pub fn compare_files(count: u64, seed: u64, program: &[&str], made: fn(u64, u64) -> Vec<u8>, played: Played) -> Result<bool> {
     let mut tally = Tally::default();
     for number in 0..count {
-        let file = replay_files::file(seed, number);
-        let agreed = agreed(program, &file, &format!("file {number} of seed {seed}"))?;
+        let file = made(seed, number);
+        let agreed = agreed(program, &file, &format!("file {number} of seed {seed}"), played)?;
         let Some((lines, asked)) = agreed else { return Ok(false) };
         lines.lines().for_each(|line| tally.add(kind(line), 1));
         tally.add_pairs(&asked);
@@ -61,9 +70,14 @@ pub fn compare(count: u64, seed: u64, program: &[&str]) -> Result<bool> {
 
 /// Whether a program prints what it should of a file cut at every byte, and of the whole file.
 pub fn cuts(path: &str, program: &[&str]) -> Result<bool> {
+    cuts_of(path, program, played)
+}
+
+/// The same of a file that is played so.
+pub fn cuts_of(path: &str, program: &[&str], played: Played) -> Result<bool> {
     let file = std::fs::read(path)?;
     for length in 0..=file.len() {
-        if agreed(program, &file[..length], &format!("{path} cut after {length} bytes"))?.is_none() {
+        if agreed(program, &file[..length], &format!("{path} cut after {length} bytes"), played)?.is_none() {
             return Ok(false);
         }
     }

@@ -5,6 +5,8 @@
 //! independent samples DIR            writes sample replay files with their lines into DIR
 //! independent --count COUNT SEED     plays COUNT random lists and prints what came how often
 //! independent replay [FILE]          prints the lines of a replay file, or of standard input
+//! independent replay2 [FILE]         the same of edition 2
+//! independent tally FILE..           prints the counts of replay files of both editions
 //! independent picture FILE ADDRESS STRIDE WIDTH HEIGHT FORMAT
 //!                                    writes a rectangle of the memory after a replay as a picture (PPM)
 //! independent touched FILE ADDRESS [STRIDE FORMAT X Y]
@@ -16,7 +18,7 @@
 use independent::picture::{byte_of_words, number, Rectangle};
 use independent::provenance::Answers;
 use independent::tally::Tally;
-use independent::{documents, play, programs, replay, samples, scripts, tables};
+use independent::{documents, month, play, programs, replay, samples, scripts, second, tables};
 use std::io::{Error, Read, Result, Write};
 use std::path::Path;
 use std::process::ExitCode;
@@ -64,6 +66,12 @@ fn fault(file: &String, ticket: &str) -> Result<()> {
     Ok(())
 }
 
+fn tally(files: &[String]) -> Result<()> {
+    let files: Vec<Vec<u8>> = files.iter().map(std::fs::read).collect::<Result<_>>()?;
+    let printed = month::tallied([0; month::COUNTS], files.iter().map(Vec::as_slice));
+    std::io::stdout().write_all(printed.as_bytes())
+}
+
 fn print_lines(lines: &[String]) -> Result<()> {
     lines.iter().try_for_each(|line| writeln!(std::io::stdout(), "{line}"))
 }
@@ -73,6 +81,8 @@ fn done(words: &[String]) -> Result<()> {
     match plain.as_slice() {
         ["--count", lists, seed] => count(lists, seed),
         ["replay"] | ["replay", _] => std::io::stdout().write_all(replay::replayed(&input(words.get(1))?).0.as_bytes()),
+        ["replay2"] | ["replay2", _] => std::io::stdout().write_all(second::played(&input(words.get(1))?).0.as_bytes()),
+        ["tally", _, ..] => tally(&words[1..]),
         ["picture", _, ..] => picture(&words[1], &words[2..]),
         ["touched", _, ..] => touched(&words[1], &words[2..]),
         ["fault", _, ticket] => fault(&words[1], ticket),
@@ -82,7 +92,7 @@ fn done(words: &[String]) -> Result<()> {
         ["tables", "header", file] => print_lines(&documents::header(&std::fs::read_to_string(file)?)),
         ["all", dir] => programs::write(Path::new(dir)),
         _ => Err(Error::other(
-            "usage: all DIR | samples DIR | --count COUNT SEED | replay [FILE] | picture FILE .. | touched FILE .. | fault FILE TICKET | tables ..",
+            "usage: all DIR | samples DIR | --count COUNT SEED | replay [FILE] | replay2 [FILE] | tally FILE.. | picture FILE .. | touched FILE .. | fault FILE TICKET | tables ..",
         )),
     }
 }

@@ -1,8 +1,8 @@
-//! What the programs that people use are run on in the gate: a replay file with its lines, a picture of another's memory, and
-//! the two questions of a lost tint.
+//! What the programs that people use are run on in the gate: a replay file of each edition with its lines, a picture of another's memory, the
+//! two questions of a lost tint, and the counts of a few files.
 use crate::picture::{byte_of_words, Rectangle};
 use crate::provenance::Answers;
-use crate::{replay, sample_files, sample_page};
+use crate::{month, replay, sample_files, sample_page, sample_second, second};
 use std::io::{Error, Result};
 use std::path::Path;
 
@@ -32,6 +32,37 @@ fn write_replay(dir: &Path) -> Result<()> {
     let file = several();
     std::fs::write(dir.join("stdin"), &file)?;
     std::fs::write(dir.join("stdout"), replay::replayed(&file).0)
+}
+
+fn write_replay2(dir: &Path) -> Result<()> {
+    std::fs::create_dir_all(dir)?;
+    let file = sample_second::scored();
+    std::fs::write(dir.join("stdin"), &file)?;
+    std::fs::write(dir.join("stdout"), second::played(&file).0)
+}
+
+/// The files that are counted, of both editions, two of them damaged.
+fn counted() -> [(&'static str, Vec<u8>); 6] {
+    [
+        ("faults.replay", sample_files::faults()),
+        ("refused.replay", sample_files::refused()),
+        ("before_a_fault.replay", sample_files::before_a_fault()),
+        ("scored.replay2", sample_second::scored()),
+        ("cut_record.replay", sample_files::cut()),
+        ("bad_version.replay", vec![3]),
+    ]
+}
+
+fn write_tally(dir: &Path) -> Result<()> {
+    std::fs::create_dir_all(dir.join("data"))?;
+    let files = counted();
+    for (name, file) in &files {
+        std::fs::write(dir.join("data").join(name), file)?;
+    }
+    let names: Vec<&str> = files.iter().map(|(name, _)| *name).collect();
+    std::fs::write(dir.join("args"), names.join("\n") + "\n")?;
+    let counts = month::tallied([0; month::COUNTS], files.iter().map(|(_, file)| file.as_slice()));
+    std::fs::write(dir.join("stdout"), counts)
 }
 
 /// The arguments of `touched`: the file, address, stride and format of the page, and a pixel of it.
@@ -72,6 +103,8 @@ fn write_fault(dir: &Path) -> Result<()> {
 /// Writes the files of these program crates below a folder.
 pub fn write(dir: &Path) -> Result<()> {
     write_replay(&dir.join("replay_main"))?;
+    write_replay2(&dir.join("replay2_main"))?;
+    write_tally(&dir.join("tally_main"))?;
     write_picture(&dir.join("picture"))?;
     write_touched(&dir.join("touched"))?;
     write_fault(&dir.join("fault"))

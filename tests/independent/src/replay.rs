@@ -35,10 +35,15 @@ pub fn records(file: &[u8]) -> (Vec<Record<'_>>, Option<&'static str>) {
     (records, None)
 }
 
-/// The engine that a file is played on, with the old reset rule.
+/// The engine that a file of edition 1 is played on, with the old reset rule.
 pub fn opened() -> Book {
+    opened_with(UNBLENDED)
+}
+
+/// The engine that a file is played on, by a reset rule.
+pub fn opened_with(reset: u32) -> Book {
     let numbers = Numbers { ring: RING, memory: MEMORY.into(), common: COMMON.into() };
-    let mut book = Book::set_up(numbers, UNBLENDED, RING as usize, &[0; MEMORY as usize]).ok().expect("allowed numbers");
+    let mut book = Book::set_up(numbers, reset, RING as usize, &[0; MEMORY as usize]).ok().expect("allowed numbers");
     for client in 0..4 {
         book.open(window_start(client), WINDOW).expect("an allowed window");
     }
@@ -46,9 +51,9 @@ pub fn opened() -> Book {
 }
 
 /// A record is submitted and, if accepted, run: its line.
-fn line(book: &mut Book, record: &Record) -> String {
-    if let Err(number) = book.submit(record.client.into(), record.batch) {
-        return format!("{} - - {number} 0\n", record.client);
+pub fn line_of(book: &mut Book, client: u8, batch: &[u8]) -> String {
+    if let Err(number) = book.submit(client.into(), batch) {
+        return format!("{client} - - {number} 0\n");
     }
     let done = book.run().expect("a batch to run");
     format!("{} {} {:08X} {} {}\n", done.client, done.ticket, done.status, done.fault, done.place)
@@ -58,7 +63,7 @@ fn line(book: &mut Book, record: &Record) -> String {
 pub fn played(file: &[u8]) -> (String, Book) {
     let mut book = opened();
     let (records, ending) = records(file);
-    let mut lines: String = records.iter().map(|record| line(&mut book, record)).collect();
+    let mut lines: String = records.iter().map(|record| line_of(&mut book, record.client, record.batch)).collect();
     if let Some(ending) = ending {
         lines.push_str(ending);
         lines.push('\n');

@@ -1,6 +1,7 @@
 //! Small replay files, each of which shows one thing, with the lines that they print and a list of what they show.
 use crate::replay::replayed;
-use crate::{sample_columns, sample_files as files, sample_margins, sample_page, sample_scan, sample_scores};
+use crate::second::played;
+use crate::{sample_columns, sample_files as files, sample_margins, sample_page, sample_scan, sample_scores, sample_second};
 use std::path::Path;
 
 pub struct Sample {
@@ -117,8 +118,16 @@ fn list() -> String {
         let look = if pictures.is_empty() { String::new() } else { format!(" (picture: {})", pictures.join(", ")) };
         text.push_str(&format!("- `{name}.replay`: {shows}{look}\n"));
     }
+    text.push_str(SECOND);
     text
 }
+
+/// The sample of edition 2.
+const SECOND: &str = "
+Of edition 2, for `./replay2`:
+
+- `scored.replay2`: good and bad scores, a refused record, a batch that blends because of its reset, a fault after a task that stands, a record that is cut
+";
 
 const HEADING: &str = "\
 # Samples
@@ -136,6 +145,9 @@ pub fn write(dir: &Path) -> std::io::Result<()> {
         std::fs::write(dir.join(format!("{name}.replay")), &file)?;
         std::fs::write(dir.join(format!("{name}.lines")), replayed(&file).0)?;
     }
+    let scored = sample_second::scored();
+    std::fs::write(dir.join("scored.replay2"), &scored)?;
+    std::fs::write(dir.join("scored.lines2"), played(&scored).0)?;
     std::fs::write(dir.join("README.md"), list())
 }
 

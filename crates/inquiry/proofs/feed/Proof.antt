@@ -1,5 +1,6 @@
 use Prim.Native.Nat.{ℕ}
 use mathlib.Core.Path.{refl, sym, subst}
+use Rattle.records.specs.declared.Edition.the-variants.{First}
 use Rattle.records.specs.Reading.{Lies}
 use Rattle.inquiry.proofs.Answering.{feeds-by}
 use borrow.Author.Needs.{needs}
@@ -14,7 +15,7 @@ take-requires : tie.Need-take-requires
 take-requires c κs = search needs
 
 after-found-requires : tie.Need-after-found-requires
-after-found-requires c κs = let t = c .before .before .before .before .take in subst (λ (n : ℕ). Lies (t .result .found) n) (sym (t .kept .1 .0)) (t .ensures .1)
+after-found-requires c κs = let t = c .before .before .before .before .take in subst (λ (n : ℕ). Lies First (t .result .found) n) (sym (t .kept .1 .1 .0)) (t .ensures .1)
 
 same-length : tie.Need-same-length
 same-length c = search needs

@@ -1,7 +1,7 @@
 use Prim.Native.Nat.{_+_, _-_}
 use mathlib.Core.Path.{_≡_, sym, _∙_}
 use native.Mathlib.Omega.{arith}
-use Rattle.records.proofs.Bytes.{good-size, have-short, have-bad, have-rest}
+use Rattle.records.proofs.Bytes.{room-between, good-size, have-short, have-bad, have-rest}
 use borrow.Author.Needs.{needs}
 use Rattle.records.proofs.bytes_missing.Statement.{statement}
 use Rattle.records.proofs.bytes_missing.Tie as tie
@@ -12,7 +12,7 @@ sub-result c = search needs
 returns : tie.Need-returns
 returns c =
     let a = c .before .before .args in
-    (have-short (a .held .now) (a .have) (omega arith) (c .if1 .taken), omega arith)
+    (have-short (a .edition) (a .held .now) (a .have) (omega arith) (c .if1 .taken), omega (arith, room-between (a .edition)))
 
 read-be32-requires : tie.Need-read-be32-requires
 read-be32-requires c κs = search needs
@@ -26,7 +26,7 @@ bad-size-requires c κs = search needs
 returns-2 : tie.Need-returns-2
 returns-2 c =
     let a = c .before .before .before .before .before .args in
-    (have-bad (a .held .now) (a .have) (omega arith) (c .before .before .read-be32 .result) (c .before .before .read-be32 .ensures) (c .before .before .before .if1 .left) (sym (c .before .bad-size .ensures) ∙ c .if2 .taken), search needs)
+    (have-bad (a .edition) (a .held .now) (a .have) (omega arith) (c .before .before .read-be32 .result) (c .before .before .read-be32 .ensures) (c .before .before .before .if1 .left) (sym (c .before .bad-size .ensures) ∙ c .if2 .taken), search needs)
 
 add-end : tie.Need-add-end
 add-end c = search needs
@@ -39,7 +39,7 @@ returns-3 c =
     let a = c .before .before .before .before .before .before .args in
     let size = c .before .before .before .read-be32 .result in
     let good = sym (c .before .before .bad-size .ensures) ∙ c .before .if2 .left in
-    (have-rest (a .held .now) (a .have) (omega arith) size (c .before .before .before .read-be32 .ensures) (c .before .before .before .before .if1 .left) good, omega (arith, good-size size good .1))
+    (have-rest (a .edition) (a .held .now) (a .have) (omega arith) size (c .before .before .before .read-be32 .ensures) (c .before .before .before .before .if1 .left) good, omega (arith, good-size (a .edition) size good .1))
 
 returns-4 : tie.Need-returns-4
 returns-4 c =
@@ -47,7 +47,7 @@ returns-4 c =
     let size = c .before .before .before .read-be32 .result in
     let good = sym (c .before .before .bad-size .ensures) ∙ c .before .if2 .left in
     let none : 0 ≡ 4 + size - a .have = omega arith in
-    (none ∙ have-rest (a .held .now) (a .have) (omega arith) size (c .before .before .before .read-be32 .ensures) (c .before .before .before .before .if1 .left) good, omega arith)
+    (none ∙ have-rest (a .edition) (a .held .now) (a .have) (omega arith) size (c .before .before .before .read-be32 .ensures) (c .before .before .before .before .if1 .left) good, omega arith)
 
 pub bytes-missing-spec : {M : Type 1} → statement M
 bytes-missing-spec =

@@ -17,7 +17,7 @@ partly-requires c κs = search needs
 returns : tie.Need-returns
 returns c =
     let s = c .before .before .before in
-    (c .partly .ensures ∙ decides-short (s .args .held .now) (s .args .have) (omega arith) (s .args .used) (c .before .if1 .taken), rw (c .partly .ensures) tt, ap (λ (t : Taken). t .used) (c .partly .ensures))
+    (c .partly .ensures ∙ decides-short (s .args .edition) (s .args .held .now) (s .args .have) (omega arith) (s .args .used) (c .before .if1 .taken), rw (c .partly .ensures) tt, ap (λ (t : Taken). t .used) (c .partly .ensures))
 
 read-be32-requires : tie.Need-read-be32-requires
 read-be32-requires c κs = search needs
@@ -32,7 +32,7 @@ returns-2 : tie.Need-returns-2
 returns-2 c =
     let s = c .before .before .before .before .before in
     let bad = sym (c .before .bad-size .ensures) ∙ c .if2 .taken in
-    (decides-bad (s .args .held .now) (s .args .have) (omega arith) _ (c .before .before .read-be32 .ensures) (c .before .before .before .if1 .left) (s .args .used) bad, tt, refl)
+    (decides-bad (s .args .edition) (s .args .held .now) (s .args .have) (omega arith) _ (c .before .before .read-be32 .ensures) (c .before .before .before .if1 .left) (s .args .used) bad, tt, refl)
 
 add-end : tie.Need-add-end
 add-end c = search needs
@@ -44,14 +44,14 @@ returns-3 : tie.Need-returns-3
 returns-3 c =
     let s = c .before .before .before .before .before .before .before in
     let good = sym (c .before .before .before .bad-size .ensures) ∙ c .before .before .if2 .left in
-    (c .partly2 .ensures ∙ decides-part (s .args .held .now) (s .args .have) (omega arith) _ (c .before .before .before .before .read-be32 .ensures) (c .before .before .before .before .before .if1 .left) (s .args .used) good (c .before .if3 .taken), rw (c .partly2 .ensures) tt, ap (λ (t : Taken). t .used) (c .partly2 .ensures))
+    (c .partly2 .ensures ∙ decides-part (s .args .edition) (s .args .held .now) (s .args .have) (omega arith) _ (c .before .before .before .before .read-be32 .ensures) (c .before .before .before .before .before .if1 .left) (s .args .used) good (c .before .if3 .taken), rw (c .partly2 .ensures) tt, ap (λ (t : Taken). t .used) (c .partly2 .ensures))
 
 returns-4 : tie.Need-returns-4
 returns-4 c =
     let s = c .before .before .before .before .before .before in
     let good = sym (c .before .before .bad-size .ensures) ∙ c .before .if2 .left in
-    let some = good-size (c .before .before .before .read-be32 .result) good in
-    (decides-whole (s .args .held .now) (s .args .have) (omega arith) _ (c .before .before .before .read-be32 .ensures) (c .before .before .before .before .if1 .left) (s .args .used) good (c .if3 .left), (omega arith, omega arith), refl)
+    let some = good-size (s .args .edition) (c .before .before .before .read-be32 .result) good in
+    (decides-whole (s .args .edition) (s .args .held .now) (s .args .have) (omega arith) _ (c .before .before .before .read-be32 .ensures) (c .before .before .before .before .if1 .left) (s .args .used) good (c .if3 .left), (omega arith, omega arith), refl)
 
 pub decide-spec : {M : Type 1} → statement M
 decide-spec =

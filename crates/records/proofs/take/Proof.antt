@@ -4,8 +4,7 @@ use native.Mathlib.Omega.{arith}
 use lib.ListN.{getD, take}
 use borrow.Author.Tests.{not-true, not-false}
 use Rattle.records.specs.declared.Taken.{Taken}
-use Rattle.records.specs.Reading.{bufferSuffices}
-use Rattle.records.proofs.Onward.{nothing-takes, ended-takes, version-takes, ready-enough, enough-both, inside-takes, version-used, exactly-not, exactly-in, exactly-version, exactly-ended, version-none, version-some}
+use Rattle.records.proofs.Onward.{nothing-takes, ended-takes, version-takes, ready-enough, enough-both, suffices-by, inside-takes, version-used, exactly-not, exactly-in, exactly-version, exactly-ended, version-none, version-some}
 use borrow.Author.Needs.{needs}
 use Rattle.records.proofs.take.Statement.{statement}
 use Rattle.records.proofs.take.Tie as tie
@@ -15,17 +14,19 @@ use Rattle.records.proofs.judge_version.Reads as judge-version-reads
 use Rattle.records.proofs.passed.Reads as passed-reads
 use Rattle.records.proofs.take_record.Reads as take-record-reads
 
+room-requires : tie.Need-room-requires
+room-requires c κs = search needs
+
 passed-requires : tie.Need-passed-requires
 passed-requires c κs = search needs
 
 returns : tie.Need-returns
 returns c =
-    let a = c .before .before .before .before .args in
-    let enough = bufferSuffices (a .reader) (a .held .now) in
-    let exactly = exactly-not (a .reader) (a .held .now) (a .input .now) (c .passed .result) (a .held .now) (not-true enough (c .before .if1 .taken)) (c .passed .ensures) refl in (
+    let a = c .before .before .before .before .before .args in
+    let exactly = exactly-not (a .edition) (a .reader) (a .held .now) (a .input .now) (c .passed .result) (a .held .now) (suffices-by (a .edition) (a .reader) (a .held .now) _ (c .before .before .room .ensures) _ (not-true _ (c .before .if1 .taken))) (c .passed .ensures) refl in (
       omega (arith, ap (λ (t : Taken). t .used) (c .passed .ensures)),
       rw (c .passed .ensures) tt,
-      λ ready. absurd (false≢true (sym (not-true enough (c .before .if1 .taken)) ∙ ready-enough (a .reader) (a .held .now) ready)),
+      λ ready. absurd (false≢true (sym (suffices-by (a .edition) (a .reader) (a .held .now) _ (c .before .before .room .ensures) _ (not-true _ (c .before .if1 .taken))) ∙ ready-enough (a .edition) (a .reader) (a .held .now) ready)),
       exactly .0,
       exactly .1,
     )
@@ -38,11 +39,11 @@ passed-requires-2 c κs = search needs
 
 returns-2 : tie.Need-returns-2
 returns-2 c =
-    let a = c .before .before .before .before .before .before .before .args in
-    let exactly = exactly-version (a .reader) (a .held .now) (a .input .now) (c .passed2 .result) (a .held .now) (not-false (bufferSuffices (a .reader) (a .held .now)) (c .before .before .before .before .if1 .left)) (c .before .before .enum-told .given .1) refl (c .passed2 .ensures ∙ sym (version-none (a .reader) (take (a .reader .held) (a .held .now)) (a .input .now) (c .before .if2 .taken))) in (
+    let a = c .before .before .before .before .before .before .before .before .args in
+    let exactly = exactly-version (a .edition) (a .reader) (a .held .now) (a .input .now) (c .passed2 .result) (a .held .now) (suffices-by (a .edition) (a .reader) (a .held .now) _ (c .before .before .before .before .before .room .ensures) _ (not-false _ (c .before .before .before .before .if1 .left))) (c .before .before .enum-told .given .1) refl (c .passed2 .ensures ∙ sym (version-none (a .edition) (a .reader) (take (a .reader .held) (a .held .now)) (a .input .now) (c .before .if2 .taken))) in (
       omega (arith, ap (λ (t : Taken). t .used) (c .passed2 .ensures)),
       rw (c .passed2 .ensures) tt,
-      λ ready. nothing-takes (a .reader) (a .held .now) (a .input .now) (c .passed2 .result) ready (c .before .if2 .taken) (c .passed2 .ensures),
+      λ ready. nothing-takes (a .edition) (a .reader) (a .held .now) (a .input .now) (c .passed2 .result) ready (c .before .if2 .taken) (c .passed2 .ensures),
       exactly .0,
       exactly .1,
     )
@@ -58,8 +59,8 @@ enum-told-2 c = search needs
 
 take-record-requires : tie.Need-take-record-requires
 take-record-requires c κs =
-    let a = c .before .before .before .before .before .before .args in
-    enough-both (a .reader) (a .held .now) (not-false (bufferSuffices (a .reader) (a .held .now)) (c .before .before .before .if1 .left))
+    let a = c .before .before .before .before .before .before .before .args in
+    enough-both (a .edition) (a .reader) (a .held .now) (suffices-by (a .edition) (a .reader) (a .held .now) _ (c .before .before .before .before .room .ensures) _ (not-false _ (c .before .before .before .if1 .left)))
 
 enum-told-3 : tie.Need-enum-told-3
 enum-told-3 c = search needs
@@ -69,12 +70,12 @@ passed-requires-3 c κs = search needs
 
 returns-3 : tie.Need-returns-3
 returns-3 c =
-    let a = c .before .before .before .before .before .before .before .before .args in
-    let v = version-used (getD (a .input .now) 0 0) in
-    let exactly = exactly-version (a .reader) (a .held .now) (a .input .now) (c .judge-version .result) (a .held .now) (not-false (bufferSuffices (a .reader) (a .held .now)) (c .before .before .before .before .before .if1 .left)) (c .before .before .before .enum-told .given .1) refl (c .judge-version .ensures ∙ sym (version-some (a .reader) (take (a .reader .held) (a .held .now)) (a .input .now) (c .before .before .if2 .left))) in (
+    let a = c .before .before .before .before .before .before .before .before .before .args in
+    let v = version-used (a .edition) (getD (a .input .now) 0 0) in
+    let exactly = exactly-version (a .edition) (a .reader) (a .held .now) (a .input .now) (c .judge-version .result) (a .held .now) (suffices-by (a .edition) (a .reader) (a .held .now) _ (c .before .before .before .before .before .before .room .ensures) _ (not-false _ (c .before .before .before .before .before .if1 .left))) (c .before .before .before .enum-told .given .1) refl (c .judge-version .ensures ∙ sym (version-some (a .edition) (a .reader) (take (a .reader .held) (a .held .now)) (a .input .now) (c .before .before .if2 .left))) in (
       omega (arith, ap (λ (t : Taken). t .used) (c .judge-version .ensures), v .0, c .before .before .if2 .left),
       rw (c .judge-version .ensures) (v .1 _),
-      λ ready. version-takes (a .reader) (a .held .now) (a .input .now) (c .judge-version .result) ready (c .before .before .before .enum-told .given .1) (c .before .before .if2 .left) (c .judge-version .ensures),
+      λ ready. version-takes (a .edition) (a .reader) (a .held .now) (a .input .now) (c .judge-version .result) ready (c .before .before .before .enum-told .given .1) (c .before .before .if2 .left) (c .judge-version .ensures),
       exactly .0,
       exactly .1,
     )
@@ -84,18 +85,18 @@ same-length c = search needs
 
 returns-4 : tie.Need-returns-4
 returns-4 c =
-    let a = c .before .before .before .before .before .before .before .before .before .args in
+    let a = c .before .before .before .before .before .before .before .before .before .before .args in
     let e = c .before .before .take-record .ensures in
-    let exactly = exactly-in (a .reader) (a .held .now) (a .input .now) (c .before .before .take-record .result) _ (not-false (bufferSuffices (a .reader) (a .held .now)) (c .before .before .before .before .before .before .if1 .left)) _ (c .before .before .before .before .enum-told2 .given .1) (e .3) (e .4) in
-    (e .0, e .1, inside-takes (a .reader) (a .held .now) (a .input .now) (c .before .before .take-record .result) _ (c .before .before .before .before .enum-told2 .given .1) (e .2), exactly .0, exactly .1)
+    let exactly = exactly-in (a .edition) (a .reader) (a .held .now) (a .input .now) (c .before .before .take-record .result) _ (suffices-by (a .edition) (a .reader) (a .held .now) _ (c .before .before .before .before .before .before .before .room .ensures) _ (not-false _ (c .before .before .before .before .before .before .if1 .left))) _ (c .before .before .before .before .enum-told2 .given .1) (e .3) (e .4) in
+    (e .0, e .1, inside-takes (a .edition) (a .reader) (a .held .now) (a .input .now) (c .before .before .take-record .result) _ (c .before .before .before .before .enum-told2 .given .1) (e .2), exactly .0, exactly .1)
 
 returns-5 : tie.Need-returns-5
 returns-5 c =
-    let a = c .before .before .before .before .before .before .args in
-    let exactly = exactly-ended (a .reader) (a .held .now) (a .input .now) (c .passed3 .result) (a .held .now) (not-false (bufferSuffices (a .reader) (a .held .now)) (c .before .before .before .if1 .left)) (c .before .enum-told3 .given .1) refl (c .passed3 .ensures) in (
+    let a = c .before .before .before .before .before .before .before .args in
+    let exactly = exactly-ended (a .edition) (a .reader) (a .held .now) (a .input .now) (c .passed3 .result) (a .held .now) (suffices-by (a .edition) (a .reader) (a .held .now) _ (c .before .before .before .before .room .ensures) _ (not-false _ (c .before .before .before .if1 .left))) (c .before .enum-told3 .given .1) refl (c .passed3 .ensures) in (
       omega (arith, ap (λ (t : Taken). t .used) (c .passed3 .ensures)),
       rw (c .passed3 .ensures) tt,
-      λ ready. ended-takes (a .reader) (a .held .now) (a .input .now) (c .passed3 .result) ready (c .before .enum-told3 .given .1) (c .passed3 .ensures),
+      λ ready. ended-takes (a .edition) (a .reader) (a .held .now) (a .input .now) (c .passed3 .result) ready (c .before .enum-told3 .given .1) (c .passed3 .ensures),
       exactly .0,
       exactly .1,
     )
@@ -104,6 +105,7 @@ pub take-spec : {M : Type 1} → statement M
 take-spec =
     tie.close
     (tie.spec
+    room-requires
     passed-requires
     returns
     enum-told

@@ -45,10 +45,10 @@ returns c =
     let want = c .before .before .before .before .before .before .before .before .bytes-missing .ensures in
     let copy = c .before .before .before .before .copy-in in (
       omega (arith, d .2, least),
-      subst (λ (n : ℕ). Lies (c .decide .result .found) n) (copy .kept .0) (d .1),
-      record-takes (s .args .have) (s .args .held .now) (s .args .input .now) _ _ (c .decide .result) _ (want .0) (want .1) (s .pre .0) (copy .kept .0) least (copy .ensures) (d .0) (d .2),
-      record-exact (s .args .have) (s .args .held .now) (s .args .input .now) _ _ (c .decide .result) _ (want .0) (want .1) (s .pre .0) (copy .kept .0) least (copy .ensures) (d .0),
-      record-held (s .args .have) (s .args .held .now) (s .args .input .now) _ _ (c .decide .result) _ (want .0) (want .1) (s .pre .0) (copy .kept .0) least (copy .ensures) (d .0),
+      subst (λ (n : ℕ). Lies (s .args .edition) (c .decide .result .found) n) (copy .kept .0) (d .1),
+      record-takes (s .args .edition) (s .args .have) (s .args .held .now) (s .args .input .now) _ _ (c .decide .result) _ (want .0) (want .1) (s .pre .0) (copy .kept .0) least (copy .ensures) (d .0) (d .2),
+      record-exact (s .args .edition) (s .args .have) (s .args .held .now) (s .args .input .now) _ _ (c .decide .result) _ (want .0) (want .1) (s .pre .0) (copy .kept .0) least (copy .ensures) (d .0),
+      record-held (s .args .edition) (s .args .have) (s .args .held .now) (s .args .input .now) _ _ (c .decide .result) _ (want .0) (want .1) (s .pre .0) (copy .kept .0) least (copy .ensures) (d .0),
     )
 
 pub take-record-spec : {M : Type 1} → statement M

@@ -1,6 +1,4 @@
-use Prim.Native.Nat.{_≤_}
 use native.Mathlib.Omega.{arith}
-use lib.ListN.{length}
 use Rattle.records.specs.Records.{badRecord}
 use Rattle.lines.specs.Lines.{endingLine}
 use Rattle.replay.proofs.Printing.{prints-typed}
@@ -8,31 +6,17 @@ use Rattle.replay.proofs.Feeding.{found-nothing, found-record, found-ve
 use borrow.Author.Needs.{needs}
 use Rattle.replay.proofs.after_found.Statement.{statement}
 use Rattle.replay.proofs.after_found.Tie as tie
-
--- where the record lies
-there : (c : tie.After-found) → (5 ≤ c .found .given .0 .0) × (c .found .given .0 .0 ≤ length (c .before .before .before .before .before .before .args .held .now))
-there c = rw (c .found .given .1) at (c .before .before .before .before .before .before .pre .0)
+use Rattle.replay.proofs.after_found.Reads as reads
+use Rattle.replay.proofs.after_found.Lts as lts
+use Rattle.replay.proofs.bad_version.Reads as bad-version-reads
+use Rattle.replay.proofs.serve_record.Reads as serve-record-reads
+use Rattle.text.proofs.line.copy.Reads as copy-reads
 
 enum-known-found : tie.Need-enum-known-found
 enum-known-found c = search needs
 
-shared-slice-read-serve : tie.Need-shared-slice-read-serve
-shared-slice-read-serve c = omega (arith, there (c .before .before .before .before))
-
-cast-serve : tie.Need-cast-serve
-cast-serve c = omega (arith, c .shared-slice-known2 .given 4)
-
-sub-serve : tie.Need-sub-serve
-sub-serve c = omega (arith, there (c .before .before .before .before))
-
-part-serve-start : tie.Need-part-serve-start
-part-serve-start c = omega (arith, there (c .before .before .before .before))
-
-part-serve-end : tie.Need-part-serve-end
-part-serve-end c = omega (arith, there (c .before .before .before .before))
-
-serve-requires : tie.Need-serve-requires
-serve-requires c κs = search needs
+serve-record-requires : tie.Need-serve-record-requires
+serve-record-requires c κs = (rw (c .before .before .before .before .found .given .1) at (c .before .before .before .before .before .before .before .before .before .before .pre .0), search needs)
 
 enum-told : tie.Need-enum-told
 enum-told c = search needs
@@ -63,13 +47,13 @@ same-length-3 c = search needs
 
 returns : tie.Need-returns
 returns c =
-    let a = c .before .before .before .before .before .before .before .before .before .before .before .before .before .before .before .before .before .before .before .args in
-    found-record (a .engine) (a .ring .now) (a .memory .now) (a .held .now) (a .line .now) (a .found) _ (c .before .before .before .before .before .before .before .before .before .before .before .before .before .found .given .1) _ _ _ _ (c .before .before .before .before .before .before .serve .ensures)
+    let a = c .before .before .before .before .before .before .before .before .before .before .before .before .before .before .before .before .before .args in
+    found-record (a .edition) (a .engine) (a .ring .now) (a .memory .now) (a .held .now) (a .line .now) (a .found) _ (c .before .before .before .before .before .before .before .before .before .before .before .found .given .1) _ _ _ _ (c .before .before .before .before .before .before .serve-record .ensures)
 
 returns-2 : tie.Need-returns-2
 returns-2 c =
     let a = c .before .before .before .before .before .before .args in
-    found-nothing (a .engine) (a .ring .now) (a .memory .now) (a .held .now) (a .line .now) (a .found) (c .enum-told .given .1)
+    found-nothing (a .edition) (a .engine) (a .ring .now) (a .memory .now) (a .held .now) (a .line .now) (a .found) (c .enum-told .given .1)
 
 same-length-4 : tie.Need-same-length-4
 same-length-4 c = search needs
@@ -77,7 +61,7 @@ same-length-4 c = search needs
 returns-3 : tie.Need-returns-3
 returns-3 c =
     let a = c .before .before .before .before .before .before .before .before .before .before .args in
-    found-version (a .engine) (a .ring .now) (a .memory .now) (a .held .now) (a .line .now) (a .found) _ _ (c .before .before .before .before .enum-told2 .given .1) (c .before .before .bad-version .ensures)
+    found-version (a .edition) (a .engine) (a .ring .now) (a .memory .now) (a .held .now) (a .line .now) (a .found) _ _ (c .before .before .before .before .enum-told2 .given .1) (c .before .before .bad-version .ensures)
 
 same-length-5 : tie.Need-same-length-5
 same-length-5 c = search needs
@@ -87,19 +71,14 @@ unfolding endingLine
 returns-4 c =
     let s = c .before .before .before .before .before .before .before .before .before .before .before in
     let a = s .args in
-    found-bad (a .engine) (a .ring .now) (a .memory .now) (a .held .now) (a .line .now) (a .found) _ _ (c .before .before .before .before .before .enum-told3 .given .1) (prints-typed (endingLine badRecord) (a .line .now) _ _ (omega arith) (s .pre .1) (c .before .before .copy .ensures))
+    found-bad (a .edition) (a .engine) (a .ring .now) (a .memory .now) (a .held .now) (a .line .now) (a .found) _ _ (c .before .before .before .before .before .enum-told3 .given .1) (prints-typed (endingLine badRecord) (a .line .now) _ _ (omega arith) (s .pre .1) (c .before .before .copy .ensures))
 
 pub after-found-spec : {M : Type 1} → statement M
 after-found-spec =
     tie.close
     (tie.spec
     enum-known-found
-    shared-slice-read-serve
-    cast-serve
-    sub-serve
-    part-serve-start
-    part-serve-end
-    serve-requires
+    serve-record-requires
     enum-told
     enum-told-2
     bad-version-requires

@@ -17,7 +17,7 @@ take-requires c κs = search needs
 after-found-requires : tie.Need-after-found-requires
 after-found-requires c κs =
     let t = c .before .before .before .before .before .before .before .take in
-    (subst (λ (n : ℕ). Lies (t .result .found) n) (sym (t .kept .1 .0)) (t .ensures .1), c .before .before .before .before .before .before .before .before .before .before .before .if1 .left)
+    (subst (λ (n : ℕ). Lies (c .before .before .before .before .before .before .before .before .before .before .before .before .before .before .before .before .before .args .replay .edition) (t .result .found) n) (sym (t .kept .1 .1 .0)) (t .ensures .1), c .before .before .before .before .before .before .before .before .before .before .before .if1 .left)
 
 same-length : tie.Need-same-length
 same-length c = search needs

@@ -3,6 +3,9 @@ use borrow.Author.Needs.{needs}
 use Rattle.replay.proofs.start.Statement.{statement}
 use Rattle.replay.proofs.start.Tie as tie
 
+reset-of-requires : tie.Need-reset-of-requires
+reset-of-requires c κs = search needs
+
 set-up-requires : tie.Need-set-up-requires
 set-up-requires c κs = search needs
 
@@ -22,12 +25,13 @@ start-requires : tie.Need-start-requires
 start-requires c κs = search needs
 
 returns : tie.Need-returns
-returns c = cc starting-engine
+returns c = cc (starting-engine (c .before .before .before .before .before .before .before .before .before .before .before .before .args .edition))
 
 pub start-spec : {M : Type 1} → statement M
 start-spec =
     tie.close
     (tie.spec
+    reset-of-requires
     set-up-requires
     open-requires
     open-requires-2

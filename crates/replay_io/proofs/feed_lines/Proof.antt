@@ -112,7 +112,7 @@ same-length-4 c = search needs
 returns : tie.Need-returns Inv-loop μ-loop
 returns c =
     let l = c .before .loop in
-    record { within = l .inv .1; room = l .inv .2; onward = l .inv .0 }
+    record { within = l .inv .1; room = l .inv .2; same = l .inv .0 .0; onward = l .inv .0 .1 }
 
 same-length-5 : tie.Need-same-length-5 Inv-loop μ-loop
 same-length-5 c =
@@ -151,7 +151,8 @@ returns-2 c =
     let d = c .before .before .before .before .before .before .before .before .before .before .before in
     let l = d .before .before .before .before .before .before .before .loop in
     let k = bounds d in
-    record { within = k .0; room = k .1; onward = going-more _ _ _ _ _ (l .used) (l .written) (l .now) _ _ _ (l .out) (l .inv .0) _ (length (l .out) - l .written) (d .feed .result) _ _ _ _ refl (omega (arith, room (d .before .before .before .before .before .before), length-mid (l .written) (length (l .out) - l .written) (l .out) (omega arith))) (omega arith) (omega (arith, prints-within _ _ _ _ (d .feed .ensures .prints) (d .feed .kept .1 .1 .1 .1 .1 .0), d .feed .kept .1 .1 .1 .1 .1 .0)) (d .feed .ensures) }
+    let g = going-more _ _ _ _ _ (l .used) (l .written) (l .now) _ _ _ (l .out) (l .inv .0) _ (length (l .out) - l .written) (d .feed .result) _ _ _ _ refl (omega (arith, room (d .before .before .before .before .before .before), length-mid (l .written) (length (l .out) - l .written) (l .out) (omega arith))) (omega arith) (omega (arith, prints-within _ _ _ _ (d .feed .ensures .prints) (d .feed .kept .1 .1 .1 .1 .1 .0), d .feed .kept .1 .1 .1 .1 .1 .0)) (d .feed .ensures) in
+    record { within = k .0; room = k .1; same = g .0; onward = g .1 }
 
 pub feed-lines-spec : {M : Type 1} → statement M
 feed-lines-spec =

@@ -2,6 +2,7 @@ use denote.Ref.{now}
 use Rattle.surface.proofs.Parts.{length-mid}
 use mathlib.Core.Path.{_≡_}
 use Rattle.claims.specs.Engine.{State}
+use Rattle.records.specs.declared.Edition.{Edition}
 use Prim.Native.Nat.{_-_, _≤_}
 use native.Mathlib.Omega.{arith}
 use lib.ListN.{length}
@@ -14,7 +15,7 @@ use Rattle.replay_io.proofs.feed_piece.Tie as tie
 abbrev Inv-loop : tie.InvT-loop
 Inv-loop held₀ ring₀ memory₀ piece shows slow out₀ now₀ used₀ well₀ held ring memory out now used well =
     (used ≤ length piece) × (65536 ≡ length out) × (length held ≡ length held₀) × (length ring ≡ length ring₀) × (length memory ≡ length memory₀)
-    × ((engine : State) → Reached engine now₀ held₀ ring₀ memory₀ → Reached engine now held ring memory)
+    × ((edition : Edition) (engine : State) → Reached edition engine now₀ held₀ ring₀ memory₀ → Reached edition engine now held ring memory)
 
 abbrev μ-loop : tie.MeasureT-loop
 μ-loop held₀ ring₀ memory₀ piece shows slow out₀ now₀ used₀ well₀ held ring memory out now used well = length piece - used
@@ -23,7 +24,7 @@ large-buffer-requires : tie.Need-large-buffer-requires Inv-loop μ-loop
 large-buffer-requires c κs = search needs
 
 loop-holds : tie.Need-loop-holds Inv-loop μ-loop
-loop-holds c = (search needs, search needs, search needs, search needs, search needs, λ engine R. R)
+loop-holds c = (search needs, search needs, search needs, search needs, search needs, λ edition engine R. R)
 
 sub-feed-lines : tie.Need-sub-feed-lines Inv-loop μ-loop
 sub-feed-lines c = search needs
@@ -58,7 +59,7 @@ loop-again c =
     let f = c .before .before .before .before .before .before .before .before .before .before .before .feed-lines in
     let piece = now (c .before .before .before .before .before .before .before .before .before .before .before .before .before .before .before .before .before .before .before .before .before .before .before .before .args .piece) in
     let rest = length-mid (l .used) (length piece - l .used) piece (omega (arith, l .inv .0)) in
-    (omega (arith, f .ensures .within, rest, l .inv .0), search needs, search needs, search needs, search needs, λ engine R. gathers-reach engine _ _ _ _ _ _ _ _ _ _ _ (f .ensures) (l .inv .5 engine R))
+    (omega (arith, f .ensures .within, rest, l .inv .0), search needs, search needs, search needs, search needs, λ edition engine R. gathers-reach edition engine _ _ _ _ _ _ _ _ _ _ _ (f .ensures) (l .inv .5 edition engine R))
 
 same-length : tie.Need-same-length Inv-loop μ-loop
 same-length c = search needs
@@ -85,7 +86,7 @@ returns-2 : tie.Need-returns-2 Inv-loop μ-loop
 returns-2 c =
     let l = c .before .before .before .before .before .before .before .before .before .before .before .before .before .before .before .before .before .before .loop in
     let f = c .before .before .before .before .before .before .before .before .before .before .before .feed-lines in
-    λ engine R. gathers-reach engine _ _ _ _ _ _ _ _ _ _ _ (f .ensures) (l .inv .5 engine R)
+    λ edition engine R. gathers-reach edition engine _ _ _ _ _ _ _ _ _ _ _ (f .ensures) (l .inv .5 edition engine R)
 
 pub feed-piece-spec : {M : Type 1} → statement M
 feed-piece-spec =

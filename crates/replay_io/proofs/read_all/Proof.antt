@@ -1,9 +1,8 @@
 use mathlib.Core.Path.{_≡_}
-use Prim.Native.Nat.{_≤_}
 use lib.ListN.{length}
-use Rattle.lines.specs.Lines.{engineOpened}
+use Rattle.claims.specs.Engine.{State}
+use Rattle.records.specs.declared.Edition.{Edition}
 use Rattle.replay_io.specs.Reached.{Reached}
-use Rattle.replay_io.proofs.Reaching.{reached-start}
 use borrow.Author.Needs.{needs}
 use Rattle.replay_io.proofs.read_all.Statement.{statement}
 use Rattle.replay_io.proofs.read_all.Tie as tie
@@ -11,18 +10,13 @@ use Rattle.replay_io.proofs.read_all.Tie as tie
 abbrev Inv-loop : tie.InvT-loop
 Inv-loop fd name held₀ ring₀ memory₀ shows slow progress₀ turns₀ more₀ held ring memory progress turns more =
     (length held ≡ length held₀) × (length ring ≡ length ring₀) × (length memory ≡ length memory₀)
-    × (32773 ≤ length held₀ → Reached (engineOpened ring₀ memory₀) (progress .replay) held ring memory)
+    × ((edition : Edition) (engine : State) → Reached edition engine (progress₀ .replay) held₀ ring₀ memory₀ → Reached edition engine (progress .replay) held ring memory)
 
 abbrev μ-loop : tie.MeasureT-loop
 μ-loop fd name held₀ ring₀ memory₀ shows slow progress₀ turns₀ more₀ held ring memory progress turns more = turns
 
-start-requires : tie.Need-start-requires Inv-loop μ-loop
-start-requires c κs = search needs
-
 loop-holds : tie.Need-loop-holds Inv-loop μ-loop
-loop-holds c =
-    let a = c .before .before .before .before .before .args in
-    (search needs, search needs, search needs, λ room. rw (c .start .ensures) (reached-start (a .held .now) (a .ring .now) (a .memory .now) room))
+loop-holds c = (search needs, search needs, search needs, λ edition engine R. R)
 
 read-some-requires : tie.Need-read-some-requires Inv-loop μ-loop
 read-some-requires c κs = search needs
@@ -37,7 +31,7 @@ loop-again : tie.Need-loop-again Inv-loop μ-loop
 loop-again c =
     let l = c .before .before .before .before .before .before .before .before .before .before .before .before .before .loop in
     let s = c .before .before .before .before .before .before .read-some in
-    (search needs, search needs, search needs, λ room. s .ensures _ (l .inv .3 room))
+    (search needs, search needs, search needs, λ edition engine R. s .ensures edition engine (l .inv .3 edition engine R))
 
 same-length : tie.Need-same-length Inv-loop μ-loop
 same-length c = search needs
@@ -69,7 +63,6 @@ read-all-spec =
     (tie.spec
     Inv-loop
     μ-loop
-    start-requires
     loop-holds
     read-some-requires
     sub-turns

@@ -17,7 +17,7 @@ read-piece-requires : tie.Need-read-piece-requires
 read-piece-requires c κs = search needs
 
 returns : tie.Need-returns
-returns c = λ engine R. R
+returns c = λ edition engine R. R
 
 array-share-prefix-piece : tie.Need-array-share-prefix-piece
 array-share-prefix-piece c = search needs

@@ -19,7 +19,7 @@ open-argument-requires : tie.Need-open-argument-requires
 open-argument-requires c κs = search needs
 
 returns : tie.Need-returns
-returns c = unread _
+returns c = unread _ _
 
 array-share-prefix-path : tie.Need-array-share-prefix-path
 array-share-prefix-path c = search needs

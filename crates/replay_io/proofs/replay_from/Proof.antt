@@ -1,7 +1,10 @@
-use Rattle.replay_io.proofs.Reaching.{replayed}
+use Rattle.replay_io.proofs.Reaching.{reached-start, replayed}
 use borrow.Author.Needs.{needs}
 use Rattle.replay_io.proofs.replay_from.Statement.{statement}
 use Rattle.replay_io.proofs.replay_from.Tie as tie
+
+start-requires : tie.Need-start-requires
+start-requires c κs = search needs
 
 slice-aggregate-read-all : tie.Need-slice-aggregate-read-all
 slice-aggregate-read-all c = search needs
@@ -16,7 +19,7 @@ same-length : tie.Need-same-length
 same-length c = search needs
 
 returns : tie.Need-returns
-returns c = replayed _ _ _ _ _ _ (c .before .before .before .before .before .before .before .read-all .ensures (search needs))
+returns c = replayed _ _ _ _ _ _ _ (c .before .before .before .before .before .before .before .read-all .ensures _ _ (reached-start _ _ _ _ _ (c .before .before .before .before .before .before .before .before .before .before .before .start .ensures) (search needs)))
 
 finish-requires : tie.Need-finish-requires
 finish-requires c κs = search needs
@@ -25,12 +28,13 @@ same-length-2 : tie.Need-same-length-2
 same-length-2 c = search needs
 
 returns-2 : tie.Need-returns-2
-returns-2 c = replayed _ _ _ _ _ _ (c .before .before .before .before .before .before .before .before .read-all .ensures (search needs))
+returns-2 c = replayed _ _ _ _ _ _ _ (c .before .before .before .before .before .before .before .before .read-all .ensures _ _ (reached-start _ _ _ _ _ (c .before .before .before .before .before .before .before .before .before .before .before .before .start .ensures) (search needs)))
 
 pub replay-from-spec : {M : Type 1} → statement M
 replay-from-spec =
     tie.close
     (tie.spec
+    start-requires
     slice-aggregate-read-all
     slice-aggregate-read-all-2
     read-all-requires

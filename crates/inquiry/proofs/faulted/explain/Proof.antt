@@ -2,6 +2,7 @@ use borrow.Author.Needs.{needs}
 use Prim.Native.Nat.{ℕ}
 use mathlib.Core.Path.{_≡_, sym, ap, _∙_}
 use mathlib.Core.List.{List}
+use Rattle.records.specs.declared.Edition.the-variants.{First}
 use Rattle.ring.specs.Segment.{batchWords}
 use Rattle.lines.specs.Lines.{fileReset}
 use Rattle.register.specs.declared.bank.Bank.{Bank}
@@ -15,7 +16,7 @@ abbrev Ws : tie.Start → List ℕ
 Ws c = batchWords (c .args .ring .now) (c .args .offset) (c .args .size)
 
 abbrev said : tie.Start → DecodedBatch
-said c = decodeBatch (c .args .bounds) fileReset (Ws c)
+said c = decodeBatch (c .args .bounds) (fileReset First) (Ws c)
 
 judged : (c : tie.After-judge) → c .judge .result ≡ validationOf (said (c .before .before .before))
 judged c =

@@ -4,6 +4,7 @@ use mathlib.Core.Path.{_≡_, refl, sym, ap, _∙_}
 use mathlib.Core.List.{List}
 use native.Mathlib.Omega.{arith}
 use lib.ListN.{length}
+use Rattle.records.specs.declared.Edition.the-variants.{First}
 use Rattle.ring.specs.Segment.{batchWords}
 use Rattle.lines.specs.Lines.{fileReset}
 use Rattle.register.specs.declared.bank.Bank.{Bank}
@@ -49,7 +50,7 @@ onward c =
 abbrev answerFrom : tie.Start Inv-loop μ-loop → Bank → Touched
 answerFrom s b = lastFrom (s .args .found) (s .args .i) (numbered (s .args .ticket) 0 (tasksDrawn (decodeBatch (s .args .bounds) b (Ws s))))
 
-from-reset : (c : tie.After-reset Inv-loop μ-loop) → answerFrom (c .before .before) fileReset ≡ answerFrom (c .before .before) (c .reset .result)
+from-reset : (c : tie.After-reset Inv-loop μ-loop) → answerFrom (c .before .before) (fileReset First) ≡ answerFrom (c .before .before) (c .reset .result)
 from-reset c = ap (answerFrom (c .before .before)) (sym (c .reset .ensures))
 
 reset-requires : tie.Need-reset-requires Inv-loop μ-loop

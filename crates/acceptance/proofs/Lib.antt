@@ -1,0 +1,2 @@
+-- Laws of a record that submit takes.
+pub mod Taken

@@ -1,0 +1,2 @@
+-- Laws of a record that lies in the buffer.
+pub mod Records

@@ -1,0 +1,2 @@
+-- What the editions of a replay file ask of the engine.
+pub mod Editions

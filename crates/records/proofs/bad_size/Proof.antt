@@ -1,0 +1,20 @@
+use borrow.Author.Needs.{needs}
+use Rattle.records.proofs.bad_size.Statement.{statement}
+use Rattle.records.proofs.bad_size.Tie as tie
+use Rattle.records.proofs.bad_size.Reads as reads
+use Rattle.records.proofs.bad_size.Lts as lts
+
+enum-told : tie.Need-enum-told
+enum-told c = search needs
+
+enum-told-2 : tie.Need-enum-told-2
+enum-told-2 c = search needs
+
+returns : tie.Need-returns
+returns c = rw (c .enum-told .given .1)
+
+returns-2 : tie.Need-returns-2
+returns-2 c = rw (c .enum-told2 .given .1)
+
+pub bad-size-spec : {M : Type 1} → statement M
+bad-size-spec = tie.close (tie.spec enum-told enum-told-2 returns returns-2)

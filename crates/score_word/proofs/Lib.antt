@@ -1,0 +1,2 @@
+-- Bits that are no score's.
+pub mod Bits

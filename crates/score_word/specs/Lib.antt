@@ -1,0 +1,2 @@
+-- The bits of a score.
+pub mod ScoreWord

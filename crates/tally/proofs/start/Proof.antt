@@ -1,0 +1,16 @@
+use mathlib.Core.Path.{refl}
+use borrow.Author.Needs.{needs}
+use Rattle.tally.proofs.start.Statement.{statement}
+use Rattle.tally.proofs.start.Tie as tie
+use Rattle.tally.proofs.start.Reads as reads
+use Rattle.tally.proofs.start.Lts as lts
+use Rattle.tally.proofs.start_with.Reads as start-with-reads
+
+start-with-requires : tie.Need-start-with-requires
+start-with-requires c κs = search needs
+
+returns : tie.Need-returns
+returns c = λ held room. c .start-with .ensures _ held refl room
+
+pub start-spec : {M : Type 1} → statement M
+start-spec = tie.close (tie.spec start-with-requires returns)

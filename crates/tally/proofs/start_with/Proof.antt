@@ -1,0 +1,29 @@
+use mathlib.Core.Path.{_≡_, refl}
+use mathlib.Core.List.{List}
+use Prim.Native.Nat.{ℕ, _≤_}
+use native.Mathlib.Omega.{arith}
+use lib.ListN.{getD}
+use mir.Syntax.{w64}
+use mir.Val.{Fits}
+use borrow.Author.Needs.{elem-fits}
+use Rattle.tally.specs.Counts.{largest, position}
+use Rattle.tally.proofs.Files.{starts-by}
+use borrow.Author.Needs.{needs}
+use Rattle.tally.proofs.start_with.Statement.{statement}
+use Rattle.tally.proofs.start_with.Tie as tie
+use Rattle.tally.proofs.start_with.Reads as reads
+use Rattle.tally.proofs.start_with.Lts as lts
+use Rattle.records.proofs.start.Reads as start-reads
+
+-- a number of 64 bits
+small : (xs ys : List ℕ) (k : ℕ) → ys ≡ xs → Fits w64 (getD xs k 0) → getD ys k 0 ≤ largest
+small xs ys k is h = rw is (omega arith)
+
+start-requires : tie.Need-start-requires
+start-requires c κs = search needs
+
+returns : tie.Need-returns
+returns c = λ totals held is room. starts-by totals _ held (rw is (c .before .good .0 .1 .0 .1)) (λ count. small (c .before .args .counts) (totals .counts) (position count) is (elem-fits w64 w64 (c .before .args .counts) (c .before .good .0 .0) (position count) (c .before .good .0 .1 .1) tt)) refl (c .start .ensures) (rw is) room
+
+pub start-with-spec : {M : Type 1} → statement M
+start-with-spec = tie.close (tie.spec start-requires returns)

@@ -1,0 +1,59 @@
+-- "Each count equals the sum over the files of a definition, whatever order they come in, if none grows too large" (02, request 14).
+-- proofs/Order.antt proves `TallySums`.
+use mathlib.Core.Path.{_≡_}
+use mathlib.Core.Bool.{true}
+use mathlib.Core.List.{List, [], _∷_, _++_}
+use Prim.Native.Nat.{ℕ, zero, suc, _+_, _≤_}
+use lib.Dec.{eqb}
+use lib.ListN.{length}
+use Rattle.batch.specs.Batch.{verdictOf}
+use Rattle.model.specs.Calls.{completed}
+use Rattle.claims.specs.BatchSemantics.{completionStatusOf}
+use Rattle.records.specs.declared.Edition.{Edition}
+use Rattle.records.specs.Records.{Entry}
+use Rattle.lines.specs.Lines.{engineOpened, submitAndRun}
+use Rattle.lines.specs.Answered.{recordRefusal, ticketOfCount, acceptedFrom, submitAndRunAll}
+use Rattle.tally.specs.declared.Totals.{Totals}
+use Rattle.tally.specs.declared.Answer.{Answer}
+use Rattle.tally.specs.Counts.{Count, sumOver, batchOf, fileCount, largest}
+use Rattle.tally.specs.Tally.{totalOf, Adds}
+
+abbrev pub Files : Type 0
+Files = List (List ℕ)
+
+-- what the files add to a count
+abbrev pub filesCount : Count → Files → ℕ
+filesCount count files = sumOver (fileCount count) files
+
+-- the totals after these files, one after another, each added as the calls promise, and none refused
+pub data Tallied : Totals → Files → Totals → Type 0 where
+  none : {totals : Totals} → Tallied totals [] totals
+  more : {totals after : Totals} {file : List ℕ} {files : Files} {answer : Answer}
+      → Adds totals file answer → answer .refusal ≡ 0 → Tallied (answer .totals) files after → Tallied totals (file ∷ files) after
+
+-- the same files in another order
+pub data Permuted : Files → Files → Type 0 where
+  same : {files : Files} → Permuted files files
+  keep : {file : List ℕ} {files files′ : Files} → Permuted files files′ → Permuted (file ∷ files) (file ∷ files′)
+  swap : {one two : List ℕ} {files : Files} → Permuted (one ∷ two ∷ files) (two ∷ one ∷ files)
+  then : {files files′ files″ : Files} → Permuted files files′ → Permuted files′ files″ → Permuted files files″
+
+pub record TallySums : Type 0 where
+  -- each count equals the sum over the files
+  pub sums : (totals after : Totals) (files : Files) → Tallied totals files after → (count : Count) → totalOf count after ≡ totalOf count totals + filesCount count files
+  -- if none grows too large, no file is refused: not the first, and then none of the others
+  pub accepts : (totals : Totals) (file : List ℕ) (files : Files) (answer : Answer) → Adds totals file answer
+      → ((count : Count) → totalOf count totals + filesCount count (file ∷ files) ≤ largest)
+      → (answer .refusal ≡ 0) × ((count : Count) → totalOf count (answer .totals) + filesCount count files ≤ largest)
+  -- a file that is refused leaves the sum over the files before it
+  pub refuses : (totals : Totals) (file : List ℕ) (answer : Answer) → Adds totals file answer → answer .refusal ≡ 19 → answer .totals ≡ totals
+  -- whatever order they come in
+  pub order : (totals after after′ : Totals) (files files′ : Files) → Permuted files files′ → Tallied totals files after → Tallied totals files′ after′
+      → (count : Count) → totalOf count after ≡ totalOf count after′
+  -- two lots, tallied apart and added
+  pub lots : (files files′ : Files) (count : Count) → filesCount count (files ++ files′) ≡ filesCount count files + filesCount count files′
+  -- the batches that count are those that the engine runs: a record that is submitted and not refused is completed, with the number of drawn tasks
+  -- and the fault that are counted
+  pub runs : (edition : Edition) (ring memory : List ℕ) → length ring ≡ 32768 → length memory ≡ 65536 → (before : List Entry) (entry : Entry) → eqb (recordRefusal entry) 0 ≡ true
+      → submitAndRun entry (submitAndRunAll before (engineOpened edition ring memory)) .answer
+      ≡ completed (entry .client) (ticketOfCount (acceptedFrom 0 before)) (completionStatusOf (verdictOf (batchOf edition entry)))
