@@ -61,7 +61,7 @@ pub fn set_up(bytes: &mut [u8], ring: usize, memory: usize, common: usize, reset
     if bytes.len() != 272 {
         return 11;
     }
-    let reply = engine::set_up(ring, memory, common, reset);
+    let reply = clients::set_up(ring, memory, common, reset);
     let mut none: u32 = 0;
     tell(bytes, reply, &mut none)
 }
@@ -71,7 +71,7 @@ pub fn open(bytes: &mut [u8], start: u32, length: u32, client: &mut u32) -> u32
     ensures { λ r. ⌜ Opens (now (bytes .entry)) (record { start = start; length = length }) r (now (client .exit)) (now (bytes .exit)) ⌝ }
 {
     let engine = record_bytes::decode(bytes);
-    let reply = engine::open(engine, start, length);
+    let reply = clients::open(engine, start, length);
     tell(bytes, reply, client)
 }
 
@@ -80,7 +80,7 @@ pub fn submit(bytes: &mut [u8], ring: &mut [u8], client: u32, batch: &[u8], tick
     ensures { λ r. ⌜ Submits (now (bytes .entry)) (now (ring .entry)) client (now (batch .entry)) r (now (ticket .exit)) (now (bytes .exit)) (now (ring .exit)) ⌝ }
 {
     let engine = record_bytes::decode(bytes);
-    let reply = engine::submit(engine, ring, client, batch);
+    let reply = submission::submit(engine, ring, client, batch);
     tell(bytes, reply, ticket)
 }
 
@@ -89,7 +89,7 @@ pub fn begin(bytes: &mut [u8], ring: &[u8], client: u32, total: usize) -> u32
     ensures { λ r. ⌜ Begins (now (bytes .entry)) (now (ring .entry)) client total r (now (bytes .exit)) ⌝ }
 {
     let engine = record_bytes::decode(bytes);
-    let reply = engine::begin(engine, ring, client, total);
+    let reply = submission::begin(engine, ring, client, total);
     let mut none: u32 = 0;
     tell(bytes, reply, &mut none)
 }
@@ -105,7 +105,7 @@ pub fn piece(
     ensures { λ r. ⌜ HandsOver (now (bytes .entry)) (now (ring .entry)) client (now (piece .entry)) r (now (two .exit)) (now (bytes .exit)) (now (ring .exit)) ⌝ }
 {
     let engine = record_bytes::decode(bytes);
-    let reply = engine::piece(engine, ring, client, piece);
+    let reply = submission::piece(engine, ring, client, piece);
     tell_two(bytes, reply, two)
 }
 
@@ -114,7 +114,7 @@ pub fn cancel(bytes: &mut [u8], client: u32) -> u32
     ensures { λ r. ⌜ Cancels (now (bytes .entry)) client r (now (bytes .exit)) ⌝ }
 {
     let engine = record_bytes::decode(bytes);
-    let reply = engine::cancel(engine, client);
+    let reply = submission::cancel(engine, client);
     let mut none: u32 = 0;
     tell(bytes, reply, &mut none)
 }
@@ -124,7 +124,7 @@ pub fn close(bytes: &mut [u8], memory: &mut [u8], client: u32) -> u32
     ensures { λ r. ⌜ Closes (now (bytes .entry)) (now (memory .entry)) client r (now (bytes .exit)) (now (memory .exit)) ⌝ }
 {
     let engine = record_bytes::decode(bytes);
-    let reply = engine::close(engine, memory, client);
+    let reply = closing::close(engine, memory, client);
     let mut none: u32 = 0;
     tell(bytes, reply, &mut none)
 }
@@ -134,7 +134,7 @@ pub fn run(bytes: &mut [u8], ring: &[u8], memory: &mut [u8], five: &mut [u32; 5]
     ensures { λ r. ⌜ Runs (now (bytes .entry)) (now (ring .entry)) (now (memory .entry)) r (now (five .exit)) (now (bytes .exit)) (now (memory .exit)) ⌝ }
 {
     let engine = record_bytes::decode(bytes);
-    let ran = engine::run(engine, ring, memory);
+    let ran = run::run(engine, ring, memory);
     report(bytes, ran, five)
 }
 
@@ -143,7 +143,7 @@ pub fn pending(bytes: &[u8], client: u32, count: &mut u32) -> u32
     ensures { λ r. ⌜ Pends (now (bytes .entry)) client r (now (count .exit)) ⌝ }
 {
     let engine = record_bytes::decode(bytes);
-    let words = answers::answer_words(engine::pending(engine, client));
+    let words = answers::answer_words(clients::pending(engine, client));
     *count = words[1];
     words[0]
 }
