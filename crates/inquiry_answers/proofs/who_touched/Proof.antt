@@ -1,7 +1,7 @@
 use Rattle.inquiry.proofs.Answering.{touched-told}
 use borrow.Author.Needs.{needs}
-use Rattle.inquiry.proofs.who_touched.Statement.{statement}
-use Rattle.inquiry.proofs.who_touched.Tie as tie
+use Rattle.inquiry_answers.proofs.who_touched.Statement.{statement}
+use Rattle.inquiry_answers.proofs.who_touched.Tie as tie
 
 returns : tie.Need-returns
 returns c = λ seen held S. let a = c .before .before .args in rw (c .tell-touched .ensures) (touched-told (a .question) (a .inquiry) seen held S)

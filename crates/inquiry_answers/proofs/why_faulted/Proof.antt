@@ -1,7 +1,7 @@
 use Rattle.inquiry.proofs.Answering.{fault-told}
 use borrow.Author.Needs.{needs}
-use Rattle.inquiry.proofs.why_faulted.Statement.{statement}
-use Rattle.inquiry.proofs.why_faulted.Tie as tie
+use Rattle.inquiry_answers.proofs.why_faulted.Statement.{statement}
+use Rattle.inquiry_answers.proofs.why_faulted.Tie as tie
 
 returns : tie.Need-returns
 returns c = λ seen held S. let a = c .before .before .args in rw (c .tell-fault .ensures) (fault-told (a .question) (a .inquiry) seen held S)
