@@ -133,45 +133,45 @@ pub enum Progress {
 #[non_exhaustive]
 pub enum Fault {
     /// 20: header bit 1, 16 or 17 is set.
-    HeaderBits,
+    ReservedBits,
     /// 21: a group's length is 0, or reaches past the batch's end.
     GroupLength,
     /// 22: the last group does not end a task.
-    NoTaskEnd,
+    OpenTask,
     /// 23: the offset is not that of a writable register.
     NotWritable,
     /// 24: a bit or a code that the register does not allow.
-    NotAllowed,
+    Forbidden,
     /// 25: a surface's side or stride is wrong, or a surface that is needed is disabled.
     BadSurface,
     /// 26: sizes do not go together, or a turn where the source is no buffer.
-    BadSizes,
+    SizeMismatch,
     /// 27: a span not wholly in the client's window, or, for what is read, wholly in common.
-    OutOfReach,
+    OutOfBounds,
     /// 28: the output meets what is read.
-    Meets,
+    Overlap,
     /// A number that this version of the package has no name for.
     Other(u32),
 }
 
 /// Every fault that has a name, by its number.
 const FAULTS: [(u32, Fault); 9] = [
-    (20, Fault::HeaderBits),
+    (20, Fault::ReservedBits),
     (21, Fault::GroupLength),
-    (22, Fault::NoTaskEnd),
+    (22, Fault::OpenTask),
     (23, Fault::NotWritable),
-    (24, Fault::NotAllowed),
+    (24, Fault::Forbidden),
     (25, Fault::BadSurface),
-    (26, Fault::BadSizes),
-    (27, Fault::OutOfReach),
-    (28, Fault::Meets),
+    (26, Fault::SizeMismatch),
+    (27, Fault::OutOfBounds),
+    (28, Fault::Overlap),
 ];
 
 impl Fault {
     /// The number that the library returns.
     ///
     /// ```
-    /// assert_eq!(wenditsal::Fault::OutOfReach.number(), 27);
+    /// assert_eq!(wenditsal::Fault::OutOfBounds.number(), 27);
     /// ```
     pub fn number(self) -> u32 {
         match self {

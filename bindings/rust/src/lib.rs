@@ -27,7 +27,7 @@
 //! let outside = Task::fill(0x80FF_0000, Surface { address: 64, ..page }).encode()?;
 //! engine.submit(client, &outside)?;
 //! let done = engine.run()?;
-//! assert_eq!((done.fault, done.place), (Some(Fault::OutOfReach), 72));
+//! assert_eq!((done.fault, done.place), (Some(Fault::OutOfBounds), 72));
 //!
 //! // A refused call changes nothing.
 //! assert_eq!(engine.run(), Err(Refusal::NothingReady));

@@ -1,6 +1,8 @@
 -- Laws that this crate's proofs and those of the crates above cite.
--- the reading from a word on, by each way that the walk can go
+-- a step from a word on, by each way that the walk can go
 pub mod Ways
+-- what a step says of the reading
+pub mod Simulates
 -- a step of the walk, and the verdict
 pub mod Steps
 -- what holds of every reading

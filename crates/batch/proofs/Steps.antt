@@ -1,5 +1,5 @@
 -- A step of the walk, and the verdict.
-use Prim.Native.Nat.{ℕ, _+_, _*_, _<_, _≤_}
+use Prim.Native.Nat.{ℕ, _+_, _<_, _≤_}
 use mathlib.Core.Path.{_≡_, refl, ap, _∙_}
 use mathlib.Core.List.{List}
 use native.Mathlib.Omega.{arith}
@@ -9,24 +9,13 @@ use Rattle.register.specs.declared.bank.Bank.{Bank}
 use Rattle.register.specs.declared.task.Task.{Task}
 use Rattle.rules.specs.declared.fault.Fault.{Fault}
 use Rattle.rules.specs.declared.task.Bounds.{Bounds}
-use Rattle.rules.specs.declared.task.Check.{Check}
-use Rattle.rules.specs.declared.task.Check.the-variants.{Valid, Invalid}
 use Rattle.batch.specs.declared.walk.Step.{Step}
 use Rattle.batch.specs.declared.walk.Step.the-variants.{Task as Next, Faulty as Stop, End}
 use Rattle.batch.specs.declared.verdict.Judgement.{Judgement}
 use Rattle.batch.specs.declared.verdict.Verdict.the-variants.{Faultless, Faulty}
-use Rattle.batch.specs.Batch.{DecodedBatch, BatchEnd, finished, faulty, stopWith, consTask, afterTaskCheck, verdictAfter, verdictOf, validationOf}
-use Rattle.batch.specs.Walk.{decodeRest, stepAfterCheck, decodeAfterStep, StepAdvances, StepSimulates}
-
--- a task that was judged is the step that follows it
-pub judged-step : (bounds : Bounds) (ws : List ℕ) (check : Check) (b : Bank) (k head : ℕ)
-    → (first : Bank) → afterTaskCheck check b head (decodeRest bounds ws b k) ≡ decodeAfterStep bounds ws first (stepAfterCheck check b k (4 * head))
-judged-step bounds ws Valid b k head first = refl
-judged-step bounds ws (Invalid f) b k head first = refl
-
-pub judged-onward : (ws : List ℕ) (check : Check) (b : Bank) (k next offset : ℕ) → k < next → next ≤ length ws → StepAdvances k ws (stepAfterCheck check b next offset)
-judged-onward ws Valid b k next offset h l = (h, l)
-judged-onward ws (Invalid f) b k next offset h l = tt
+use Rattle.batch.specs.Batch.{DecodedBatch, BatchEnd, finished, faulty, stopWith, consTask, verdictAfter, verdictOf, validationOf}
+use Rattle.batch.specs.Walk.{decodeRest, decodeAfterStep, stepAt, StepSimulates}
+use Rattle.batch.proofs.Simulates.{simulates}
 
 -- the judgement of m tasks, where the reading ended like this
 abbrev told : ℕ → DecodedBatch → Judgement
@@ -43,7 +32,10 @@ counted-one : (n : ℕ) (t : Task) (r : DecodedBatch) → counted n (consTask t 
 counted-one n t r = ap (λ (m : ℕ). told m r) (omega arith)
 
 -- what a step says of the reading, by its case
-module _ (bounds : Bounds) (ws : List ℕ) (b : Bank) (k : ℕ) (s : Step) (go : StepSimulates bounds ws b k s) where
+module _ (bounds : Bounds) (ws : List ℕ) (b : Bank) (k : ℕ) (s : Step) (is : s ≡ stepAt bounds ws b k) where
+  go : StepSimulates bounds ws b k s
+  go = simulates bounds ws b k s is
+
   pub reads-task : (t : Task) (b′ : Bank) (k′ : ℕ) → s ≡ Next t b′ k′ → decodeRest bounds ws b k ≡ consTask t (decodeRest bounds ws b′ k′)
   reads-task t b′ k′ e = go .means ∙ ap (decodeAfterStep bounds ws b) e
 

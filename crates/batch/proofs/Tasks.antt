@@ -28,7 +28,8 @@ use Rattle.batch.specs.declared.walk.Step.the-variants.{Task as Next}
 use Rattle.batch.specs.declared.verdict.Verdict.the-variants.{Faultless}
 use Rattle.batch.specs.Batch.{DecodedBatch, BatchEnd, finished, faulty, stopWith, DecoderState, start, inside, badGroupLength, decodeHeader, afterTaskCheck, groupOf, decodeFrom, decodeBatch, verdictAfter, verdictOf, statusWordOf, tasksDrawn}
 use Rattle.batch.specs.Marks.{taskEndCountFrom, taskEndCount}
-use Rattle.batch.specs.Walk.{decodeAfterStep, StepSimulates}
+use Rattle.batch.specs.Walk.{decodeAfterStep, stepAt}
+use Rattle.batch.proofs.Simulates.{simulates}
 use Rattle.batch.proofs.Ways.{words-fit}
 use Rattle.batch.proofs.Steps.{faultless-finished}
 use Rattle.batch.proofs.Readings.{onFrom, onWith, opened-all, wrote-all, judged-all}
@@ -63,8 +64,8 @@ module _ (bounds : Bounds) where
   drawn-sound bank ws = good-from bank 0 start ws
 
   -- and so is the task that a step hands out
-  pub step-sound : (ws : List ℕ) (b : Bank) (k : ℕ) (s : Step) → StepSimulates bounds ws b k s → (t : Task) (b′ : Bank) (k′ : ℕ) → s ≡ Next t b′ k′ → Sound bounds t
-  step-sound ws b k s go t b′ k′ e = (rw (go .means ∙ ap (decodeAfterStep bounds ws b) e) at (good-from b k start (drop k ws))) .0
+  pub step-sound : (ws : List ℕ) (b : Bank) (k : ℕ) (s : Step) → s ≡ stepAt bounds ws b k → (t : Task) (b′ : Bank) (k′ : ℕ) → s ≡ Next t b′ k′ → Sound bounds t
+  step-sound ws b k s is t b′ k′ e = (rw (simulates bounds ws b k s is .means ∙ ap (decodeAfterStep bounds ws b) e) at (good-from b k start (drop k ws))) .0
 
 -- ---- at most half as many tasks as words
 

@@ -1,4 +1,4 @@
--- The reading from word k on: a law for each way that the walk can go.
+-- A step from word k on: a law for each way that the walk can go.
 use Prim.Native.Nat.{ℕ, zero, suc, _+_, _-_, _*_, _<_, _≤_}
 use mathlib.Core.Path.{_≡_, refl, sym, ap, _∙_}
 use mathlib.Core.Logic.{⊎-elim}
@@ -24,8 +24,9 @@ use Rattle.rules.specs.declared.fault.Fault.the-variants.{ReservedBits, GroupLe
 use Rattle.rules.specs.declared.task.Bounds.{Bounds}
 use Rattle.rules.specs.Faults.{writeFault}
 use Rattle.rules.specs.Rules.{checkTask}
-use Rattle.batch.specs.Batch.{finished, faulty, stopWith, start, inside, reservedBits, badGroupLength, decodeHeader, afterWrite, afterTaskCheck, groupOf, decodeFrom}
-use Rattle.batch.specs.Walk.{decodeRest}
+use Rattle.batch.specs.declared.walk.Step.the-variants.{Faulty as Stop, End}
+use Rattle.batch.specs.Batch.{inside, reservedBits, badGroupLength, groupOf}
+use Rattle.batch.specs.Walk.{stepAfterCheck, stepHeader, stepWrite, stepFrom, stepAt}
 
 -- the words of a batch are no more than its bytes
 pub words-fit : (ring : List ℕ) (offset size : ℕ) → 4 * length (batchWords ring offset size) ≤ size
@@ -44,62 +45,62 @@ word-past ws k e =
     ⊎-elim (λ (h : k < length ws). cc (read-in ws k h)) (λ (h : length ws ≤ k). sym (List·getD-eq-default ws 0 h)) (split k (length ws))
 
 -- `drop-cons` at the code's k + 1
-drop-at : (ws : List ℕ) (k : ℕ) → k < length ws → drop k ws ≡ getD ws k 0 ∷ drop (k + 1) ws
+pub drop-at : (ws : List ℕ) (k : ℕ) → k < length ws → drop k ws ≡ getD ws k 0 ∷ drop (k + 1) ws
 drop-at ws k h = rw (add-one, drop-cons ws k 0)
 
 module _ (bounds : Bounds) (ws : List ℕ) (b : Bank) (k : ℕ) where
-  pub past : length ws ≤ k → decodeRest bounds ws b k ≡ stopWith b finished
-  unfolding decodeFrom
+  pub past : length ws ≤ k → stepAt bounds ws b k ≡ End
+  unfolding stepFrom
   past h = rw (drop-of-length-le ws h)
 
-  header : k < length ws → decodeRest bounds ws b k ≡ decodeHeader b k (getD ws k 0) (length ws - (k + 1)) (λ p. decodeFrom bounds b (k + 1) p (drop (k + 1) ws))
-  unfolding decodeFrom
+  header : k < length ws → stepAt bounds ws b k ≡ stepHeader b k (getD ws k 0) (length ws - (k + 1)) (λ p. stepFrom bounds b (k + 1) p (drop (k + 1) ws))
+  unfolding stepFrom
   header h = rw (drop-at ws k h, length-drop)
 
   -- a group that does not end the task is followed by the next header, or by nothing
-  pub next-group : (offset head : ℕ) → k < length ws → decodeFrom bounds b k (inside zero offset false head) (drop k ws) ≡ decodeRest bounds ws b k
-  unfolding decodeFrom
+  pub next-group : (offset head : ℕ) → k < length ws → stepFrom bounds b k (inside zero offset false head) (drop k ws) ≡ stepAt bounds ws b k
+  unfolding stepFrom
   next-group offset head h = rw (drop-at ws k h)
 
-  pub open-task : (offset head : ℕ) → length ws ≤ k → decodeFrom bounds b k (inside zero offset false head) (drop k ws) ≡ stopWith b (faulty OpenTask (4 * head))
-  unfolding decodeFrom
+  pub open-task : (offset head : ℕ) → length ws ≤ k → stepFrom bounds b k (inside zero offset false head) (drop k ws) ≡ Stop OpenTask (4 * head) b
+  unfolding stepFrom
   open-task offset head h = rw (drop-of-length-le ws h)
 
   word : (n offset : ℕ) (ends : Bool) (head : ℕ) → k < length ws
-      → decodeFrom bounds b k (inside (suc n) offset ends head) (drop k ws)
-      ≡ afterWrite b k (writeRegister b offset (getD ws k 0)) (λ next. decodeFrom bounds next (k + 1) (inside n (offset + 4) ends head) (drop (k + 1) ws))
-  unfolding decodeFrom
+      → stepFrom bounds b k (inside (suc n) offset ends head) (drop k ws)
+      ≡ stepWrite b k (writeRegister b offset (getD ws k 0)) (λ next. stepFrom bounds next (k + 1) (inside n (offset + 4) ends head) (drop (k + 1) ws))
+  unfolding stepFrom
   word n offset ends head h = rw (drop-at ws k h)
 
 -- a group that ends the task
 ended-at : (bounds : Bounds) (ws : List ℕ) (b : Bank) (k offset head : ℕ)
-    → decodeFrom bounds b k (inside zero offset true head) ws ≡ afterTaskCheck (checkTask bounds (taskOf b)) b head (decodeFrom bounds b k start ws)
-unfolding decodeFrom
+    → stepFrom bounds b k (inside zero offset true head) ws ≡ stepAfterCheck (checkTask bounds (taskOf b)) b k (4 * head)
+unfolding stepFrom
 ended-at bounds [] b k offset head = refl
 ended-at bounds (w ∷ ws) b k offset head = refl
 
 pub ended : (bounds : Bounds) (ws : List ℕ) (b : Bank) (k offset head : ℕ)
-    → decodeFrom bounds b k (inside zero offset true head) (drop k ws) ≡ afterTaskCheck (checkTask bounds (taskOf b)) b head (decodeRest bounds ws b k)
+    → stepFrom bounds b k (inside zero offset true head) (drop k ws) ≡ stepAfterCheck (checkTask bounds (taskOf b)) b k (4 * head)
 ended bounds ws b k offset head = ended-at bounds (drop k ws) b k offset head
 
 -- where the word at k is w
 module _ (bounds : Bounds) (ws : List ℕ) (b : Bank) (k w : ℕ) (within : k < length ws) (is : w ≡ getD ws k 0) where
-  pub reserved : reservedBits w ≡ true → decodeRest bounds ws b k ≡ stopWith b (faulty ReservedBits (4 * k))
+  pub reserved : reservedBits w ≡ true → stepAt bounds ws b k ≡ Stop ReservedBits (4 * k) b
   reserved e = header bounds ws b k within ∙ rw (← is) (simp e)
 
-  pub bad-length : reservedBits w ≡ false → badGroupLength (field 15 2 w) (length ws - (k + 1)) ≡ true → decodeRest bounds ws b k ≡ stopWith b (faulty GroupLength (4 * k))
+  pub bad-length : reservedBits w ≡ false → badGroupLength (field 15 2 w) (length ws - (k + 1)) ≡ true → stepAt bounds ws b k ≡ Stop GroupLength (4 * k) b
   bad-length e l = header bounds ws b k within ∙ rw (← is) (simp (e, l))
 
   pub open-group : reservedBits w ≡ false → badGroupLength (field 15 2 w) (length ws - (k + 1)) ≡ false
-      → decodeRest bounds ws b k ≡ decodeFrom bounds b (k + 1) (groupOf k w) (drop (k + 1) ws)
+      → stepAt bounds ws b k ≡ stepFrom bounds b (k + 1) (groupOf k w) (drop (k + 1) ws)
   open-group e l = header bounds ws b k within ∙ rw (← is) (simp (e, l))
 
   pub refused : (left offset : ℕ) (ends : Bool) (head : ℕ) (f : WriteFault) → 0 < left → writeRegister b offset w ≡ Refused f
-      → decodeFrom bounds b k (inside left offset ends head) (drop k ws) ≡ stopWith b (faulty (writeFault f) (4 * k))
+      → stepFrom bounds b k (inside left offset ends head) (drop k ws) ≡ Stop (writeFault f) (4 * k) b
   refused zero offset ends head f z e = absurd (omega arith)
   refused (suc n) offset ends head f z e = word bounds ws b k n offset ends head within ∙ rw (← is, e)
 
   pub taken : (left offset : ℕ) (ends : Bool) (head : ℕ) (next : Bank) → 0 < left → writeRegister b offset w ≡ Taken next
-      → decodeFrom bounds b k (inside left offset ends head) (drop k ws) ≡ decodeFrom bounds next (k + 1) (inside (left - 1) (offset + 4) ends head) (drop (k + 1) ws)
+      → stepFrom bounds b k (inside left offset ends head) (drop k ws) ≡ stepFrom bounds next (k + 1) (inside (left - 1) (offset + 4) ends head) (drop (k + 1) ws)
   taken zero offset ends head next z e = absurd (omega arith)
   taken (suc n) offset ends head next z e = word bounds ws b k n offset ends head within ∙ rw (← is, e, sub-one)

@@ -1,26 +1,67 @@
--- Internal: a batch read a task at a time: what one step says of the whole reading. A caller that takes step after step, from bank to bank
--- and position to position, meets the tasks of `decodeBatch` in order, and then its ending.
-use Prim.Native.Nat.{ℕ, _<_, _≤_}
+-- Internal: a batch read a task at a time: one step of the reading (`stepAt`, the contract of `batch::next_task`), and what it says of the whole
+-- (`StepSimulates`, which holds of every step: proofs/Simulates). A caller that takes step after step, from bank to bank and position to position, meets
+-- the tasks of `decodeBatch` in order, and then its ending.
+use Prim.Native.Nat.{ℕ, zero, suc, _+_, _*_, _<_, _≤_}
 use mathlib.Core.Path.{_≡_}
-use mathlib.Core.List.{List}
+use mathlib.Core.Bool.{true, false, cond}
+use mathlib.Core.List.{List, [], _∷_}
 use lib.ListN.{length, drop}
+use Rattle.word.specs.Field.{field}
+use Rattle.register.specs.Bank.{writeRegister}
 use Rattle.register.specs.Task.{taskOf}
 use Rattle.register.specs.declared.bank.Bank.{Bank}
+use Rattle.register.specs.declared.bank.Write.{Write}
+use Rattle.register.specs.declared.bank.Write.the-variants.{Bank as Taken, Refused}
+use Rattle.rules.specs.declared.fault.Fault.the-variants.{ReservedBits, GroupLength, OpenTask}
 use Rattle.rules.specs.declared.task.Bounds.{Bounds}
 use Rattle.rules.specs.declared.task.Check.{Check}
 use Rattle.rules.specs.declared.task.Check.the-variants.{Valid, Invalid}
 use Rattle.batch.specs.declared.walk.Step.{Step}
 use Rattle.batch.specs.declared.walk.Step.the-variants.{Task, Faulty, End}
-use Rattle.batch.specs.Batch.{DecodedBatch, finished, faulty, stopWith, consTask, start, decodeFrom}
+use Rattle.rules.specs.Faults.{writeFault}
+use Rattle.rules.specs.Rules.{checkTask}
+use Rattle.batch.specs.Batch.{DecodedBatch, finished, faulty, stopWith, consTask, DecoderState, start, inside, reservedBits, badGroupLength, groupOf, decodeFrom}
 
--- the reading of a batch of these words from word k on, k where a task may begin
-abbrev pub decodeRest : Bounds → List ℕ → Bank → ℕ → DecodedBatch
-decodeRest bounds words bank k = decodeFrom bounds bank k start (drop k words)
+-- ---- one step: the reading (specs/Batch) up to the end of a task, the batch's end or a fault
 
 -- the step at the end of a task that was judged: the word after it is word `next`, a fault of it has this offset
 abbrev pub stepAfterCheck : Check → Bank → ℕ → ℕ → Step
 stepAfterCheck Valid bank next offset = Task (taskOf bank) bank next
 stepAfterCheck (Invalid f) bank next offset = Faulty f offset bank
+
+-- word k is a header, and `follow` words follow it
+abbrev pub stepHeader : Bank → ℕ → ℕ → ℕ → (DecoderState → Step) → Step
+stepHeader bank k header follow go =
+    cond (reservedBits header) (Faulty ReservedBits (4 * k) bank)
+    (cond (badGroupLength (field 15 2 header) follow) (Faulty GroupLength (4 * k) bank)
+    (go (groupOf k header)))
+
+-- word k is written
+abbrev pub stepWrite : Bank → ℕ → Write → (Bank → Step) → Step
+stepWrite bank k (Taken next) go = go next
+stepWrite bank k (Refused f) go = Faulty (writeFault f) (4 * k) bank
+
+-- the words from word k on
+unfoldable pub stepFrom : Bounds → Bank → ℕ → DecoderState → List ℕ → Step
+stepFrom bounds bank k start [] = End
+stepFrom bounds bank k start (h ∷ ws) = stepHeader bank k h (length ws) (λ position. stepFrom bounds bank (k + 1) position ws)
+stepFrom bounds bank k (inside (suc n) offset ends head) [] = Faulty GroupLength (4 * head) bank
+stepFrom bounds bank k (inside (suc n) offset ends head) (w ∷ ws) =
+    stepWrite bank k (writeRegister bank offset w) (λ next. stepFrom bounds next (k + 1) (inside n (offset + 4) ends head) ws)
+stepFrom bounds bank k (inside zero offset false head) [] = Faulty OpenTask (4 * head) bank
+stepFrom bounds bank k (inside zero offset false head) (h ∷ ws) = stepHeader bank k h (length ws) (λ position. stepFrom bounds bank (k + 1) position ws)
+stepFrom bounds bank k (inside zero offset true head) [] = stepAfterCheck (checkTask bounds (taskOf bank)) bank k (4 * head)
+stepFrom bounds bank k (inside zero offset true head) (h ∷ ws) = stepAfterCheck (checkTask bounds (taskOf bank)) bank k (4 * head)
+
+-- of a batch of these words, from this bank and word k on, k where a task may begin
+abbrev pub stepAt : Bounds → List ℕ → Bank → ℕ → Step
+stepAt bounds words bank k = stepFrom bounds bank k start (drop k words)
+
+-- ---- what it says of the whole
+
+-- the reading of a batch of these words from word k on, k where a task may begin
+abbrev pub decodeRest : Bounds → List ℕ → Bank → ℕ → DecodedBatch
+decodeRest bounds words bank k = decodeFrom bounds bank k start (drop k words)
 
 -- what a step from this bank on says of the reading
 abbrev pub decodeAfterStep : Bounds → List ℕ → Bank → Step → DecodedBatch

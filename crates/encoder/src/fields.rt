@@ -3,7 +3,7 @@ ghost use mathlib.Core.Path.{_≡_};
 ghost use mathlib.Core.Bool.{true};
 ghost use Rattle.encoder.specs.Fields.{surfaceAllowed, alphaAllowed, transformAllowed, sourceAllowed, destinationAllowed, blendingAllowed, stepsAllowed, allowed};
 ghost use Rattle.encoder.specs.Registers.{surfaceRegisters, alphaBits, transformBits, sourceControl, destinationControl, blendingWord, bankOf};
-ghost use Rattle.encoder.specs.Solid.{resetBlending, resetFields, solidFields};
+ghost use Rattle.encoder.specs.Solid.{resetBlending, solidFields};
 use gradient::Steps;
 use pixel::AlphaMode;
 use pixel::Factor;
@@ -143,14 +143,6 @@ impl TransformFields {
 }
 
 impl SourceFields {
-    pub const RESET: SourceFields = SourceFields {
-        surface: SurfaceFields::RESET,
-        alpha: AlphaFields::RESET,
-        transform: TransformFields::RESET,
-        mode: 0,
-        enable: 0,
-    };
-
     fn is_allowed(self) -> bool
         ensures { λ r. ⌜ r ≡ sourceAllowed self ⌝ }
     {
@@ -253,19 +245,6 @@ pub(crate) fn steps_allowed(steps: Steps) -> bool
 }
 
 impl Fields {
-    // The fields of a bank at reset.
-    pub fn reset(rule: ResetRule) -> Fields
-        ensures { λ r. ⌜ r ≡ resetFields rule ⌝ }
-    {
-        Fields {
-            source: SourceFields::RESET,
-            destination: DestinationFields::RESET,
-            output: SurfaceFields::RESET,
-            colour: 0,
-            blending: BlendingFields::reset(rule),
-        }
-    }
-
     // A rectangle of one colour in ARGB8888, all else at reset.
     pub fn solid(
         rule: ResetRule,

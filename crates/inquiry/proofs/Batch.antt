@@ -17,7 +17,7 @@ use Rattle.batch.specs.declared.walk.Step.the-variants.{Task as Next, Faulty as
 use Rattle.batch.specs.declared.verdict.Judgement.{Judgement}
 use Rattle.batch.specs.declared.verdict.Verdict.the-variants.{Faultless, Faulty}
 use Rattle.batch.specs.Batch.{BatchEnd, finished, faulty, DecodedBatch, consTask, tasksDrawn, verdictAfter, validationOf}
-use Rattle.batch.specs.Walk.{decodeRest, StepSimulates}
+use Rattle.batch.specs.Walk.{decodeRest, stepAt}
 use Rattle.batch.proofs.Steps.{reads-task, reads-fault, reads-end}
 use Rattle.provenance.specs.declared.Group.{Group}
 use Rattle.provenance.specs.declared.Touched.{Touched}
@@ -42,19 +42,19 @@ module _ (i ticket : ℕ) where
   unfolding lastFrom numbered
   one-more number last t r = refl
 
-  module _ (bounds : Bounds) (ws : List ℕ) (b : Bank) (k : ℕ) (s : Step) (go : StepSimulates bounds ws b k s) (number : ℕ) (last : Touched) where
+  module _ (bounds : Bounds) (ws : List ℕ) (b : Bank) (k : ℕ) (s : Step) (is : s ≡ stepAt bounds ws b k) (number : ℕ) (last : Touched) where
     pub rest-task : (t : Task) (b′ : Bank) (k′ : ℕ) → s ≡ Next t b′ k′
         → restFrom number last (decodeRest bounds ws b k) ≡ restFrom (number + 1) (after number last t) (decodeRest bounds ws b′ k′)
     rest-task t b′ k′ e =
-        ap (restFrom number last) (reads-task bounds ws b k s go t b′ k′ e) ∙ one-more number last t (decodeRest bounds ws b′ k′)
+        ap (restFrom number last) (reads-task bounds ws b k s is t b′ k′ e) ∙ one-more number last t (decodeRest bounds ws b′ k′)
 
     pub rest-fault : (f : Fault) (place : ℕ) (b′ : Bank) → s ≡ Stop f place b′ → restFrom number last (decodeRest bounds ws b k) ≡ last
     unfolding lastFrom numbered
-    rest-fault f place b′ e = ap (restFrom number last) (reads-fault bounds ws b k s go f place b′ e)
+    rest-fault f place b′ e = ap (restFrom number last) (reads-fault bounds ws b k s is f place b′ e)
 
     pub rest-end : s ≡ End → restFrom number last (decodeRest bounds ws b k) ≡ last
     unfolding lastFrom numbered
-    rest-end e = ap (restFrom number last) (reads-end bounds ws b k s go e)
+    rest-end e = ap (restFrom number last) (reads-end bounds ws b k s is e)
 
 -- ---- the register of a word
 

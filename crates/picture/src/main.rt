@@ -74,7 +74,8 @@ fn main() {
         return;
     };
     let mut memory = io::large_buffer();
-    if replay_io::replay_argument(Edition::First, 1, &mut memory, false, false) {
+    let came = replay_io::replay_argument(Edition::First, 1, &mut memory, false, false);
+    if came.well {
         write_picture(&memory, s);
     }
 }

@@ -9,14 +9,15 @@ use Rattle.rules.specs.declared.task.Bounds.{Bounds}
 use Rattle.batch.specs.declared.walk.Step.{Step}
 use Rattle.batch.specs.declared.walk.Step.the-variants.{Task as Next, Faulty as Stop, End}
 use Rattle.batch.specs.Batch.{DecodedBatch, decodeBatch, tasksDrawn}
-use Rattle.batch.specs.Walk.{decodeRest, decodeAfterStep, StepSimulates}
+use Rattle.batch.specs.Walk.{decodeRest, decodeAfterStep, stepAt}
+use Rattle.batch.proofs.Simulates.{simulates}
 use Rattle.raster.specs.Task.{drawTask, drawTasks}
 use Rattle.raster.specs.Batch.{drawBatch}
 
 -- what is left to draw, before a step and after it
-module _ (bounds : Bounds) (ws : List ℕ) (b : Bank) (k : ℕ) (s : Step) (go : StepSimulates bounds ws b k s) (memory : List ℕ) where
+module _ (bounds : Bounds) (ws : List ℕ) (b : Bank) (k : ℕ) (s : Step) (is : s ≡ stepAt bounds ws b k) (memory : List ℕ) where
   reads : (s′ : Step) → s ≡ s′ → drawTasks (decodeRest bounds ws b k .tasks) memory ≡ drawTasks (decodeAfterStep bounds ws b s′ .tasks) memory
-  reads s′ e = ap (λ (r : DecodedBatch). drawTasks (r .tasks) memory) (go .means ∙ ap (decodeAfterStep bounds ws b) e)
+  reads s′ e = ap (λ (r : DecodedBatch). drawTasks (r .tasks) memory) (simulates bounds ws b k s is .means ∙ ap (decodeAfterStep bounds ws b) e)
 
   pub step-draws : (t : Task) (b′ : Bank) (k′ : ℕ) → s ≡ Next t b′ k′ →
       drawTasks (decodeRest bounds ws b k .tasks) memory ≡ drawTasks (decodeRest bounds ws b′ k′ .tasks) (drawTask t memory)

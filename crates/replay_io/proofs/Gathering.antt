@@ -16,7 +16,7 @@ use Rattle.replay.proofs.Chunking.{chunking}
 -- ---- the buffers
 
 -- what is used behind what was used before
-take-behind : (xs : List ℕ) (used n k : ℕ) → n ≡ length xs - used → take used xs ++ take k (midOf used n xs) ≡ take (used + k) xs
+pub take-behind : (xs : List ℕ) (used n k : ℕ) → n ≡ length xs - used → take used xs ++ take k (midOf used n xs) ≡ take (used + k) xs
 take-behind xs used n k all =
     let rest : midOf used n xs ≡ drop used xs = take-all n (drop used xs) (omega (arith, length-drop used xs)) in
     ap (λ (ys : List ℕ). take used xs ++ take k ys) rest ∙ sym (take-add used k xs)

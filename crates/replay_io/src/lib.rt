@@ -1,9 +1,18 @@
 // Replay files of either edition read from a descriptor and replayed, and their lines written to standard output. No contract can say
-// which bytes are read or written; that the memory is what some bytes make of it is proved.
+// which bytes the system reads, or what it does with those that it is to write; that the memory is what some bytes make of it is proved,
+// and how many bytes were handed over to be written: as many as the lines of those bytes have.
+ghost use mathlib.Core.Path.{_≡_};
+ghost use mathlib.Core.Bool.{true, false, cond};
+ghost use mathlib.Core.List.{List};
+ghost use Prim.Native.Nat.{ℕ};
+ghost use lib.ListN.{length};
+ghost use lib.Dec.{leb};
 ghost use Rattle.claims.specs.Engine.{State};
 ghost use Rattle.records.specs.declared.Edition.{Edition};
+ghost use Rattle.replay.specs.Chunking.{Stands};
 ghost use Rattle.replay_io.specs.Gather.{FeedLinesContract};
-ghost use Rattle.replay_io.specs.Reached.{Reached, Replayed};
+ghost use Rattle.replay_io.specs.Reached.{handedOf, PieceFed, Reached, Finishes, Replayed};
+use command::Printed;
 use records::Edition;
 use replay::Fed;
 use replay::Replay;
@@ -11,9 +20,11 @@ use replay::Replay;
 // The longest line has room in so many bytes.
 const LINE: usize = 128;
 
-// A replay under way: whether there may be more to read, and whether nothing has failed so far.
+// A replay under way: how many bytes were handed to the system to write (modulo 2 to the 64th), whether there may be more to read,
+// and whether nothing has failed so far.
 struct Progress {
     replay: Replay,
+    handed: u64,
     more: bool,
     well: bool,
 }
@@ -61,13 +72,17 @@ fn feed_lines(
     }
 }
 
-// Prints the first n bytes of `out`, if lines are to be shown. Answers whether nothing failed.
-fn show(shows: bool, out: &[u8], n: usize) -> bool {
-    if !shows {
-        return true;
+// Prints the first n bytes of `out`, if lines are to be shown.
+fn show(shows: bool, out: &[u8], n: usize) -> Printed
+    ensures { λ r. ⌜ r .size ≡ cond shows (cond (leb n (length (now (out .entry)))) n 0) 0 ⌝ }
+{
+    if shows {
+        return command::print(out, n);
     }
-    let printed = command::print(out, n);
-    printed.well
+    Printed {
+        size: 0,
+        well: true,
+    }
 }
 
 // Feeds a piece of the file, whole.
@@ -77,15 +92,19 @@ fn feed_piece(
     ring: &mut [u8],
     memory: &mut [u8],
     piece: &[u8],
+    handed: u64,
     shows: bool,
     slow: bool,
 ) -> Progress
-    ensures { λ r. ⌜ ((edition : Edition) (engine : State) → Reached edition engine replay (now (held .entry)) (now (ring .entry)) (now (memory .entry))
-        → Reached edition engine (r .replay) (now (held .exit)) (now (ring .exit)) (now (memory .exit))) ⌝ }
+    ensures { λ r. ⌜ ((engine : State) (seen text : List ℕ) → Stands engine seen text replay (now (held .entry)) (now (ring .entry)) (now (memory .entry))
+        → handed ≡ handedOf shows text
+        → PieceFed (replay .edition) engine seen text (now (piece .entry)) shows (r .replay) (r .handed) (r .well)
+        (now (held .exit)) (now (ring .exit)) (now (memory .exit))) ⌝ }
 {
     let mut out = io::large_buffer();
     let mut now = replay;
     let mut used = 0;
+    let mut sum = handed;
     let mut well = true;
     while (used < piece.len()) & well {
         let fed = feed_lines(now, held, ring, memory, &piece[used..], &mut out, slow);
@@ -93,7 +112,9 @@ fn feed_piece(
         let count = fed.used;
         now = after;
         used += count;
-        well = show(shows, &out, fed.written);
+        let printed = show(shows, &out, fed.written);
+        sum = std::num::wrapping_add_u64(sum, printed.size as u64);
+        well = printed.well;
         // It happens only where a buffer is too short.
         if count == 0 {
             well = false;
@@ -102,6 +123,7 @@ fn feed_piece(
     }
     Progress {
         replay: now,
+        handed: sum,
         more: well,
         well,
     }
@@ -115,22 +137,33 @@ fn read_some(
     held: &mut [u8],
     ring: &mut [u8],
     memory: &mut [u8],
+    handed: u64,
     shows: bool,
     slow: bool,
 ) -> Progress
-    ensures { λ r. ⌜ ((edition : Edition) (engine : State) → Reached edition engine replay (now (held .entry)) (now (ring .entry)) (now (memory .entry))
-        → Reached edition engine (r .replay) (now (held .exit)) (now (ring .exit)) (now (memory .exit))) ⌝ }
+    ensures { λ r. ⌜ ((edition : Edition) (engine : State) → Reached edition engine shows handed replay (now (held .entry)) (now (ring .entry)) (now (memory .entry))
+        → Reached edition engine shows (r .handed) (r .replay) (now (held .exit)) (now (ring .exit)) (now (memory .exit))) ⌝ }
 {
     let mut piece = io::large_buffer();
     let got = command::read_piece(fd, name, &mut piece);
     if got.count == 0 {
         return Progress {
             replay,
+            handed,
             more: false,
             well: got.well,
         };
     }
-    feed_piece(replay, held, ring, memory, &piece[..got.count], shows, slow)
+    feed_piece(
+        replay,
+        held,
+        ring,
+        memory,
+        &piece[..got.count],
+        handed,
+        shows,
+        slow,
+    )
 }
 
 // A proved loop has to end, and nothing says that a file does. So the turns are counted down, from a number that no run uses up.
@@ -144,11 +177,12 @@ fn read_all(
     shows: bool,
     slow: bool,
 ) -> Progress
-    ensures { λ r. ⌜ ((edition : Edition) (engine : State) → Reached edition engine replay (now (held .entry)) (now (ring .entry)) (now (memory .entry))
-        → Reached edition engine (r .replay) (now (held .exit)) (now (ring .exit)) (now (memory .exit))) ⌝ }
+    ensures { λ r. ⌜ ((edition : Edition) (engine : State) → Reached edition engine shows 0 replay (now (held .entry)) (now (ring .entry)) (now (memory .entry))
+        → Reached edition engine shows (r .handed) (r .replay) (now (held .exit)) (now (ring .exit)) (now (memory .exit))) ⌝ }
 {
     let mut progress = Progress {
         replay,
+        handed: 0,
         more: true,
         well: true,
     };
@@ -156,22 +190,30 @@ fn read_all(
     let mut more = true;
     while turns > 0 && more {
         let so_far = progress.replay;
-        progress = read_some(fd, name, so_far, held, ring, memory, shows, slow);
+        let handed = progress.handed;
+        progress = read_some(fd, name, so_far, held, ring, memory, handed, shows, slow);
         more = progress.more;
         turns -= 1;
     }
     progress
 }
 
-// The end of the file: its last line, if it has one.
-fn finish(replay: Replay, shows: bool) -> bool {
-    let mut line = [0u8; LINE];
-    let n = replay::finish(replay, &mut line);
-    show(shows, &line, n)
+// The end of the file: its last line, if it has one, printed into a lent line and shown or not.
+fn finish(replay: Replay, line: &mut [u8], shows: bool) -> Printed
+    ensures { λ r. ⌜ Finishes replay shows (now (line .entry)) (r .size) (now (line .exit)) ⌝ }
+{
+    let n = replay::finish(replay, line);
+    show(shows, line, n)
 }
 
-// Replays what a descriptor reads, to its end, in memory, which is to be 65,536 zero bytes. Shows the lines or not, by the
-// slow engine or by the fast one. Answers whether nothing failed; what did fail is reported on standard error.
+// What a replay came to: how many bytes were handed to the system to write (modulo 2 to the 64th), and whether nothing failed.
+pub struct Replaying {
+    pub handed: u64,
+    pub well: bool,
+}
+
+// Replays what a descriptor reads, to its end, in memory, which is to be 65,536 zero bytes. Shows the lines or not, by the slow engine
+// or by the fast one. What failed is reported on standard error.
 pub fn replay_from(
     edition: Edition,
     fd: i32,
@@ -179,8 +221,8 @@ pub fn replay_from(
     memory: &mut [u8],
     shows: bool,
     slow: bool,
-) -> bool
-    ensures { λ _. ⌜ Replayed edition (now (memory .entry)) (now (memory .exit)) ⌝ }
+) -> Replaying
+    ensures { λ r. ⌜ Replayed edition (now (memory .entry)) shows (r .handed) (r .well) (now (memory .exit)) ⌝ }
 {
     // The longest record of either edition has room.
     let mut held = [0u8; 32777];
@@ -189,9 +231,17 @@ pub fn replay_from(
     let done = read_all(fd, name, start, &mut held, &mut ring, memory, shows, slow);
     let replay = done.replay;
     if !done.well {
-        return false;
+        return Replaying {
+            handed: done.handed,
+            well: false,
+        };
     }
-    finish(replay, shows)
+    let mut line = [0u8; LINE];
+    let last = finish(replay, &mut line, shows);
+    Replaying {
+        handed: std::num::wrapping_add_u64(done.handed, last.size as u64),
+        well: last.well,
+    }
 }
 
 // The same, of the file that an argument of the program names.
@@ -201,18 +251,21 @@ pub fn replay_argument(
     memory: &mut [u8],
     shows: bool,
     slow: bool,
-) -> bool
-    ensures { λ _. ⌜ Replayed edition (now (memory .entry)) (now (memory .exit)) ⌝ }
+) -> Replaying
+    ensures { λ r. ⌜ Replayed edition (now (memory .entry)) shows (r .handed) (r .well) (now (memory .exit)) ⌝ }
 {
     let mut path = io::buffer();
     let opened = command::open_argument(index, &mut path);
     let fd = opened.fd;
     if fd < 0 {
-        return false;
+        return Replaying {
+            handed: 0,
+            well: false,
+        };
     }
-    let well = replay_from(edition, fd, &path[..opened.length], memory, shows, slow);
+    let came = replay_from(edition, fd, &path[..opened.length], memory, shows, slow);
     libc::close(fd);
-    well
+    came
 }
 
 // ---- the programs

@@ -18,7 +18,7 @@ faultNumber NotWritable = 23
 faultNumber Forbidden = 24
 -- a side, a stride or an enable
 faultNumber BadSurface = 25
--- a turn in colour mode, or sizes that do not agree
+-- a turn where the source is no buffer, or sizes that do not agree
 faultNumber SizeMismatch = 26
 -- a span outside the window, or, of what is read, outside common too
 faultNumber OutOfBounds = 27

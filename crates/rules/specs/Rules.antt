@@ -75,7 +75,7 @@ rotatedSourceSize s = rotatedSize (s .transform .rotation) (sizeOf (s .surface))
 abbrev pub sameSize : Size → Size → Bool
 sameSize a b = eqb (a .width) (b .width) && eqb (a .height) (b .height)
 
--- a turn in colour mode; output size not the turned source size; blending, destination size not output size
+-- a turn where the source is no buffer; output size not the turned source size; blending, destination size not output size
 unfoldable pub sizeMismatch : Task → Bool
 sizeMismatch t =
     rotatedFill (t .source)

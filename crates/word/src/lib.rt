@@ -3,7 +3,7 @@ ghost use mathlib.Core.Path.{_≡_};
 ghost use Prim.Native.Nat.{_+_, _*_, _≤_, _<_};
 ghost use mathlib.Core.List.{[], _∷_};
 ghost use lib.ListN.{length};
-ghost use Rattle.word.specs.Word.{le32, le32At, be32At, leBytes, beBytes, wordsBytes};
+ghost use Rattle.word.specs.Word.{le32, le32At, be32At, leBytes, wordsBytes};
 ghost use Rattle.word.specs.Field.{field};
 ghost use Rattle.word.specs.Splice.{spliced};
 
@@ -73,21 +73,6 @@ pub fn write_le_words(bytes: &mut [u8], at: usize, words: &[u32])
         write_le32(bytes, at + 4 * k, words[k]);
         k += 1;
     }
-}
-
-// Writes a word at an offset of `bytes`, high byte first.
-pub fn write_be32(bytes: &mut [u8], at: usize, word: u32)
-    requires { ⌜ at + 4 ≤ length (now bytes) ⌝ }
-    ensures { λ _. ⌜ now (bytes .exit) ≡ spliced at (beBytes word) (now (bytes .entry)) ⌝ }
-{
-    store4(
-        bytes,
-        at,
-        (word / 16777216 % 256) as u8,
-        (word / 65536 % 256) as u8,
-        (word / 256 % 256) as u8,
-        (word % 256) as u8,
-    );
 }
 
 // Bits `hi` to `lo` of a word. In 64 bits, so that a field may be as wide as the word.

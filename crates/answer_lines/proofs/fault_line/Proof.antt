@@ -3,27 +3,9 @@ use borrow.Author.Needs.{needs}
 use Rattle.answer_lines.proofs.fault_line.Statement.{statement}
 use Rattle.answer_lines.proofs.fault_line.Tie as tie
 
-enum-known-answer : tie.Need-enum-known-answer
-enum-known-answer c = search needs
-
-refused-line-requires : tie.Need-refused-line-requires
-refused-line-requires c κs = search needs
-
-enum-known-answer-2 : tie.Need-enum-known-answer-2
-enum-known-answer-2 c = search needs
-
-explanation-line-requires : tie.Need-explanation-line-requires
-explanation-line-requires c κs = search needs
-
-same-length : tie.Need-same-length
-same-length c = search needs
-
 returns : tie.Need-returns
 unfolding faultLine
 returns c = rw (c .before .before .before .before .before .answer .given .1) (c .before .before .refused-line .ensures)
-
-same-length-2 : tie.Need-same-length-2
-same-length-2 c = search needs
 
 returns-2 : tie.Need-returns-2
 unfolding faultLine
@@ -33,11 +15,11 @@ pub fault-line-spec : {M : Type 1} → statement M
 fault-line-spec =
     tie.close
     (tie.spec
-    enum-known-answer
-    refused-line-requires
-    enum-known-answer-2
-    explanation-line-requires
-    same-length
+    (λ c. search needs)
+    (λ c κs. search needs)
+    (λ c. search needs)
+    (λ c κs. search needs)
+    (λ c. search needs)
     returns
-    same-length-2
+    (λ c. search needs)
     returns-2)

@@ -17,9 +17,6 @@ use Rattle.encoder.proofs.encode.Tie as tie
 yes : (c : tie.Else1) → allowed (c .before .before .before .args .fields) ≡ true
 yes c = sym (c .before .is-allowed .ensures) ∙ not-false (c .before .is-allowed .result) (c .if1 .left)
 
-is-allowed-requires : tie.Need-is-allowed-requires
-is-allowed-requires c κs = search needs
-
 returns : tie.Need-returns
 returns c =
     let s = c .before .before .before in
@@ -33,18 +30,6 @@ returns-2 c =
 
 registers-requires : tie.Need-registers-requires
 registers-requires c κs = yes (c .before)
-
-words-of-requires : tie.Need-words-of-requires
-words-of-requires c κs = search needs
-
-slice-aggregate-write-le-words : tie.Need-slice-aggregate-write-le-words
-slice-aggregate-write-le-words c = search needs
-
-write-le-words-requires : tie.Need-write-le-words-requires
-write-le-words-requires c κs = search needs
-
-same-length : tie.Need-same-length
-same-length c = search needs
 
 returns-3 : tie.Need-returns-3
 returns-3 c =
@@ -61,12 +46,12 @@ pub encode-spec : {M : Type 1} → statement M
 encode-spec =
     tie.close
     (tie.spec
-    is-allowed-requires
+    (λ c κs. search needs)
     returns
     returns-2
     registers-requires
-    words-of-requires
-    slice-aggregate-write-le-words
-    write-le-words-requires
-    same-length
+    (λ c κs. search needs)
+    (λ c. search needs)
+    (λ c κs. search needs)
+    (λ c. search needs)
     returns-3)

@@ -10,12 +10,6 @@ use Rattle.inquiry.proofs.Answering.{taken-facts, after-refused, after-
 use borrow.Author.Needs.{needs}
 use Rattle.inquiry.proofs.after_record.Statement.{statement}
 use Rattle.inquiry.proofs.after_record.Tie as tie
-use Rattle.inquiry.proofs.after_record.Reads as reads
-use Rattle.inquiry.proofs.after_record.Lts as lts
-use Rattle.inquiry.proofs.last.after_batch.Reads as after-batch-reads
-use Rattle.inquiry.proofs.after_why.Reads as after-why-reads
-use Rattle.inquiry.proofs.bounds_of.Reads as bounds-of-reads
-use Rattle.inquiry.proofs.is_accepted.Reads as is-accepted-reads
 
 -- neither count is over
 few : (c : tie.Else1) → let f = c .before .before .before .before .args .finding in (f .records ≤ 1024) × (f .accepted ≤ 1024)
@@ -30,9 +24,6 @@ returns c = rw (c .if1 .taken)
 add-records : tie.Need-add-records
 add-records c = omega (arith, few (c .before))
 
-is-accepted-requires : tie.Need-is-accepted-requires
-is-accepted-requires c κs = search needs
-
 returns-2 : tie.Need-returns-2
 returns-2 c =
     let e = c .before .before .before in
@@ -44,12 +35,6 @@ bounds-of-requires : tie.Need-bounds-of-requires
 bounds-of-requires c κs =
     let a = c .before .before .before .before .before .before .before .args in
     taken-facts (a .client) (a .batch .now) (sym (c .before .is-accepted .ensures) ∙ not-false (c .before .is-accepted .result) (c .if2 .left)) .0
-
-after-batch-requires : tie.Need-after-batch-requires
-after-batch-requires c κs = search needs
-
-after-why-requires : tie.Need-after-why-requires
-after-why-requires c κs = search needs
 
 add-t16 : tie.Need-add-t16
 add-t16 c = omega (arith, few (c .before .before .before .before .before .before))
@@ -68,10 +53,10 @@ after-record-spec =
     (tie.spec
     returns
     add-records
-    is-accepted-requires
+    (λ c κs. search needs)
     returns-2
     bounds-of-requires
-    after-batch-requires
-    after-why-requires
+    (λ c κs. search needs)
+    (λ c κs. search needs)
     add-t16
     returns-3)

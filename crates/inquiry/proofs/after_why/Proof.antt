@@ -2,12 +2,6 @@ use borrow.Author.Tests.{eq-eqb, ne-eqb}
 use borrow.Author.Needs.{needs}
 use Rattle.inquiry.proofs.after_why.Statement.{statement}
 use Rattle.inquiry.proofs.after_why.Tie as tie
-use Rattle.inquiry.proofs.after_why.Reads as reads
-use Rattle.inquiry.proofs.after_why.Lts as lts
-use Rattle.inquiry.proofs.faulted.explain.Reads as explain-reads
-
-explain-requires : tie.Need-explain-requires
-explain-requires c κs = search needs
 
 returns : tie.Need-returns
 returns c =
@@ -20,4 +14,7 @@ returns-2 c =
     rw (ne-eqb (a .ticket) (a .asked) (c .if1 .left))
 
 pub after-why-spec : {M : Type 1} → statement M
-after-why-spec = tie.close (tie.spec explain-requires returns returns-2)
+after-why-spec = tie.close (tie.spec
+    (λ c κs. search needs)
+    returns
+    returns-2)

@@ -6,19 +6,9 @@ use Rattle.inquiry.proofs.Answering.{feeds-by}
 use borrow.Author.Needs.{needs}
 use Rattle.inquiry.proofs.feed.Statement.{statement}
 use Rattle.inquiry.proofs.feed.Tie as tie
-use Rattle.inquiry.proofs.feed.Reads as reads
-use Rattle.inquiry.proofs.feed.Lts as lts
-use Rattle.inquiry.proofs.after_found.Reads as after-found-reads
-use Rattle.records.proofs.take.Reads as take-reads
-
-take-requires : tie.Need-take-requires
-take-requires c κs = search needs
 
 after-found-requires : tie.Need-after-found-requires
 after-found-requires c κs = let t = c .before .before .before .before .take in subst (λ (n : ℕ). Lies First (t .result .found) n) (sym (t .kept .1 .1 .0)) (t .ensures .1)
-
-same-length : tie.Need-same-length
-same-length c = search needs
 
 returns : tie.Need-returns
 returns c =
@@ -27,4 +17,8 @@ returns c =
     (t .ensures .0, λ seen S. feeds-by (a .question) seen (a .held .now) (a .input .now) _ (a .inquiry) (t .result) _ (c .after-found .result) (c .after-found .ensures) refl (t .ensures .2) S)
 
 pub feed-spec : {M : Type 1} → statement M
-feed-spec = tie.close (tie.spec take-requires after-found-requires same-length returns)
+feed-spec = tie.close (tie.spec
+    (λ c κs. search needs)
+    after-found-requires
+    (λ c. search needs)
+    returns)

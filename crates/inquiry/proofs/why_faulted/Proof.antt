@@ -2,15 +2,11 @@ use Rattle.inquiry.proofs.Answering.{fault-told}
 use borrow.Author.Needs.{needs}
 use Rattle.inquiry.proofs.why_faulted.Statement.{statement}
 use Rattle.inquiry.proofs.why_faulted.Tie as tie
-use Rattle.inquiry.proofs.why_faulted.Reads as reads
-use Rattle.inquiry.proofs.why_faulted.Lts as lts
-use Rattle.provenance.proofs.tell_fault.Reads as tell-fault-reads
-
-tell-fault-requires : tie.Need-tell-fault-requires
-tell-fault-requires c κs = search needs
 
 returns : tie.Need-returns
 returns c = λ seen held S. let a = c .before .before .args in rw (c .tell-fault .ensures) (fault-told (a .question) (a .inquiry) seen held S)
 
 pub why-faulted-spec : {M : Type 1} → statement M
-why-faulted-spec = tie.close (tie.spec tell-fault-requires returns)
+why-faulted-spec = tie.close (tie.spec
+    (λ c κs. search needs)
+    returns)

@@ -4,9 +4,6 @@ use borrow.Author.Needs.{needs}
 use Rattle.inquiry_io.specs.Reached.{Reached}
 use Rattle.inquiry_io.proofs.read_all.Statement.{statement}
 use Rattle.inquiry_io.proofs.read_all.Tie as tie
-use Rattle.inquiry_io.proofs.read_all.Reads as reads
-use Rattle.inquiry_io.proofs.read_all.Lts as lts
-use Rattle.inquiry_io.proofs.read_some.Reads as read-some-reads
 
 abbrev Inv-loop : tie.InvT-loop
 Inv-loop fd name question held₀ progress₀ turns₀ more₀ held progress turns more = (length held ≡ length held₀) × (Reached question (progress₀ .inquiry) held₀ → Reached question (progress .inquiry) held)

@@ -1,11 +1,6 @@
 use borrow.Author.Needs.{needs}
 use Rattle.inquiry_io.proofs.read_some.Statement.{statement}
 use Rattle.inquiry_io.proofs.read_some.Tie as tie
-use Rattle.inquiry_io.proofs.read_some.Reads as reads
-use Rattle.inquiry_io.proofs.read_some.Lts as lts
-use Rattle.command.proofs.read_piece.Reads as read-piece-reads
-use Rattle.io.proofs.large_buffer.Reads as large-buffer-reads
-use Rattle.inquiry.proofs.feed_piece.Reads as feed-piece-reads
 
 large-buffer-requires : tie.Need-large-buffer-requires
 large-buffer-requires c κs = search needs

@@ -2,18 +2,15 @@ use borrow.Author.Tests.{lt-ltb, le-ltb}
 use borrow.Author.Needs.{needs}
 use Rattle.provenance.proofs.tell_fault.Statement.{statement}
 use Rattle.provenance.proofs.tell_fault.Tie as tie
-use Rattle.provenance.proofs.tell_fault.Reads as reads
-use Rattle.provenance.proofs.tell_fault.Lts as lts
-use Rattle.provenance.proofs.tell_why.Reads as tell-why-reads
 
 returns : tie.Need-returns
 returns c = rw (lt-ltb 1024 (c .before .args .records) (c .if1 .taken))
-
-tell-why-requires : tie.Need-tell-why-requires
-tell-why-requires c κs = search needs
 
 returns-2 : tie.Need-returns-2
 returns-2 c = rw (le-ltb 1024 (c .before .before .args .records) (c .before .if1 .left)) (c .tell-why .ensures)
 
 pub tell-fault-spec : {M : Type 1} → statement M
-tell-fault-spec = tie.close (tie.spec returns tell-why-requires returns-2)
+tell-fault-spec = tie.close (tie.spec
+    returns
+    (λ c κs. search needs)
+    returns-2)

@@ -10,7 +10,7 @@ use Rattle.replay_io.proofs.read_all.Tie as tie
 abbrev Inv-loop : tie.InvT-loop
 Inv-loop fd name held₀ ring₀ memory₀ shows slow progress₀ turns₀ more₀ held ring memory progress turns more =
     (length held ≡ length held₀) × (length ring ≡ length ring₀) × (length memory ≡ length memory₀)
-    × ((edition : Edition) (engine : State) → Reached edition engine (progress₀ .replay) held₀ ring₀ memory₀ → Reached edition engine (progress .replay) held ring memory)
+    × ((edition : Edition) (engine : State) → Reached edition engine shows 0 (progress₀ .replay) held₀ ring₀ memory₀ → Reached edition engine shows (progress .handed) (progress .replay) held ring memory)
 
 abbrev μ-loop : tie.MeasureT-loop
 μ-loop fd name held₀ ring₀ memory₀ shows slow progress₀ turns₀ more₀ held ring memory progress turns more = turns

@@ -1,11 +1,7 @@
+use Rattle.replay_io.proofs.Reaching.{piece-reached}
 use borrow.Author.Needs.{needs}
 use Rattle.replay_io.proofs.read_some.Statement.{statement}
 use Rattle.replay_io.proofs.read_some.Tie as tie
-use Rattle.replay_io.proofs.read_some.Reads as reads
-use Rattle.replay_io.proofs.read_some.Lts as lts
-use Rattle.command.proofs.read_piece.Reads as read-piece-reads
-use Rattle.io.proofs.large_buffer.Reads as large-buffer-reads
-use Rattle.replay_io.proofs.feed_piece.Reads as feed-piece-reads
 
 large-buffer-requires : tie.Need-large-buffer-requires
 large-buffer-requires c κs = search needs
@@ -38,7 +34,7 @@ same-length-3 : tie.Need-same-length-3
 same-length-3 c = search needs
 
 returns-2 : tie.Need-returns-2
-returns-2 c = search needs
+returns-2 c = λ edition engine R. piece-reached edition engine _ _ _ _ _ _ R _ _ _ _ _ _ _ (c .before .before .before .before .before .before .feed-piece .ensures engine (R .seen) (R .text) (R .stands) (R .counts))
 
 pub read-some-spec : {M : Type 1} → statement M
 read-some-spec =

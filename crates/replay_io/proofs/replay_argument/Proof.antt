@@ -2,12 +2,6 @@ use Rattle.replay_io.proofs.Reaching.{unread}
 use borrow.Author.Needs.{needs}
 use Rattle.replay_io.proofs.replay_argument.Statement.{statement}
 use Rattle.replay_io.proofs.replay_argument.Tie as tie
-use Rattle.replay_io.proofs.replay_argument.Reads as reads
-use Rattle.replay_io.proofs.replay_argument.Lts as lts
-use Rattle.command.proofs.open_argument.Reads as open-argument-reads
-use Rattle.io.proofs.buffer.Reads as buffer-reads
-use Rattle.libc.proofs.close.Reads as close-reads
-use Rattle.replay_io.proofs.replay_from.Reads as replay-from-reads
 
 buffer-requires : tie.Need-buffer-requires
 buffer-requires c κs = search needs
@@ -19,7 +13,7 @@ open-argument-requires : tie.Need-open-argument-requires
 open-argument-requires c κs = search needs
 
 returns : tie.Need-returns
-returns c = unread _ _
+returns c = unread _ _ _
 
 array-share-prefix-path : tie.Need-array-share-prefix-path
 array-share-prefix-path c = search needs

@@ -1,4 +1,4 @@
-use Rattle.replay_io.proofs.Reaching.{reached-start, replayed}
+use Rattle.replay_io.proofs.Reaching.{reached-start, replayed-some, replayed-all}
 use borrow.Author.Needs.{needs}
 use Rattle.replay_io.proofs.replay_from.Statement.{statement}
 use Rattle.replay_io.proofs.replay_from.Tie as tie
@@ -19,16 +19,24 @@ same-length : tie.Need-same-length
 same-length c = search needs
 
 returns : tie.Need-returns
-returns c = replayed _ _ _ _ _ _ _ (c .before .before .before .before .before .before .before .read-all .ensures _ _ (reached-start _ _ _ _ _ (c .before .before .before .before .before .before .before .before .before .before .before .start .ensures) (search needs)))
+returns c = replayed-some _ _ _ _ _ _ _ _ _ (c .before .before .before .before .before .before .before .read-all .ensures _ _ (reached-start _ _ _ _ _ _ (c .before .before .before .before .before .before .before .before .before .before .before .start .ensures) (search needs)))
+
+slice-aggregate-finish : tie.Need-slice-aggregate-finish
+slice-aggregate-finish c = search needs
 
 finish-requires : tie.Need-finish-requires
 finish-requires c κs = search needs
+
+wrapping-add-u64-requires : tie.Need-wrapping-add-u64-requires
+wrapping-add-u64-requires c κs = search needs
 
 same-length-2 : tie.Need-same-length-2
 same-length-2 c = search needs
 
 returns-2 : tie.Need-returns-2
-returns-2 c = replayed _ _ _ _ _ _ _ (c .before .before .before .before .before .before .before .before .read-all .ensures _ _ (reached-start _ _ _ _ _ (c .before .before .before .before .before .before .before .before .before .before .before .before .start .ensures) (search needs)))
+returns-2 c =
+    let a = c .before .before .before .before .before .before .before .before .before .before .before .read-all in
+    rw (c .wrapping-add-u64 .ensures) (replayed-all _ _ _ _ _ _ _ _ _ (a .ensures _ _ (reached-start _ _ _ _ _ _ (c .before .before .before .before .before .before .before .before .before .before .before .before .before .before .before .start .ensures) (search needs))) _ _ _ _ (search needs) (c .before .before .finish .kept .1 .0) (c .before .before .finish .ensures))
 
 pub replay-from-spec : {M : Type 1} → statement M
 replay-from-spec =
@@ -40,6 +48,8 @@ replay-from-spec =
     read-all-requires
     same-length
     returns
+    slice-aggregate-finish
     finish-requires
+    wrapping-add-u64-requires
     same-length-2
     returns-2)

@@ -30,23 +30,14 @@ loop-holds c =
     let z : length (now (c .args .bytes)) - length (now (c .args .bytes)) ≡ 0 = omega arith in
     (search needs, rw (drop-length (now (c .args .bytes))), rw z (lit< tt))
 
-sub-k : tie.Need-sub-k Inv-loop μ-loop
-sub-k c = search needs
-
 mul-sum : tie.Need-mul-sum Inv-loop μ-loop
 mul-sum c = omega (arith, room c)
-
-shared-slice-read-sum : tie.Need-shared-slice-read-sum Inv-loop μ-loop
-shared-slice-read-sum c = search needs
 
 cast-sum : tie.Need-cast-sum Inv-loop μ-loop
 cast-sum c = omega (arith, c .shared-slice-known .given (c .before .before .loop .k - 1))
 
 add-sum : tie.Need-add-sum Inv-loop μ-loop
 add-sum c = omega (arith, room (c .before), c .shared-slice-known .given (c .before .before .loop .k - 1))
-
-loop-less : tie.Need-loop-less Inv-loop μ-loop
-loop-less c = search needs
 
 loop-again : tie.Need-loop-again Inv-loop μ-loop
 loop-again c =
@@ -64,4 +55,15 @@ returns c =
     rw z at (c .before .loop .inv .1)
 
 pub number-of-spec : {M : Type 1} → statement M
-number-of-spec = tie.close (tie.spec Inv-loop μ-loop loop-holds sub-k mul-sum shared-slice-read-sum cast-sum add-sum loop-less loop-again returns)
+number-of-spec = tie.close (tie.spec
+    Inv-loop
+    μ-loop
+    loop-holds
+    (λ c. search needs)
+    mul-sum
+    (λ c. search needs)
+    cast-sum
+    add-sum
+    (λ c. search needs)
+    loop-again
+    returns)

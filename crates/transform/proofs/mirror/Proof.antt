@@ -2,17 +2,12 @@ use borrow.Author.Needs.{needs}
 use Rattle.transform.proofs.mirror.Statement.{statement}
 use Rattle.transform.proofs.mirror.Tie as tie
 
-sub-result : tie.Need-sub-result
-sub-result c = search needs
-
-sub-result-2 : tie.Need-sub-result-2
-sub-result-2 c = search needs
-
 returns : tie.Need-returns
 returns c = rw (c .if1 .taken)
 
-returns-2 : tie.Need-returns-2
-returns-2 c = search needs
-
 pub mirror-spec : {M : Type 1} → statement M
-mirror-spec = tie.close (tie.spec sub-result sub-result-2 returns returns-2)
+mirror-spec = tie.close (tie.spec
+    (λ c. search needs)
+    (λ c. search needs)
+    returns
+    (λ c. search needs))

@@ -37,12 +37,6 @@ loop-holds c =
     let s = c .before in
     (omega arith, omega arith, counted-none (decodeBatch (s .args .bounds) (s .args .bank) (Ws s)))
 
-next-task-requires : tie.Need-next-task-requires Inv-loop μ-loop
-next-task-requires c κs = search needs
-
-enum-known-b : tie.Need-enum-known-b Inv-loop μ-loop
-enum-known-b c = search needs
-
 add-count : tie.Need-add-count Inv-loop μ-loop
 add-count c =
     let s = c .before .before .before .before .before .before in
@@ -62,18 +56,12 @@ loop-again c =
       l .inv .2 ∙ step-task (s .args .bounds) (Ws s) (l .current) (l .at) (t .result) (t .ensures) (l .count) _ _ _ (c .before .b .given .1),
     )
 
-enum-known-fault : tie.Need-enum-known-fault Inv-loop μ-loop
-enum-known-fault c = search needs
-
 returns : tie.Need-returns Inv-loop μ-loop
 returns c =
     let s = c .before .before .before .before .before .before in
     let l = c .before .before .before .before .loop in
     let t = c .before .before .before .next-task in
     sym (l .inv .2 ∙ step-faulty (s .args .bounds) (Ws s) (l .current) (l .at) (t .result) (t .ensures) (l .count) _ _ _ (c .before .fault .given .1))
-
-enum-told : tie.Need-enum-told Inv-loop μ-loop
-enum-told c = search needs
 
 returns-2 : tie.Need-returns-2 Inv-loop μ-loop
 returns-2 c =
@@ -89,12 +77,12 @@ judge-spec =
     Inv-loop
     μ-loop
     loop-holds
-    next-task-requires
-    enum-known-b
+    (λ c κs. search needs)
+    (λ c. search needs)
     add-count
     loop-less
     loop-again
-    enum-known-fault
+    (λ c. search needs)
     returns
-    enum-told
+    (λ c. search needs)
     returns-2)

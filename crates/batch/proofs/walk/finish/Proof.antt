@@ -6,18 +6,6 @@ use borrow.Author.Needs.{needs}
 use Rattle.batch.proofs.walk.finish.Statement.{statement}
 use Rattle.batch.proofs.walk.finish.Tie as tie
 
-task-requires : tie.Need-task-requires
-task-requires c κs = search needs
-
-check-task-requires : tie.Need-check-task-requires
-check-task-requires c κs = search needs
-
-enum-told : tie.Need-enum-told
-enum-told c = search needs
-
-enum-known-f : tie.Need-enum-known-f
-enum-known-f c = search needs
-
 returns : tie.Need-returns
 returns c =
     let s = c .before .before .before .before in
@@ -32,4 +20,10 @@ returns-2 c =
 
 pub finish-spec : {M : Type 1} → statement M
 finish-spec =
-    tie.close (tie.spec task-requires check-task-requires enum-told enum-known-f returns returns-2)
+    tie.close (tie.spec
+    (λ c κs. search needs)
+    (λ c κs. search needs)
+    (λ c. search needs)
+    (λ c. search needs)
+    returns
+    returns-2)

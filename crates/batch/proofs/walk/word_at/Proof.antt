@@ -5,15 +5,6 @@ use borrow.Author.Needs.{needs}
 use Rattle.batch.proofs.walk.word_at.Statement.{statement}
 use Rattle.batch.proofs.walk.word_at.Tie as tie
 
-read-word-requires : tie.Need-read-word-requires
-read-word-requires c κs = search needs
-
-enum-known-w : tie.Need-enum-known-w
-enum-known-w c = search needs
-
-enum-told : tie.Need-enum-told
-enum-told c = search needs
-
 returns : tie.Need-returns
 returns c =
     let s = c .before .before .before .before .before in
@@ -25,4 +16,9 @@ returns-2 c =
     word-past (batchWords (s .args .ring .now) (s .args .offset) (s .args .size)) (s .args .k) (sym (c .before .before .read-word .ensures) ∙ c .enum-told .given .1)
 
 pub word-at-spec : {M : Type 1} → statement M
-word-at-spec = tie.close (tie.spec read-word-requires enum-known-w enum-told returns returns-2)
+word-at-spec = tie.close (tie.spec
+    (λ c κs. search needs)
+    (λ c. search needs)
+    (λ c. search needs)
+    returns
+    returns-2)

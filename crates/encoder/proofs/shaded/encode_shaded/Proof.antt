@@ -20,12 +20,6 @@ yes c =
     let f = c .before .before .is-allowed in
     ap₂ _&&_ (sym (f .ensures)) (sym (s .ensures)) ∙ not-false (f .result && s .result) (c .if1 .left)
 
-is-allowed-requires : tie.Need-is-allowed-requires
-is-allowed-requires c κs = search needs
-
-steps-allowed-requires : tie.Need-steps-allowed-requires
-steps-allowed-requires c κs = search needs
-
 returns : tie.Need-returns
 returns c =
     let a = c .before .before .before .before .args in
@@ -44,18 +38,6 @@ registers-requires c κs =
     let a = c .before .before .before .before .before .args in
     fields-allowed (secondForm (a .fields) (a .steps)) (yes (c .before))
 
-shaded-words-of-requires : tie.Need-shaded-words-of-requires
-shaded-words-of-requires c κs = search needs
-
-slice-aggregate-write-le-words : tie.Need-slice-aggregate-write-le-words
-slice-aggregate-write-le-words c = search needs
-
-write-le-words-requires : tie.Need-write-le-words-requires
-write-le-words-requires c κs = search needs
-
-same-length : tie.Need-same-length
-same-length c = search needs
-
 returns-3 : tie.Need-returns-3
 returns-3 c =
     let e = c .before .before .before .before .before .before .before in
@@ -71,13 +53,13 @@ pub encode-shaded-spec : {M : Type 1} → statement M
 encode-shaded-spec =
     tie.close
     (tie.spec
-    is-allowed-requires
-    steps-allowed-requires
+    (λ c κs. search needs)
+    (λ c κs. search needs)
     returns
     returns-2
     registers-requires
-    shaded-words-of-requires
-    slice-aggregate-write-le-words
-    write-le-words-requires
-    same-length
+    (λ c κs. search needs)
+    (λ c. search needs)
+    (λ c κs. search needs)
+    (λ c. search needs)
     returns-3)

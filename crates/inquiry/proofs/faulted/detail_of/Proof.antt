@@ -1,39 +1,6 @@
 use borrow.Author.Needs.{needs}
 use Rattle.inquiry.proofs.faulted.detail_of.Statement.{statement}
 use Rattle.inquiry.proofs.faulted.detail_of.Tie as tie
-use Rattle.inquiry.proofs.faulted.detail_of.Reads as reads
-use Rattle.inquiry.proofs.faulted.detail_of.Lts as lts
-use Rattle.inquiry.proofs.faulted.held_in.Reads as held-in-reads
-
-enum-told : tie.Need-enum-told
-enum-told c = search needs
-
-held-in-requires : tie.Need-held-in-requires
-held-in-requires c κs = search needs
-
-enum-told-2 : tie.Need-enum-told-2
-enum-told-2 c = search needs
-
-enum-told-3 : tie.Need-enum-told-3
-enum-told-3 c = search needs
-
-enum-told-4 : tie.Need-enum-told-4
-enum-told-4 c = search needs
-
-enum-told-5 : tie.Need-enum-told-5
-enum-told-5 c = search needs
-
-enum-told-6 : tie.Need-enum-told-6
-enum-told-6 c = search needs
-
-enum-told-7 : tie.Need-enum-told-7
-enum-told-7 c = search needs
-
-enum-told-8 : tie.Need-enum-told-8
-enum-told-8 c = search needs
-
-enum-told-9 : tie.Need-enum-told-9
-enum-told-9 c = search needs
 
 returns : tie.Need-returns
 returns c = rw (c .held-in .ensures, c .before .enum-told .given .1)
@@ -66,16 +33,16 @@ pub detail-of-spec : {M : Type 1} → statement M
 detail-of-spec =
     tie.close
     (tie.spec
-    enum-told
-    held-in-requires
-    enum-told-2
-    enum-told-3
-    enum-told-4
-    enum-told-5
-    enum-told-6
-    enum-told-7
-    enum-told-8
-    enum-told-9
+    (λ c. search needs)
+    (λ c κs. search needs)
+    (λ c. search needs)
+    (λ c. search needs)
+    (λ c. search needs)
+    (λ c. search needs)
+    (λ c. search needs)
+    (λ c. search needs)
+    (λ c. search needs)
+    (λ c. search needs)
     returns
     returns-2
     returns-3

@@ -24,9 +24,6 @@ abbrev μ-loop : tie.MeasureT-loop
 abbrev Ws : tie.Start Inv-loop μ-loop → List ℕ
 Ws c = batchWords (c .args .ring .now) (c .args .offset) (c .args .size)
 
-word-count-requires : tie.Need-word-count-requires Inv-loop μ-loop
-word-count-requires c κs = search needs
-
 returns : tie.Need-returns Inv-loop μ-loop
 returns c =
     let s = c .before .before .before in
@@ -36,9 +33,6 @@ loop-holds : tie.Need-loop-holds Inv-loop μ-loop
 loop-holds c =
     let s = c .before .before .before in
     (omega arith, omega (arith, c .before .word-count .ensures, c .if1 .left), omega arith, rw sub-zero)
-
-word-at-requires : tie.Need-word-at-requires Inv-loop μ-loop
-word-at-requires c κs = search needs
 
 onward-requires : tie.Need-onward-requires Inv-loop μ-loop
 onward-requires c κs = c .before .before .loop .inv .2
@@ -60,9 +54,6 @@ loop-again c =
           ∙ ap (λ (g : Group). registerFrom g (s .args .k - (l .at + 1)) (drop (l .at + 1) (Ws s))) (ap (groupAfter (l .group)) (sym (c .before .word-at .ensures)) ∙ sym (c .onward .ensures .0)),
     )
 
-held-at-requires : tie.Need-held-at-requires Inv-loop μ-loop
-held-at-requires c κs = search needs
-
 returns-2 : tie.Need-returns-2 Inv-loop μ-loop
 returns-2 c =
     let s = c .before .before .before .before .before .before .before in
@@ -76,13 +67,13 @@ register-at-spec =
     (tie.spec
     Inv-loop
     μ-loop
-    word-count-requires
+    (λ c κs. search needs)
     returns
     loop-holds
-    word-at-requires
+    (λ c κs. search needs)
     onward-requires
     add-at
     loop-less
     loop-again
-    held-at-requires
+    (λ c κs. search needs)
     returns-2)

@@ -18,11 +18,6 @@ use Rattle.provenance.specs.Touched.{lastFrom}
 use Rattle.inquiry.proofs.Batch.{restFrom, rest-task, rest-fault, rest-end}
 use Rattle.inquiry.proofs.last.after_batch.Statement.{statement}
 use Rattle.inquiry.proofs.last.after_batch.Tie as tie
-use Rattle.inquiry.proofs.last.after_batch.Reads as reads
-use Rattle.inquiry.proofs.last.after_batch.Lts as lts
-use Rattle.batch.proofs.next_task.Reads as next-task-reads
-use Rattle.inquiry.proofs.last.after_task.Reads as after-task-reads
-use Rattle.register.proofs.bank.Bank.reset.Reads as reset-reads
 
 abbrev Inv-loop : tie.InvT-loop
 Inv-loop ring offset size bounds ticket i current₀ at₀ number₀ last₀ current at number last =
@@ -53,20 +48,8 @@ answerFrom s b = lastFrom (s .args .found) (s .args .i) (numbered (s .args .tick
 from-reset : (c : tie.After-reset Inv-loop μ-loop) → answerFrom (c .before .before) (fileReset First) ≡ answerFrom (c .before .before) (c .reset .result)
 from-reset c = ap (answerFrom (c .before .before)) (sym (c .reset .ensures))
 
-reset-requires : tie.Need-reset-requires Inv-loop μ-loop
-reset-requires c κs = search needs
-
 loop-holds : tie.Need-loop-holds Inv-loop μ-loop
 loop-holds c = (omega arith, omega arith, refl)
-
-next-task-requires : tie.Need-next-task-requires Inv-loop μ-loop
-next-task-requires c κs = search needs
-
-enum-known-task : tie.Need-enum-known-task Inv-loop μ-loop
-enum-known-task c = search needs
-
-after-task-requires : tie.Need-after-task-requires Inv-loop μ-loop
-after-task-requires c κs = search needs
 
 add-number : tie.Need-add-number Inv-loop μ-loop
 add-number c =
@@ -91,18 +74,12 @@ loop-again c =
           ∙ ap (λ (a : Touched). restFrom (s .args .i) (s .args .ticket) (l .number + 1) a (decodeRest (s .args .bounds) (Ws s) (t .task .given .0 .1 .0) (t .task .given .0 .1 .1 .0))) (sym (c .after-task .ensures)),
     )
 
-enum-told : tie.Need-enum-told Inv-loop μ-loop
-enum-told c = search needs
-
 returns : tie.Need-returns Inv-loop μ-loop
 returns c =
     let s = c .before .before .before .before .before .before in
     let l = c .before .before .before .loop in
     let n = c .before .before .next-task in
     sym (from-reset (c .before .before .before .before) ∙ l .inv .2 ∙ rest-fault (s .args .i) (s .args .ticket) (s .args .bounds) (Ws s) (l .current) (l .at) (n .result) (n .ensures) (l .number) (l .last) _ _ _ (c .enum-told .given .1))
-
-enum-told-2 : tie.Need-enum-told-2 Inv-loop μ-loop
-enum-told-2 c = search needs
 
 returns-2 : tie.Need-returns-2 Inv-loop μ-loop
 returns-2 c =
@@ -117,15 +94,15 @@ after-batch-spec =
     (tie.spec
     Inv-loop
     μ-loop
-    reset-requires
+    (λ c κs. search needs)
     loop-holds
-    next-task-requires
-    enum-known-task
-    after-task-requires
+    (λ c κs. search needs)
+    (λ c. search needs)
+    (λ c κs. search needs)
     add-number
     loop-less
     loop-again
-    enum-told
+    (λ c. search needs)
     returns
-    enum-told-2
+    (λ c. search needs)
     returns-2)

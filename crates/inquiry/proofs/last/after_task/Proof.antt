@@ -2,22 +2,16 @@ use borrow.Author.Tests.{not-true, not-false}
 use borrow.Author.Needs.{needs}
 use Rattle.inquiry.proofs.last.after_task.Statement.{statement}
 use Rattle.inquiry.proofs.last.after_task.Tie as tie
-use Rattle.inquiry.proofs.last.after_task.Reads as reads
-use Rattle.inquiry.proofs.last.after_task.Lts as lts
-use Rattle.inquiry.proofs.last.holds_byte.Reads as holds-byte-reads
-use Rattle.inquiry.proofs.last.mode_number.Reads as mode-number-reads
-
-holds-byte-requires : tie.Need-holds-byte-requires
-holds-byte-requires c κs = search needs
 
 returns : tie.Need-returns
 returns c = rw (← (c .before .holds-byte .ensures), not-true (c .before .holds-byte .result) (c .if1 .taken))
-
-mode-number-requires : tie.Need-mode-number-requires
-mode-number-requires c κs = search needs
 
 returns-2 : tie.Need-returns-2
 returns-2 c = rw (← (c .before .before .before .holds-byte .ensures), not-false (c .before .before .before .holds-byte .result) (c .before .before .if1 .left), c .mode-number .ensures)
 
 pub after-task-spec : {M : Type 1} → statement M
-after-task-spec = tie.close (tie.spec holds-byte-requires returns mode-number-requires returns-2)
+after-task-spec = tie.close (tie.spec
+    (λ c κs. search needs)
+    returns
+    (λ c κs. search needs)
+    returns-2)

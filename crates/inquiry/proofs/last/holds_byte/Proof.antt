@@ -2,15 +2,6 @@ use Rattle.provenance.proofs.Holds.{holds-none, some-stride, from-start, holds-
 use borrow.Author.Needs.{needs}
 use Rattle.inquiry.proofs.last.holds_byte.Statement.{statement}
 use Rattle.inquiry.proofs.last.holds_byte.Tie as tie
-use Rattle.inquiry.proofs.last.holds_byte.Reads as reads
-use Rattle.inquiry.proofs.last.holds_byte.Lts as lts
-use Rattle.surface.proofs.Surface.row_length.Reads as row-length-reads
-
-cast-start : tie.Need-cast-start
-cast-start c = search needs
-
-cast-stride : tie.Need-cast-stride
-cast-stride c = search needs
 
 returns : tie.Need-returns
 returns c = let a = c .before .before .before .args in holds-none (a .s) (a .i) (c .if1 .taken)
@@ -21,14 +12,8 @@ sub-from c = let a = c .before .before .before .args in from-start (a .s) (a .i)
 div-result : tie.Need-div-result
 div-result c = let a = c .before .before .before .args in some-stride (a .s) (a .i) (c .if1 .left)
 
-cast-result : tie.Need-cast-result
-cast-result c = search needs
-
 rem-result : tie.Need-rem-result
 rem-result c = let a = c .before .before .before .before .args in some-stride (a .s) (a .i) (c .before .if1 .left)
-
-row-length-requires : tie.Need-row-length-requires
-row-length-requires c κs = search needs
 
 returns-2 : tie.Need-returns-2
 returns-2 c = let a = c .before .before .before .before .before .args in rw (c .row-length .ensures) (holds-some (a .s) (a .i) (c .before .before .if1 .left))
@@ -37,12 +22,12 @@ pub holds-byte-spec : {M : Type 1} → statement M
 holds-byte-spec =
     tie.close
     (tie.spec
-    cast-start
-    cast-stride
+    (λ c. search needs)
+    (λ c. search needs)
     returns
     sub-from
     div-result
-    cast-result
+    (λ c. search needs)
     rem-result
-    row-length-requires
+    (λ c κs. search needs)
     returns-2)

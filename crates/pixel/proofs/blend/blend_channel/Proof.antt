@@ -8,21 +8,6 @@ use borrow.Author.Needs.{needs}
 use Rattle.pixel.proofs.blend.blend_channel.Statement.{statement}
 use Rattle.pixel.proofs.blend.blend_channel.Tie as tie
 
-product-requires : tie.Need-product-requires
-product-requires c κs = search needs
-
-product-requires-2 : tie.Need-product-requires-2
-product-requires-2 c κs = search needs
-
-add-near : tie.Need-add-near
-add-near c = search needs
-
-near-requires : tie.Need-near-requires
-near-requires c κs = search needs
-
-cast-result : tie.Need-cast-result
-cast-result c = search needs
-
 -- what `near` was asked, held
 quotient : (c : tie.After-near) → min 255 (c .near .result) ≡ blendedChannel (c .before .before .before .args .s) (c .before .before .before .args .fs) (c .before .before .before .args .d) (c .before .before .before .args .fd)
 unfolding blendedChannel
@@ -38,10 +23,10 @@ pub blend-channel-spec : {M : Type 1} → statement M
 blend-channel-spec =
     tie.close
     (tie.spec
-    product-requires
-    product-requires-2
-    add-near
-    near-requires
-    cast-result
+    (λ c κs. search needs)
+    (λ c κs. search needs)
+    (λ c. search needs)
+    (λ c κs. search needs)
+    (λ c. search needs)
     returns
     returns-2)

@@ -4,18 +4,13 @@ use borrow.Author.Needs.{needs}
 use Rattle.pixel.proofs.format.widen5.Statement.{statement}
 use Rattle.pixel.proofs.format.widen5.Tie as tie
 
-mul-result : tie.Need-mul-result
-mul-result c = search needs
-
-add-result : tie.Need-add-result
-add-result c = search needs
-
-cast-result : tie.Need-cast-result
-cast-result c = search needs
-
 returns : tie.Need-returns
 unfolding widened
 returns c = refl
 
 pub widen5-spec : {M : Type 1} → statement M
-widen5-spec = tie.close (tie.spec mul-result add-result cast-result returns)
+widen5-spec = tie.close (tie.spec
+    (λ c. search needs)
+    (λ c. search needs)
+    (λ c. search needs)
+    returns)

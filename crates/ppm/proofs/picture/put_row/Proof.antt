@@ -23,9 +23,6 @@ Inv-loop memory start format width out₀ bytes x₀ from₀ to₀ out x from to
 abbrev μ-loop : tie.MeasureT-loop
 μ-loop memory start format width out₀ bytes x₀ from₀ to₀ out x from to = width - x
 
-bytes-requires : tie.Need-bytes-requires Inv-loop μ-loop
-bytes-requires c κs = search needs
-
 loop-holds : tie.Need-loop-holds Inv-loop μ-loop
 loop-holds c = (search needs, search needs, search needs, shown-none _ _, refl)
 
@@ -39,20 +36,8 @@ fits c =
 load-requires : tie.Need-load-requires Inv-loop μ-loop
 load-requires c κs = fits c
 
-put-requires : tie.Need-put-requires Inv-loop μ-loop
-put-requires c κs = search needs
-
 add-from : tie.Need-add-from Inv-loop μ-loop
 add-from c = omega (arith, fits (c .before .before .before .before .before), c .before .before .before .before .before .before .before .bytes .ensures)
-
-add-to : tie.Need-add-to Inv-loop μ-loop
-add-to c = search needs
-
-add-x : tie.Need-add-x Inv-loop μ-loop
-add-x c = search needs
-
-loop-less : tie.Need-loop-less Inv-loop μ-loop
-loop-less c = search needs
 
 loop-again : tie.Need-loop-again Inv-loop μ-loop
 loop-again c =
@@ -68,9 +53,6 @@ loop-again c =
       ap length put ∙ simp length-set (l .inv .4),
     )
 
-same-length : tie.Need-same-length Inv-loop μ-loop
-same-length c = search needs
-
 returns : tie.Need-returns Inv-loop μ-loop
 returns c =
     let l = c .before .loop in
@@ -83,14 +65,14 @@ put-row-spec =
     (tie.spec
     Inv-loop
     μ-loop
-    bytes-requires
+    (λ c κs. search needs)
     loop-holds
     load-requires
-    put-requires
+    (λ c κs. search needs)
     add-from
-    add-to
-    add-x
-    loop-less
+    (λ c. search needs)
+    (λ c. search needs)
+    (λ c. search needs)
     loop-again
-    same-length
+    (λ c. search needs)
     returns)

@@ -24,23 +24,11 @@ has : (c : tie.Else1) →
     hasRoom (a .s) (now (a .memory)) (a .y) (now (a .out)) ≡ true
 has c = rw (c .before .row-length .ensures, c .before .before .row-start .ensures) at (not-false (tested (c .before)) (c .if1 .left))
 
-cast-width : tie.Need-cast-width
-cast-width c = search needs
-
-row-start-requires : tie.Need-row-start-requires
-row-start-requires c κs = search needs
-
-row-length-requires : tie.Need-row-length-requires
-row-length-requires c κs = search needs
-
 add-has-room : tie.Need-add-has-room
 add-has-room c =
     let a = c .before .before .before .before .before .args in
     rw (c .row-length .ensures, c .before .row-start .ensures)
     (omega (arith, pixels-most (a .s .width) (a .s .format) (omega arith), down-most (a .y) (a .s .stride) (omega arith) (omega arith)))
-
-mul-has-room : tie.Need-mul-has-room
-mul-has-room c = search needs
 
 returns : tie.Need-returns
 returns c =
@@ -55,12 +43,6 @@ put-row-requires c κs =
     let room = room-true (a .s) (now (a .memory)) (a .y) (now (a .out)) (has (c .before)) in
     (rw (c .before .before .before .row-start .ensures) (room .0), room .1)
 
-mul-result : tie.Need-mul-result
-mul-result c = search needs
-
-same-length : tie.Need-same-length
-same-length c = search needs
-
 returns-2 : tie.Need-returns-2
 returns-2 c =
     let a = c .before .before .before .before .before .before .before .before .before .before .args in
@@ -70,13 +52,13 @@ pub row-spec : {M : Type 1} → statement M
 row-spec =
     tie.close
     (tie.spec
-    cast-width
-    row-start-requires
-    row-length-requires
+    (λ c. search needs)
+    (λ c κs. search needs)
+    (λ c κs. search needs)
     add-has-room
-    mul-has-room
+    (λ c. search needs)
     returns
     put-row-requires
-    mul-result
-    same-length
+    (λ c. search needs)
+    (λ c. search needs)
     returns-2)

@@ -9,9 +9,6 @@ use Rattle.word.proofs.Tests.{and-true}
 use Rattle.ppm.specs.Rectangle.{pixelOf}
 use Rattle.ppm.proofs.rectangle.pixel_of.Statement.{statement}
 use Rattle.ppm.proofs.rectangle.pixel_of.Tie as tie
-use Rattle.ppm.proofs.rectangle.pixel_of.Reads as reads
-use Rattle.ppm.proofs.rectangle.pixel_of.Lts as lts
-use Rattle.surface.proofs.Surface.pixel_start.Reads as pixel-start-reads
 
 near : (c : tie.Else1) → let a = c .before .args in ltb (a .stride) 65536 && ltb (a .x) 4096 && ltb (a .y) 4096 ≡ true
 near c = let a = c .before .args in not-false (ltb (a .stride) 65536 && ltb (a .x) 4096 && ltb (a .y) 4096) (c .if1 .left)
@@ -39,9 +36,6 @@ cast-pixel-start-2 c = omega (arith, fits c .1)
 cast-pixel-start-3 : tie.Need-cast-pixel-start-3
 cast-pixel-start-3 c = omega (arith, fits c .2)
 
-pixel-start-requires : tie.Need-pixel-start-requires
-pixel-start-requires c κs = search needs
-
 returns-2 : tie.Need-returns-2
 unfolding pixelOf
 returns-2 c = rw (near (c .before), c .pixel-start .ensures)
@@ -54,5 +48,5 @@ pixel-of-spec =
     cast-pixel-start
     cast-pixel-start-2
     cast-pixel-start-3
-    pixel-start-requires
+    (λ c κs. search needs)
     returns-2)

@@ -43,12 +43,6 @@ lies c =
     let last : memory .result .end ≡ 65536 = omega (arith, ap (λ (r : Range). r .end) (memory .ensures)) in
     sym (c .is-inside .ensures ∙ rw (first, last))
 
-is-side-requires : tie.Need-is-side-requires
-is-side-requires c κs = search needs
-
-is-side-requires-2 : tie.Need-is-side-requires-2
-is-side-requires-2 c κs = search needs
-
 returns : tie.Need-returns
 unfolding rectangleOf
 returns c =
@@ -67,12 +61,6 @@ cast-t13 c = omega (arith, fits c .0)
 cast-t14 : tie.Need-cast-t14
 cast-t14 c = omega (arith, fits c .1)
 
-new-requires : tie.Need-new-requires
-new-requires c κs = search needs
-
-is-inside-requires : tie.Need-is-inside-requires
-is-inside-requires c κs = search needs
-
 returns-2 : tie.Need-returns-2
 unfolding rectangleOf
 returns-2 c = rw (good (c .before .before .before), lies (c .before), c .if2 .taken)
@@ -85,13 +73,13 @@ pub rectangle-of-spec : {M : Type 1} → statement M
 rectangle-of-spec =
     tie.close
     (tie.spec
-    is-side-requires
-    is-side-requires-2
+    (λ c κs. search needs)
+    (λ c κs. search needs)
     returns
     cast-t12
     cast-t13
     cast-t14
-    new-requires
-    is-inside-requires
+    (λ c κs. search needs)
+    (λ c κs. search needs)
     returns-2
     returns-3)

@@ -4,31 +4,13 @@ use borrow.Author.Needs.{needs}
 use Rattle.ppm.proofs.words.format_named.Statement.{statement}
 use Rattle.ppm.proofs.words.format_named.Tie as tie
 
-slice-aggregate-equals-ignoring-case : tie.Need-slice-aggregate-equals-ignoring-case
-slice-aggregate-equals-ignoring-case c = search needs
-
-equals-ignoring-case-requires : tie.Need-equals-ignoring-case-requires
-equals-ignoring-case-requires c κs = search needs
-
 returns : tie.Need-returns
 unfolding formatNamed
 returns c = rw (sym (c .before .equals-ignoring-case .ensures) ∙ c .if1 .taken)
 
-slice-aggregate-equals-ignoring-case-2 : tie.Need-slice-aggregate-equals-ignoring-case-2
-slice-aggregate-equals-ignoring-case-2 c = search needs
-
-equals-ignoring-case-requires-2 : tie.Need-equals-ignoring-case-requires-2
-equals-ignoring-case-requires-2 c κs = search needs
-
 returns-2 : tie.Need-returns-2
 unfolding formatNamed
 returns-2 c = rw (sym (c .before .before .before .before .equals-ignoring-case .ensures) ∙ c .before .before .before .if1 .left, sym (c .before .equals-ignoring-case2 .ensures) ∙ c .if2 .taken)
-
-slice-aggregate-equals-ignoring-case-3 : tie.Need-slice-aggregate-equals-ignoring-case-3
-slice-aggregate-equals-ignoring-case-3 c = search needs
-
-equals-ignoring-case-requires-3 : tie.Need-equals-ignoring-case-requires-3
-equals-ignoring-case-requires-3 c κs = search needs
 
 returns-3 : tie.Need-returns-3
 unfolding formatNamed
@@ -42,13 +24,13 @@ pub format-named-spec : {M : Type 1} → statement M
 format-named-spec =
     tie.close
     (tie.spec
-    slice-aggregate-equals-ignoring-case
-    equals-ignoring-case-requires
+    (λ c. search needs)
+    (λ c κs. search needs)
     returns
-    slice-aggregate-equals-ignoring-case-2
-    equals-ignoring-case-requires-2
+    (λ c. search needs)
+    (λ c κs. search needs)
     returns-2
-    slice-aggregate-equals-ignoring-case-3
-    equals-ignoring-case-requires-3
+    (λ c. search needs)
+    (λ c κs. search needs)
     returns-3
     returns-4)

@@ -23,20 +23,8 @@ returns c = sym (number-empty _ (c .if1 .taken))
 loop-holds : tie.Need-loop-holds Inv-loop μ-loop
 loop-holds c = (search needs, search needs, search needs, read-none _)
 
-shared-slice-read-byte : tie.Need-shared-slice-read-byte Inv-loop μ-loop
-shared-slice-read-byte c = search needs
-
-mul-next : tie.Need-mul-next Inv-loop μ-loop
-mul-next c = search needs
-
-digit-value-requires : tie.Need-digit-value-requires Inv-loop μ-loop
-digit-value-requires c κs = search needs
-
 add-next : tie.Need-add-next Inv-loop μ-loop
 add-next c = omega (arith, c .before .shared-slice-known2 .given (c .before .before .before .loop .i))
-
-is-digit-requires : tie.Need-is-digit-requires Inv-loop μ-loop
-is-digit-requires c κs = search needs
 
 returns-2 : tie.Need-returns-2 Inv-loop μ-loop
 returns-2 c =
@@ -45,12 +33,6 @@ returns-2 c =
     let sum : ℕ = l .value * 10 + d .digit-value .result in
     let bad = not-true (c .before .is-digit .result && ltb sum 4294967296) (c .if2 .taken) in
     sym (read-wrong _ (l .value) (l .i) (l .inv .3) (c .before .before .before .before .loop-test .taken) (rw (c .before .is-digit .ensures, d .digit-value .ensures) at bad))
-
-add-i : tie.Need-add-i Inv-loop μ-loop
-add-i c = search needs
-
-loop-less : tie.Need-loop-less Inv-loop μ-loop
-loop-less c = search needs
 
 loop-again : tie.Need-loop-again Inv-loop μ-loop
 loop-again c =
@@ -64,9 +46,6 @@ loop-again c =
       rw (d .digit-value .ensures) (read-more _ (l .value) (l .i) (l .inv .3) (c .before .before .before .before .loop-test .taken) (sym (c .before .is-digit .ensures) ∙ good .0)),
     )
 
-cast-t16 : tie.Need-cast-t16 Inv-loop μ-loop
-cast-t16 c = search needs
-
 returns-3 : tie.Need-returns-3 Inv-loop μ-loop
 returns-3 c = let l = c .before .loop in sym (read-all _ (l .value) (l .i) (l .inv .3) (l .inv .0) (c .loop-test .left) (l .inv .2))
 
@@ -78,14 +57,14 @@ number-of-spec =
     μ-loop
     returns
     loop-holds
-    shared-slice-read-byte
-    mul-next
-    digit-value-requires
+    (λ c. search needs)
+    (λ c. search needs)
+    (λ c κs. search needs)
     add-next
-    is-digit-requires
+    (λ c κs. search needs)
     returns-2
-    add-i
-    loop-less
+    (λ c. search needs)
+    (λ c. search needs)
     loop-again
-    cast-t16
+    (λ c. search needs)
     returns-3)

@@ -2,18 +2,6 @@ use borrow.Author.Needs.{needs}
 use Rattle.register.proofs.table.output_takes.Statement.{statement}
 use Rattle.register.proofs.table.output_takes.Tie as tie
 
-bits-requires : tie.Need-bits-requires
-bits-requires c κs = search needs
-
-bits-requires-2 : tie.Need-bits-requires-2
-bits-requires-2 c κs = search needs
-
-is-code-requires : tie.Need-is-code-requires
-is-code-requires c κs = search needs
-
-bits-requires-3 : tie.Need-bits-requires-3
-bits-requires-3 c κs = search needs
-
 returns : tie.Need-returns
 returns c =
     simp (
@@ -25,4 +13,9 @@ returns c =
 
 pub output-takes-spec : {M : Type 1} → statement M
 output-takes-spec =
-    tie.close (tie.spec bits-requires bits-requires-2 is-code-requires bits-requires-3 returns)
+    tie.close (tie.spec
+    (λ c κs. search needs)
+    (λ c κs. search needs)
+    (λ c κs. search needs)
+    (λ c κs. search needs)
+    returns)

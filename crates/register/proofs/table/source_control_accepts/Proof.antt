@@ -2,24 +2,6 @@ use borrow.Author.Needs.{needs}
 use Rattle.register.proofs.table.source_control_accepts.Statement.{statement}
 use Rattle.register.proofs.table.source_control_accepts.Tie as tie
 
-bits-requires : tie.Need-bits-requires
-bits-requires c κs = search needs
-
-is-code-requires : tie.Need-is-code-requires
-is-code-requires c κs = search needs
-
-bits-requires-2 : tie.Need-bits-requires-2
-bits-requires-2 c κs = search needs
-
-bits-requires-3 : tie.Need-bits-requires-3
-bits-requires-3 c κs = search needs
-
-is-code-requires-2 : tie.Need-is-code-requires-2
-is-code-requires-2 c κs = search needs
-
-bits-requires-4 : tie.Need-bits-requires-4
-bits-requires-4 c κs = search needs
-
 returns : tie.Need-returns
 returns c =
     simp (
@@ -35,10 +17,10 @@ pub source-control-accepts-spec : {M : Type 1} → statement M
 source-control-accepts-spec =
     tie.close
     (tie.spec
-    bits-requires
-    is-code-requires
-    bits-requires-2
-    bits-requires-3
-    is-code-requires-2
-    bits-requires-4
+    (λ c κs. search needs)
+    (λ c κs. search needs)
+    (λ c κs. search needs)
+    (λ c κs. search needs)
+    (λ c κs. search needs)
+    (λ c κs. search needs)
     returns)

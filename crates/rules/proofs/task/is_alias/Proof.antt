@@ -3,12 +3,11 @@ use borrow.Author.Needs.{needs}
 use Rattle.rules.proofs.task.is_alias.Statement.{statement}
 use Rattle.rules.proofs.task.is_alias.Tie as tie
 
-same-format-requires : tie.Need-same-format-requires
-same-format-requires c κs = search needs
-
 returns : tie.Need-returns
 unfolding aliases
 returns c = simp (c .same-format .ensures)
 
 pub is-alias-spec : {M : Type 1} → statement M
-is-alias-spec = tie.close (tie.spec same-format-requires returns)
+is-alias-spec = tie.close (tie.spec
+    (λ c κs. search needs)
+    returns)

@@ -3,18 +3,6 @@ use borrow.Author.Needs.{needs}
 use Rattle.rules.proofs.task.out_of_bounds.Statement.{statement}
 use Rattle.rules.proofs.task.out_of_bounds.Tie as tie
 
-is-buffer-requires : tie.Need-is-buffer-requires
-is-buffer-requires c κs = search needs
-
-is-readable-requires : tie.Need-is-readable-requires
-is-readable-requires c κs = search needs
-
-is-writable-span-requires : tie.Need-is-writable-span-requires
-is-writable-span-requires c κs = search needs
-
-is-readable-requires-2 : tie.Need-is-readable-requires-2
-is-readable-requires-2 c κs = search needs
-
 returns : tie.Need-returns
 unfolding outOfBounds
 returns c =
@@ -28,4 +16,9 @@ returns c =
 pub out-of-bounds-spec : {M : Type 1} → statement M
 out-of-bounds-spec =
     tie.close
-    (tie.spec is-buffer-requires is-readable-requires is-writable-span-requires is-readable-requires-2 returns)
+    (tie.spec
+    (λ c κs. search needs)
+    (λ c κs. search needs)
+    (λ c κs. search needs)
+    (λ c κs. search needs)
+    returns)

@@ -4,14 +4,11 @@ use borrow.Author.Needs.{needs}
 use Rattle.rules.proofs.task.rotated_source_size.Statement.{statement}
 use Rattle.rules.proofs.task.rotated_source_size.Tie as tie
 
-size-of-requires : tie.Need-size-of-requires
-size-of-requires c κs = search needs
-
-rotated-requires : tie.Need-rotated-requires
-rotated-requires c κs = search needs
-
 returns : tie.Need-returns
 returns c = c .rotated .ensures ∙ ap (rotatedSize (c .before .before .before .args .s .transform .rotation)) (c .before .size-of .ensures)
 
 pub rotated-source-size-spec : {M : Type 1} → statement M
-rotated-source-size-spec = tie.close (tie.spec size-of-requires rotated-requires returns)
+rotated-source-size-spec = tie.close (tie.spec
+    (λ c κs. search needs)
+    (λ c κs. search needs)
+    returns)

@@ -6,22 +6,13 @@ use Rattle.surface.proofs.Meet.{rows-turned}
 use Rattle.surface.proofs.Surface.meets.Statement.{statement}
 use Rattle.surface.proofs.Surface.meets.Tie as tie
 
-shares-requires : tie.Need-shares-requires
-shares-requires c κs = search needs
-
 returns : tie.Need-returns
 unfolding surfacesOverlap
 returns c = rw (ne-eqb _ _ (c .before .if1 .taken)) (c .shares .ensures)
 
-meets-later-requires : tie.Need-meets-later-requires
-meets-later-requires c κs = search needs
-
 returns-2 : tie.Need-returns-2
 unfolding surfacesOverlap
 returns-2 c = rw (eq-eqb _ _ (c .before .before .before .before .if1 .left)) (c .meets-later .ensures)
-
-meets-later-requires-2 : tie.Need-meets-later-requires-2
-meets-later-requires-2 c κs = search needs
 
 returns-3 : tie.Need-returns-3
 unfolding surfacesOverlap
@@ -30,4 +21,10 @@ returns-3 c = rw (eq-eqb _ _ (c .before .before .before .before .if1 .left)) (c 
 pub meets-spec : {M : Type 1} → statement M
 meets-spec =
     tie.close
-    (tie.spec shares-requires returns meets-later-requires returns-2 meets-later-requires-2 returns-3)
+    (tie.spec
+    (λ c κs. search needs)
+    returns
+    (λ c κs. search needs)
+    returns-2
+    (λ c κs. search needs)
+    returns-3)

@@ -22,33 +22,15 @@ first c =
     k)
     (c .before .if1 .came)
 
-cast-start : tie.Need-cast-start
-cast-start c = search needs
-
-row-length-requires : tie.Need-row-length-requires
-row-length-requires c κs = search needs
-
 add-end : tie.Need-add-end
 add-end c =
     let a = c .before .before .args in
     omega (arith, c .row-length .ensures, pixels-most (a .self .width) (a .self .format) (omega arith))
 
-cast-from : tie.Need-cast-from
-cast-from c = search needs
-
-row-length-requires-2 : tie.Need-row-length-requires-2
-row-length-requires-2 c κs = search needs
-
 add-to : tie.Need-add-to
 add-to c =
     let a = c .before .before .before .before .args in
     omega (arith, c .row-length2 .ensures, pixels-most (a .later .width) (a .later .format) (omega arith))
-
-cast-stride : tie.Need-cast-stride
-cast-stride c = search needs
-
-div-y : tie.Need-div-y
-div-y c = search needs
 
 add-y : tie.Need-add-y
 add-y c =
@@ -67,12 +49,6 @@ add-t18 c =
     let a = s .args in
     omega (arith, first-down (a .self) (a .later) (s .pre) _ (first c), c .before .before .before .before .before .row-length .ensures, pixels-most (a .self .width) (a .self .format) (omega arith))
 
-cast-result : tie.Need-cast-result
-cast-result c = search needs
-
-shares-requires : tie.Need-shares-requires
-shares-requires c κs = search needs
-
 returns : tie.Need-returns
 returns c =
     let k = c .before .before .before in
@@ -85,18 +61,18 @@ pub meets-later-spec : {M : Type 1} → statement M
 meets-later-spec =
     tie.close
     (tie.spec
-    cast-start
-    row-length-requires
+    (λ c. search needs)
+    (λ c κs. search needs)
     add-end
-    cast-from
-    row-length-requires-2
+    (λ c. search needs)
+    (λ c κs. search needs)
     add-to
-    cast-stride
-    div-y
+    (λ c. search needs)
+    (λ c. search needs)
     add-y
     mul-down
     add-result
     add-t18
-    cast-result
-    shares-requires
+    (λ c. search needs)
+    (λ c κs. search needs)
     returns)

@@ -4,12 +4,6 @@ use Rattle.surface.proofs.Sizes.{pixels-most, down-most}
 use Rattle.surface.proofs.Surface.pixel_start.Statement.{statement}
 use Rattle.surface.proofs.Surface.pixel_start.Tie as tie
 
-row-start-requires : tie.Need-row-start-requires
-row-start-requires c κs = search needs
-
-bytes-requires : tie.Need-bytes-requires
-bytes-requires c κs = search needs
-
 mul-result : tie.Need-mul-result
 mul-result c =
     let a = c .before .before .args in
@@ -26,4 +20,9 @@ returns : tie.Need-returns
 returns c = cc
 
 pub pixel-start-spec : {M : Type 1} → statement M
-pixel-start-spec = tie.close (tie.spec row-start-requires bytes-requires mul-result add-result returns)
+pixel-start-spec = tie.close (tie.spec
+    (λ c κs. search needs)
+    (λ c κs. search needs)
+    mul-result
+    add-result
+    returns)

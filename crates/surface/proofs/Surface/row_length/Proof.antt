@@ -4,12 +4,6 @@ use Rattle.surface.proofs.Sizes.{pixels-most}
 use Rattle.surface.proofs.Surface.row_length.Statement.{statement}
 use Rattle.surface.proofs.Surface.row_length.Tie as tie
 
-cast-result : tie.Need-cast-result
-cast-result c = search needs
-
-bytes-requires : tie.Need-bytes-requires
-bytes-requires c κs = search needs
-
 mul-result : tie.Need-mul-result
 mul-result c =
     let self = c .before .before .args .self in
@@ -19,4 +13,8 @@ returns : tie.Need-returns
 returns c = cc
 
 pub row-length-spec : {M : Type 1} → statement M
-row-length-spec = tie.close (tie.spec cast-result bytes-requires mul-result returns)
+row-length-spec = tie.close (tie.spec
+    (λ c. search needs)
+    (λ c κs. search needs)
+    mul-result
+    returns)

@@ -13,18 +13,6 @@ use Rattle.surface.proofs.Surface.span.Tie as tie
 last-row : (c : tie.After-row-length) → c .before .before .if1 .last ≡ c .before .before .before .before .before .args .self .height - 1
 last-row c = ⊎-elim (λ a. omega arith) (λ a. omega arith) (c .before .before .if1 .came)
 
-cast-start : tie.Need-cast-start
-cast-start c = search needs
-
-sub-last : tie.Need-sub-last
-sub-last c = search needs
-
-row-start-requires : tie.Need-row-start-requires
-row-start-requires c κs = search needs
-
-row-length-requires : tie.Need-row-length-requires
-row-length-requires c κs = search needs
-
 add-t8 : tie.Need-add-t8
 add-t8 c =
     let self = c .before .before .before .before .before .args .self in
@@ -40,4 +28,10 @@ returns c =
     rw end
 
 pub span-spec : {M : Type 1} → statement M
-span-spec = tie.close (tie.spec cast-start sub-last row-start-requires row-length-requires add-t8 returns)
+span-spec = tie.close (tie.spec
+    (λ c. search needs)
+    (λ c. search needs)
+    (λ c κs. search needs)
+    (λ c κs. search needs)
+    add-t8
+    returns)

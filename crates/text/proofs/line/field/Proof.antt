@@ -6,15 +6,6 @@ use borrow.Author.Needs.{needs}
 use Rattle.text.proofs.line.field.Statement.{statement}
 use Rattle.text.proofs.line.field.Tie as tie
 
-push-requires : tie.Need-push-requires
-push-requires c κs = search needs
-
-decimal-requires : tie.Need-decimal-requires
-decimal-requires c κs = search needs
-
-same-length : tie.Need-same-length
-same-length c = search needs
-
 returns : tie.Need-returns
 returns c =
     let a = c .before .before .before .before .before .before .before .before .before .args in
@@ -22,4 +13,8 @@ returns c =
     (d .0 ∙ ap (λ (l : Line). appended l (decimal (a .value))) (c .before .before .before .before .before .before .push .ensures) ∙ sym (typed-cons (lineOf (a .line .now) (a .n)) 32 (decimal (a .value))), d .1)
 
 pub field-spec : {M : Type 1} → statement M
-field-spec = tie.close (tie.spec push-requires decimal-requires same-length returns)
+field-spec = tie.close (tie.spec
+    (λ c κs. search needs)
+    (λ c κs. search needs)
+    (λ c. search needs)
+    returns)

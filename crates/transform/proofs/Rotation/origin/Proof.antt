@@ -3,12 +3,6 @@ use borrow.Author.Needs.{needs}
 use Rattle.transform.proofs.Rotation.origin.Statement.{statement}
 use Rattle.transform.proofs.Rotation.origin.Tie as tie
 
-enum-told : tie.Need-enum-told
-enum-told c = search needs
-
-enum-told-2 : tie.Need-enum-told-2
-enum-told-2 c = search needs
-
 sub-t9 : tie.Need-sub-t9
 sub-t9 c =
     let w = rw (c .enum-told2 .given .1) at (c .before .before .pre) in
@@ -18,9 +12,6 @@ sub-t10 : tie.Need-sub-t10
 sub-t10 c =
     let w = rw (c .enum-told2 .given .1) at (c .before .before .pre) in
     omega (arith, w .across, w .down)
-
-enum-told-3 : tie.Need-enum-told-3
-enum-told-3 c = search needs
 
 sub-t11 : tie.Need-sub-t11
 sub-t11 c =
@@ -42,9 +33,6 @@ sub-t14 c =
     let w = rw (c .enum-told3 .given .1) at (c .before .before .pre) in
     omega (arith, w .across, w .down)
 
-enum-told-4 : tie.Need-enum-told-4
-enum-told-4 c = search needs
-
 sub-t15 : tie.Need-sub-t15
 sub-t15 c =
     let w = rw (c .enum-told4 .given .1) at (c .before .before .pre) in
@@ -54,9 +42,6 @@ sub-t16 : tie.Need-sub-t16
 sub-t16 c =
     let w = rw (c .enum-told4 .given .1) at (c .before .before .pre) in
     omega (arith, w .across, w .down)
-
-returns : tie.Need-returns
-returns c = search needs
 
 returns-2 : tie.Need-returns-2
 returns-2 c = rw (c .enum-told2 .given .1)
@@ -71,19 +56,19 @@ pub origin-spec : {M : Type 1} → statement M
 origin-spec =
     tie.close
     (tie.spec
-    enum-told
-    enum-told-2
+    (λ c. search needs)
+    (λ c. search needs)
     sub-t9
     sub-t10
-    enum-told-3
+    (λ c. search needs)
     sub-t11
     sub-t12
     sub-t13
     sub-t14
-    enum-told-4
+    (λ c. search needs)
     sub-t15
     sub-t16
-    returns
+    (λ c. search needs)
     returns-2
     returns-3
     returns-4)

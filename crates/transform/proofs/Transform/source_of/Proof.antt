@@ -4,9 +4,6 @@ use borrow.Author.Needs.{needs}
 use Rattle.transform.proofs.Transform.source_of.Statement.{statement}
 use Rattle.transform.proofs.Transform.source_of.Tie as tie
 
-origin-requires : tie.Need-origin-requires
-origin-requires c κs = search needs
-
 origin-requires-2 : tie.Need-origin-requires-2
 origin-requires-2 c κs =
     let s = c .before .before in
@@ -18,4 +15,7 @@ unfolding sourcePixel
 returns c = cc
 
 pub source-of-spec : {M : Type 1} → statement M
-source-of-spec = tie.close (tie.spec origin-requires origin-requires-2 returns)
+source-of-spec = tie.close (tie.spec
+    (λ c κs. search needs)
+    origin-requires-2
+    returns)

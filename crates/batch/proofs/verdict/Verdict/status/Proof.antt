@@ -8,30 +8,6 @@ use borrow.Author.Needs.{needs}
 use Rattle.batch.proofs.verdict.Verdict.status.Statement.{statement}
 use Rattle.batch.proofs.verdict.Verdict.status.Tie as tie
 
-enum-known-self : tie.Need-enum-known-self
-enum-known-self c = search needs
-
-cast-result : tie.Need-cast-result
-cast-result c = search needs
-
-mul-result : tie.Need-mul-result
-mul-result c = search needs
-
-add-result : tie.Need-add-result
-add-result c = search needs
-
-enum-known-self-2 : tie.Need-enum-known-self-2
-enum-known-self-2 c = search needs
-
-cast-result-2 : tie.Need-cast-result-2
-cast-result-2 c = search needs
-
-mul-result-2 : tie.Need-mul-result-2
-mul-result-2 c = search needs
-
-status-requires : tie.Need-status-requires
-status-requires c κs = search needs
-
 add-result-2 : tie.Need-add-result-2
 add-result-2 c = search (needs, c .status .ensures, fault-small (c .before .before .self2 .given .0 .1 .0))
 
@@ -49,14 +25,14 @@ pub status-spec : {M : Type 1} → statement M
 status-spec =
     tie.close
     (tie.spec
-    enum-known-self
-    cast-result
-    mul-result
-    add-result
-    enum-known-self-2
-    cast-result-2
-    mul-result-2
-    status-requires
+    (λ c. search needs)
+    (λ c. search needs)
+    (λ c. search needs)
+    (λ c. search needs)
+    (λ c. search needs)
+    (λ c. search needs)
+    (λ c. search needs)
+    (λ c κs. search needs)
     add-result-2
     returns
     returns-2)

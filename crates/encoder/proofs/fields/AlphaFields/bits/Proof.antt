@@ -16,8 +16,9 @@ mul-result-2 c = omega (arith, fits (c .before .before))
 add-result : tie.Need-add-result
 add-result c = omega (arith, fits (c .before .before))
 
-returns : tie.Need-returns
-returns c = search needs
-
 pub bits-spec : {M : Type 1} → statement M
-bits-spec = tie.close (tie.spec mul-result mul-result-2 add-result returns)
+bits-spec = tie.close (tie.spec
+    mul-result
+    mul-result-2
+    add-result
+    (λ c. search needs))

@@ -2,12 +2,6 @@ use borrow.Author.Needs.{needs}
 use Rattle.encoder.proofs.fields.BlendingFields.reset.Statement.{statement}
 use Rattle.encoder.proofs.fields.BlendingFields.reset.Tie as tie
 
-enum-told : tie.Need-enum-told
-enum-told c = search needs
-
-enum-told-2 : tie.Need-enum-told-2
-enum-told-2 c = search needs
-
 returns : tie.Need-returns
 returns c = rw (c .enum-told .given .1)
 
@@ -15,4 +9,8 @@ returns-2 : tie.Need-returns-2
 returns-2 c = rw (c .enum-told2 .given .1)
 
 pub reset-spec : {M : Type 1} → statement M
-reset-spec = tie.close (tie.spec enum-told enum-told-2 returns returns-2)
+reset-spec = tie.close (tie.spec
+    (λ c. search needs)
+    (λ c. search needs)
+    returns
+    returns-2)

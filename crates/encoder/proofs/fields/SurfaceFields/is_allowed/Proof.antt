@@ -3,12 +3,11 @@ use Rattle.encoder.specs.Fields.{surfaceAllowed}
 use Rattle.encoder.proofs.fields.SurfaceFields.is_allowed.Statement.{statement}
 use Rattle.encoder.proofs.fields.SurfaceFields.is_allowed.Tie as tie
 
-is-code-requires : tie.Need-is-code-requires
-is-code-requires c κs = search needs
-
 returns : tie.Need-returns
 unfolding surfaceAllowed
 returns c = simp (c .is-code .ensures)
 
 pub is-allowed-spec : {M : Type 1} → statement M
-is-allowed-spec = tie.close (tie.spec is-code-requires returns)
+is-allowed-spec = tie.close (tie.spec
+    (λ c κs. search needs)
+    returns)

@@ -22,9 +22,12 @@ mul-result-3 c = omega (arith, fits (c .before .before .before))
 add-result-2 : tie.Need-add-result-2
 add-result-2 c = omega (arith, fits (c .before .before .before))
 
-returns : tie.Need-returns
-returns c = search needs
-
 pub bits-spec : {M : Type 1} → statement M
 bits-spec =
-    tie.close (tie.spec mul-result mul-result-2 add-result mul-result-3 add-result-2 returns)
+    tie.close (tie.spec
+    mul-result
+    mul-result-2
+    add-result
+    mul-result-3
+    add-result-2
+    (λ c. search needs))

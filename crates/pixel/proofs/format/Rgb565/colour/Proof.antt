@@ -6,15 +6,6 @@ use borrow.Author.Needs.{needs}
 use Rattle.pixel.proofs.format.Rgb565.colour.Statement.{statement}
 use Rattle.pixel.proofs.format.Rgb565.colour.Tie as tie
 
-widen5-requires : tie.Need-widen5-requires
-widen5-requires c κs = search needs
-
-widen6-requires : tie.Need-widen6-requires
-widen6-requires c κs = search needs
-
-widen5-requires-2 : tie.Need-widen5-requires-2
-widen5-requires-2 c κs = search needs
-
 returns : tie.Need-returns
 unfolding unpacked
 returns c =
@@ -23,4 +14,8 @@ returns c =
     rw low (cc)
 
 pub colour-spec : {M : Type 1} → statement M
-colour-spec = tie.close (tie.spec widen5-requires widen6-requires widen5-requires-2 returns)
+colour-spec = tie.close (tie.spec
+    (λ c κs. search needs)
+    (λ c κs. search needs)
+    (λ c κs. search needs)
+    returns)

@@ -7,15 +7,6 @@ use borrow.Author.Needs.{needs}
 use Rattle.pixel.proofs.format.Rgb888.colour.Statement.{statement}
 use Rattle.pixel.proofs.format.Rgb888.colour.Tie as tie
 
-cast-t5 : tie.Need-cast-t5
-cast-t5 c = search needs
-
-cast-t8 : tie.Need-cast-t8
-cast-t8 c = search needs
-
-cast-t10 : tie.Need-cast-t10
-cast-t10 c = search needs
-
 returns : tie.Need-returns
 unfolding unpacked
 returns c =
@@ -24,4 +15,8 @@ returns c =
     rw (widened-byte (w / 65536 % 256) (omega arith), widened-byte (w / 256 % 256) (omega arith), widened-byte (w / 1 % 256) (omega arith), low)
 
 pub colour-spec : {M : Type 1} → statement M
-colour-spec = tie.close (tie.spec cast-t5 cast-t8 cast-t10 returns)
+colour-spec = tie.close (tie.spec
+    (λ c. search needs)
+    (λ c. search needs)
+    (λ c. search needs)
+    returns)

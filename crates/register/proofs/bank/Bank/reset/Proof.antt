@@ -2,11 +2,10 @@ use borrow.Author.Needs.{needs}
 use Rattle.register.proofs.bank.Bank.reset.Statement.{statement}
 use Rattle.register.proofs.bank.Bank.reset.Tie as tie
 
-blending-requires : tie.Need-blending-requires
-blending-requires c κs = search needs
-
 returns : tie.Need-returns
 returns c = simp (c .blending .ensures)
 
 pub reset-spec : {M : Type 1} → statement M
-reset-spec = tie.close (tie.spec blending-requires returns)
+reset-spec = tie.close (tie.spec
+    (λ c κs. search needs)
+    returns)

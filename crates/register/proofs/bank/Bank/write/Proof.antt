@@ -8,18 +8,6 @@ use borrow.Author.Needs.{needs}
 use Rattle.register.proofs.bank.Bank.write.Statement.{statement}
 use Rattle.register.proofs.bank.Bank.write.Tie as tie
 
-at-requires : tie.Need-at-requires
-at-requires c κs = search needs
-
-is-writable-requires : tie.Need-is-writable-requires
-is-writable-requires c κs = search needs
-
-takes-requires : tie.Need-takes-requires
-takes-requires c κs = search needs
-
-store-requires : tie.Need-store-requires
-store-requires c κs = search needs
-
 returns : tie.Need-returns
 unfolding writeRegister
 returns c =
@@ -47,10 +35,10 @@ pub write-spec : {M : Type 1} → statement M
 write-spec =
     tie.close
     (tie.spec
-    at-requires
-    is-writable-requires
-    takes-requires
-    store-requires
+    (λ c κs. search needs)
+    (λ c κs. search needs)
+    (λ c κs. search needs)
+    (λ c κs. search needs)
     returns
     returns-2
     returns-3)
