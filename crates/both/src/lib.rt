@@ -14,7 +14,7 @@ pub struct Both {
 pub fn run_both(engine: Record, ring: &[u8], memory: &mut [u8], copy: &mut [u8]) -> Both
     ensures { λ r. ⌜ (now (memory .entry) ≡ now (copy .entry) → Same r (now (memory .exit)) (now (copy .exit))) ⌝ }
 {
-    let fast = engine::run_by(engine, ring, memory, false);
-    let slow = engine::run_by(engine, ring, copy, true);
+    let fast = run::run_by(engine, ring, memory, false);
+    let slow = run::run_by(engine, ring, copy, true);
     Both { fast, slow }
 }

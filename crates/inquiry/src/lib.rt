@@ -16,15 +16,12 @@ ghost use Rattle.records.specs.Reading.{Lies};
 ghost use Rattle.lines.specs.Answered.{recordRefusal, replayWindow};
 ghost use Rattle.provenance.specs.Faulted.{explained};
 ghost use Rattle.inquiry.specs.declared.Question.{Question};
-ghost use Rattle.provenance.specs.Answers.{touchedAnswer, faultAnswer};
 ghost use Rattle.inquiry.specs.Inquiry.{findingNext, findingOn, Stands, Feeds};
 
 pub mod faulted;
 pub mod last;
 
-use provenance::FaultAnswer;
 use provenance::Touched;
-use provenance::TouchedAnswer;
 use provenance::Why;
 use range::Range;
 use records::Edition;
@@ -196,24 +193,4 @@ pub fn feed_piece(question: Question, inquiry: Inquiry, held: &mut [u8], piece: 
         }
     }
     current
-}
-
-// ---- the answers
-
-// Who drew the byte last, at the end of the file.
-pub fn who_touched(question: Question, inquiry: Inquiry) -> TouchedAnswer
-    ensures { λ r. ⌜ ((seen held : List ℕ) → Stands question seen inquiry held → r ≡ touchedAnswer (records First seen) (question .address)) ⌝ }
-{
-    let finding = inquiry.finding;
-    let touched = finding.touched;
-    provenance::tell_touched(finding.records, question.address, touched)
-}
-
-// Why the batch with the ticket faulted, at the end of the file.
-pub fn why_faulted(question: Question, inquiry: Inquiry) -> FaultAnswer
-    ensures { λ r. ⌜ ((seen held : List ℕ) → Stands question seen inquiry held → r ≡ faultAnswer (records First seen) (question .ticket)) ⌝ }
-{
-    let finding = inquiry.finding;
-    let why = finding.why;
-    provenance::tell_fault(finding.records, why)
 }

@@ -47,15 +47,15 @@ struct Served {
 pub fn start(edition: Edition) -> Replay
     ensures { λ r. ⌜ r ≡ atStart edition ⌝ }
 {
-    let none = engine::set_up(32768, 65536, 16384, editions::reset_of(edition));
+    let none = clients::set_up(32768, 65536, 16384, editions::reset_of(edition));
     let first = none.engine;
-    let one = engine::open(first, 16384, 12288);
+    let one = clients::open(first, 16384, 12288);
     let second = one.engine;
-    let two = engine::open(second, 28672, 12288);
+    let two = clients::open(second, 28672, 12288);
     let third = two.engine;
-    let three = engine::open(third, 40960, 12288);
+    let three = clients::open(third, 40960, 12288);
     let fourth = three.engine;
-    let four = engine::open(fourth, 53248, 12288);
+    let four = clients::open(fourth, 53248, 12288);
     let engine = four.engine;
     Replay {
         edition: edition,
@@ -131,7 +131,7 @@ fn serve(
         (submitAndRun (record { client = client; batch = now (batch .entry) }) (mkState engine (now (ring .entry)) (now (memory .entry))) .after)
         (now (line .entry)) r (now (ring .exit)) (now (memory .exit)) (now (line .exit)) ⌝ }
 {
-    let submitted = engine::submit(engine, ring, client, batch);
+    let submitted = submission::submit(engine, ring, client, batch);
     let answer = submitted.answer;
     let waiting = submitted.engine;
     let number = number_of(answer);
@@ -141,7 +141,7 @@ fn serve(
             written: refusal_line(line, client, number),
         };
     }
-    let ran = engine::run_by(waiting, ring, memory, slow);
+    let ran = run::run_by(waiting, ring, memory, slow);
     let outcome = ran.outcome;
     let after = ran.engine;
     Served {

@@ -2,132 +2,13 @@
 // which bytes the system reads, or what it does with those that it is to write; that the memory is what some bytes make of it is proved,
 // and how many bytes were handed over to be written: as many as the lines of those bytes have.
 ghost use mathlib.Core.Path.{_≡_};
-ghost use mathlib.Core.Bool.{true, false, cond};
-ghost use mathlib.Core.List.{List};
-ghost use Prim.Native.Nat.{ℕ};
-ghost use lib.ListN.{length};
-ghost use lib.Dec.{leb};
 ghost use Rattle.claims.specs.Engine.{State};
 ghost use Rattle.records.specs.declared.Edition.{Edition};
-ghost use Rattle.replay.specs.Chunking.{Stands};
-ghost use Rattle.replay_io.specs.Gather.{FeedLinesContract};
-ghost use Rattle.replay_io.specs.Reached.{handedOf, PieceFed, Reached, Finishes, Replayed};
-use command::Printed;
+ghost use Rattle.replay_pieces.specs.Reached.{Reached, Replayed};
 use records::Edition;
-use replay::Fed;
 use replay::Replay;
-
-// The longest line has room in so many bytes.
-const LINE: usize = 128;
-
-// A replay under way: how many bytes were handed to the system to write (modulo 2 to the 64th), whether there may be more to read,
-// and whether nothing has failed so far.
-struct Progress {
-    replay: Replay,
-    handed: u64,
-    more: bool,
-    well: bool,
-}
-
-// Feeds what the lines have room for: the bytes used of the input, and those written of `out`, line after line.
-fn feed_lines(
-    replay: Replay,
-    held: &mut [u8],
-    ring: &mut [u8],
-    memory: &mut [u8],
-    input: &[u8],
-    out: &mut [u8],
-    slow: bool,
-) -> Fed
-    ensures { λ r. ⌜ FeedLinesContract replay (now (held .entry)) (now (ring .entry)) (now (memory .entry)) (now (input .entry)) (now (out .entry))
-        r (now (held .exit)) (now (ring .exit)) (now (memory .exit)) (now (out .exit)) ⌝ }
-{
-    let mut now = replay;
-    let mut used = 0;
-    let mut written = 0;
-    while (used < input.len()) & (LINE <= out.len() - written) {
-        let fed = replay::feed(
-            now,
-            held,
-            ring,
-            memory,
-            &input[used..],
-            &mut out[written..],
-            slow,
-        );
-        let after = fed.replay;
-        let taken = fed.used;
-        now = after;
-        written += fed.written;
-        used += taken;
-        // It happens only where `held` is too short.
-        if taken == 0 {
-            break;
-        }
-    }
-    Fed {
-        replay: now,
-        used,
-        written,
-    }
-}
-
-// Prints the first n bytes of `out`, if lines are to be shown.
-fn show(shows: bool, out: &[u8], n: usize) -> Printed
-    ensures { λ r. ⌜ r .size ≡ cond shows (cond (leb n (length (now (out .entry)))) n 0) 0 ⌝ }
-{
-    if shows {
-        return command::print(out, n);
-    }
-    Printed {
-        size: 0,
-        well: true,
-    }
-}
-
-// Feeds a piece of the file, whole.
-fn feed_piece(
-    replay: Replay,
-    held: &mut [u8],
-    ring: &mut [u8],
-    memory: &mut [u8],
-    piece: &[u8],
-    handed: u64,
-    shows: bool,
-    slow: bool,
-) -> Progress
-    ensures { λ r. ⌜ ((engine : State) (seen text : List ℕ) → Stands engine seen text replay (now (held .entry)) (now (ring .entry)) (now (memory .entry))
-        → handed ≡ handedOf shows text
-        → PieceFed (replay .edition) engine seen text (now (piece .entry)) shows (r .replay) (r .handed) (r .well)
-        (now (held .exit)) (now (ring .exit)) (now (memory .exit))) ⌝ }
-{
-    let mut out = io::large_buffer();
-    let mut now = replay;
-    let mut used = 0;
-    let mut sum = handed;
-    let mut well = true;
-    while (used < piece.len()) & well {
-        let fed = feed_lines(now, held, ring, memory, &piece[used..], &mut out, slow);
-        let after = fed.replay;
-        let count = fed.used;
-        now = after;
-        used += count;
-        let printed = show(shows, &out, fed.written);
-        sum = std::num::wrapping_add_u64(sum, printed.size as u64);
-        well = printed.well;
-        // It happens only where a buffer is too short.
-        if count == 0 {
-            well = false;
-            break;
-        }
-    }
-    Progress {
-        replay: now,
-        handed: sum,
-        more: well,
-        well,
-    }
-}
+use replay_lines::LINE;
+use replay_pieces::Progress;
 
 // Reads once, and feeds what came.
 fn read_some(
@@ -154,7 +35,7 @@ fn read_some(
             well: got.well,
         };
     }
-    feed_piece(
+    replay_pieces::feed_piece(
         replay,
         held,
         ring,
@@ -198,14 +79,6 @@ fn read_all(
     progress
 }
 
-// The end of the file: its last line, if it has one, printed into a lent line and shown or not.
-fn finish(replay: Replay, line: &mut [u8], shows: bool) -> Printed
-    ensures { λ r. ⌜ Finishes replay shows (now (line .entry)) (r .size) (now (line .exit)) ⌝ }
-{
-    let n = replay::finish(replay, line);
-    show(shows, line, n)
-}
-
 // What a replay came to: how many bytes were handed to the system to write (modulo 2 to the 64th), and whether nothing failed.
 pub struct Replaying {
     pub handed: u64,
@@ -237,7 +110,7 @@ pub fn replay_from(
         };
     }
     let mut line = [0u8; LINE];
-    let last = finish(replay, &mut line, shows);
+    let last = replay_pieces::finish(replay, &mut line, shows);
     Replaying {
         handed: std::num::wrapping_add_u64(done.handed, last.size as u64),
         well: last.well,

@@ -72,27 +72,27 @@ fn play_call(
         (mkState (r .engine) (now (ring .exit)) (now (memory .exit))) (r .words) ⌝ }
 {
     match request {
-        Request::Open(start, length) => step_of(engine::open(engine, start, length)),
-        Request::Submit(client, from, to) => step_of(engine::submit(
+        Request::Open(start, length) => step_of(clients::open(engine, start, length)),
+        Request::Submit(client, from, to) => step_of(submission::submit(
             engine,
             ring,
             client,
             &bytes[from..to],
         )),
-        Request::Run => step_of_run(engine::run(engine, ring, memory)),
+        Request::Run => step_of_run(run::run(engine, ring, memory)),
         Request::Pending(client) => Step {
-            words: answers::answer_words(engine::pending(engine, client)),
+            words: answers::answer_words(clients::pending(engine, client)),
             engine: engine,
         },
-        Request::Begin(client, total) => step_of(engine::begin(engine, ring, client, total)),
-        Request::Piece(client, from, to) => step_of_piece(engine::piece(
+        Request::Begin(client, total) => step_of(submission::begin(engine, ring, client, total)),
+        Request::Piece(client, from, to) => step_of_piece(submission::piece(
             engine,
             ring,
             client,
             &bytes[from..to],
         )),
-        Request::Cancel(client) => step_of(engine::cancel(engine, client)),
-        Request::Close(client) => step_of(engine::close(engine, memory, client)),
+        Request::Cancel(client) => step_of(submission::cancel(engine, client)),
+        Request::Close(client) => step_of(closing::close(engine, memory, client)),
     }
 }
 
@@ -150,7 +150,7 @@ pub fn play(
     if answers.len() < 24 {
         return 0;
     }
-    let reply = engine::set_up(ring_length, memory_length, common_length, reset);
+    let reply = clients::set_up(ring_length, memory_length, common_length, reset);
     let engine = reply.engine;
     let told = reply.answer;
     let words = answers::answer_words(told);

@@ -58,7 +58,7 @@ pub extern "C" fn wenditsal_set_up(
 ) -> u32
     ensures { λ r. ⌜ SetsUp (now (engine .entry)) ring memory common (ruleOf reset) r (now (engine .exit)) ⌝ }
 {
-    calls::set_up(engine, ring, memory, common, ResetRule::from_number(reset))
+    client_calls::set_up(engine, ring, memory, common, ResetRule::from_number(reset))
 }
 
 // Opens a client with a window; answers its id.
@@ -71,7 +71,7 @@ pub extern "C" fn wenditsal_open(
 ) -> u32
     ensures { λ r. ⌜ Opens (now (engine .entry)) (record { start = start; length = length }) r (now (client .exit)) (now (engine .exit)) ⌝ }
 {
-    calls::open(engine, start, length, client)
+    client_calls::open(engine, start, length, client)
 }
 
 // Puts a client's batch into the ring and the queue; answers its ticket.
@@ -86,7 +86,7 @@ pub extern "C" fn wenditsal_submit(
     ensures { λ r. ⌜ Submits (now (engine .entry)) (now (ring .entry)) client (now (batch .entry))
         r (now (ticket .exit)) (now (engine .exit)) (now (ring .exit)) ⌝ }
 {
-    calls::submit(engine, ring, client, batch, ticket)
+    batch_calls::submit(engine, ring, client, batch, ticket)
 }
 
 // Begins a batch of a total length that a client hands over by pieces.
@@ -94,7 +94,7 @@ pub extern "C" fn wenditsal_submit(
 pub extern "C" fn wenditsal_begin(engine: &mut [u8], ring: &[u8], client: u32, total: usize) -> u32
     ensures { λ r. ⌜ Begins (now (engine .entry)) (now (ring .entry)) client total r (now (engine .exit)) ⌝ }
 {
-    calls::begin(engine, ring, client, total)
+    batch_calls::begin(engine, ring, client, total)
 }
 
 // Hands over a piece of it; answers 0 and the bytes still to come, or, of the last, 1 and the ticket. The header has these two as a structure.
@@ -109,7 +109,7 @@ pub extern "C" fn wenditsal_piece(
     ensures { λ r. ⌜ HandsOver (now (engine .entry)) (now (ring .entry)) client (now (piece .entry))
         r (now (progress .exit)) (now (engine .exit)) (now (ring .exit)) ⌝ }
 {
-    calls::piece(engine, ring, client, piece, progress)
+    batch_calls::piece(engine, ring, client, piece, progress)
 }
 
 // Drops it.
@@ -117,7 +117,7 @@ pub extern "C" fn wenditsal_piece(
 pub extern "C" fn wenditsal_cancel(engine: &mut [u8], client: u32) -> u32
     ensures { λ r. ⌜ Cancels (now (engine .entry)) client r (now (engine .exit)) ⌝ }
 {
-    calls::cancel(engine, client)
+    batch_calls::cancel(engine, client)
 }
 
 // Closes a client: its window is filled with zeros, and its id and window are free.
@@ -125,7 +125,7 @@ pub extern "C" fn wenditsal_cancel(engine: &mut [u8], client: u32) -> u32
 pub extern "C" fn wenditsal_close(engine: &mut [u8], memory: &mut [u8], client: u32) -> u32
     ensures { λ r. ⌜ Closes (now (engine .entry)) (now (memory .entry)) client r (now (engine .exit)) (now (memory .exit)) ⌝ }
 {
-    calls::close(engine, memory, client)
+    client_calls::close(engine, memory, client)
 }
 
 // Takes the oldest batch; answers client, ticket, status, fault and place. The header has these five as a structure.
@@ -139,7 +139,7 @@ pub extern "C" fn wenditsal_run(
     ensures { λ r. ⌜ Runs (now (engine .entry)) (now (ring .entry)) (now (memory .entry))
         r (now (completion .exit)) (now (engine .exit)) (now (memory .exit)) ⌝ }
 {
-    calls::run(engine, ring, memory, completion)
+    batch_calls::run(engine, ring, memory, completion)
 }
 
 // Answers how many batches of a client are ready.
@@ -147,7 +147,7 @@ pub extern "C" fn wenditsal_run(
 pub extern "C" fn wenditsal_pending(engine: &[u8], client: u32, count: &mut u32) -> u32
     ensures { λ r. ⌜ Pends (now (engine .entry)) client r (now (count .exit)) ⌝ }
 {
-    calls::pending(engine, client, count)
+    client_calls::pending(engine, client, count)
 }
 
 // Writes the 80 bytes of the batch of the one task with these fields to a buffer.

@@ -2,7 +2,7 @@ use mathlib.Core.Path.{_≡_}
 use lib.ListN.{length}
 use Rattle.claims.specs.Engine.{State}
 use Rattle.records.specs.declared.Edition.{Edition}
-use Rattle.replay_io.specs.Reached.{Reached}
+use Rattle.replay_pieces.specs.Reached.{Reached}
 use borrow.Author.Needs.{needs}
 use Rattle.replay_io.proofs.read_all.Statement.{statement}
 use Rattle.replay_io.proofs.read_all.Tie as tie

@@ -1,4 +1,4 @@
-use Rattle.replay_io.proofs.Reaching.{piece-reached}
+use Rattle.replay_pieces.proofs.Reaching.{piece-reached}
 use borrow.Author.Needs.{needs}
 use Rattle.replay_io.proofs.read_some.Statement.{statement}
 use Rattle.replay_io.proofs.read_some.Tie as tie

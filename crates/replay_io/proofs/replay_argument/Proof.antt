@@ -1,4 +1,4 @@
-use Rattle.replay_io.proofs.Reaching.{unread}
+use Rattle.replay_pieces.proofs.Reaching.{unread}
 use borrow.Author.Needs.{needs}
 use Rattle.replay_io.proofs.replay_argument.Statement.{statement}
 use Rattle.replay_io.proofs.replay_argument.Tie as tie

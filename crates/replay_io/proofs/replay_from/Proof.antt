@@ -1,4 +1,4 @@
-use Rattle.replay_io.proofs.Reaching.{reached-start, replayed-some, replayed-all}
+use Rattle.replay_pieces.proofs.Reaching.{reached-start, replayed-some, replayed-all}
 use borrow.Author.Needs.{needs}
 use Rattle.replay_io.proofs.replay_from.Statement.{statement}
 use Rattle.replay_io.proofs.replay_from.Tie as tie

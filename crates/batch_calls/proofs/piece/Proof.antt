@@ -1,0 +1,27 @@
+use Rattle.calls.proofs.Telling.{piece-told}
+use borrow.Author.Needs.{needs}
+use Rattle.batch_calls.proofs.piece.Statement.{statement}
+use Rattle.batch_calls.proofs.piece.Tie as tie
+
+decode-requires : tie.Need-decode-requires
+decode-requires c κs = search needs
+
+piece-requires : tie.Need-piece-requires
+piece-requires c κs = search needs
+
+tell-two-requires : tie.Need-tell-two-requires
+tell-two-requires c κs = search needs
+
+same-length : tie.Need-same-length
+same-length c = search needs
+
+same-length-2 : tie.Need-same-length-2
+same-length-2 c = search needs
+
+returns : tie.Need-returns
+returns c = piece-told _ _ (c .before .before .before .before .before .before .before .before .before .decode .ensures) _ _ _ _ _ _ _ _ (c .before .before .before .before .before .before .before .piece .ensures .0) (c .before .before .before .before .before .before .before .piece .ensures .1) (c .before .before .tell-two .ensures)
+
+pub piece-spec : {M : Type 1} → statement M
+piece-spec =
+    tie.close
+    (tie.spec decode-requires piece-requires tell-two-requires same-length same-length-2 returns)

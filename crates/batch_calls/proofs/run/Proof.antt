@@ -1,0 +1,27 @@
+use Rattle.calls.proofs.Reporting.{ran-small, run-told}
+use borrow.Author.Needs.{needs}
+use Rattle.batch_calls.proofs.run.Statement.{statement}
+use Rattle.batch_calls.proofs.run.Tie as tie
+
+decode-requires : tie.Need-decode-requires
+decode-requires c κs = search needs
+
+run-requires : tie.Need-run-requires
+run-requires c κs = search needs
+
+report-requires : tie.Need-report-requires
+report-requires c κs = ran-small _ _ _ _ (c .before .before .before .before .run .ensures .0)
+
+same-length : tie.Need-same-length
+same-length c = search needs
+
+same-length-2 : tie.Need-same-length-2
+same-length-2 c = search needs
+
+returns : tie.Need-returns
+returns c = run-told _ _ _ _ _ _ _ _ _ (c .before .before .before .before .before .before .before .before .before .decode .ensures) (c .before .before .before .before .before .before .before .run .ensures .0) (c .before .before .before .before .before .before .before .run .ensures .1) (c .before .before .report .ensures)
+
+pub run-spec : {M : Type 1} → statement M
+run-spec =
+    tie.close
+    (tie.spec decode-requires run-requires report-requires same-length same-length-2 returns)

@@ -1,0 +1,37 @@
+use native.Mathlib.Omega.{arith}
+use Rattle.engine.proofs.Oldest.{Takes, takes, without-made}
+use borrow.Author.Needs.{needs}
+use Rattle.dequeue.proofs.without_oldest.Statement.{statement}
+use Rattle.dequeue.proofs.without_oldest.Tie as tie
+
+facts : (c : tie.Start) → Takes (c .args .engine)
+facts c = takes (c .args .engine) (c .pre .0) (c .pre .1) (c .pre .2) (c .pre .3)
+
+lower-requires : tie.Need-lower-requires
+lower-requires c κs =
+    let s = c .before .before .before in
+    rw (s .pre .5) (facts s .client, facts s .counted)
+
+freed-requires : tie.Need-freed-requires
+freed-requires c κs =
+    let s = c .before .before .before .before in
+    omega (arith, facts s .slot, s .pre .4)
+
+add-wrap : tie.Need-add-wrap
+add-wrap c =
+    let s = c .before .before .before .before .before .before .before in
+    rw (s .pre .5) (omega (arith, facts s .offset))
+
+wrap-requires : tie.Need-wrap-requires
+wrap-requires c κs = search needs
+
+returns : tie.Need-returns
+returns c =
+    let s = c .before .before .before .before .before .before .before .before in
+    let l = c .before .before .before .before .lower in
+    let f = c .before .before .before .freed in
+    without-made (s .args .engine) (s .args .at) (s .pre .4) (s .args .batch) (s .pre .5) (l .result) (l .ensures) (f .result) (f .ensures) (c .wrap .result) (c .wrap .ensures)
+
+pub without-oldest-spec : {M : Type 1} → statement M
+without-oldest-spec =
+    tie.close (tie.spec lower-requires freed-requires add-wrap wrap-requires returns)

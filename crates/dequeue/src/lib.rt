@@ -1,0 +1,108 @@
+// The oldest batch of a record: when run is refused, where that batch is, what it may touch and begins with, and the record without it.
+ghost use mathlib.Core.Path.{_≡_};
+ghost use mathlib.Core.Bool.{true};
+ghost use Prim.Native.Nat.{_≤_, _<_};
+ghost use lib.ListN.{length, getD, set};
+ghost use Rattle.record.specs.Slots.{free};
+ghost use Rattle.record.specs.Tickets.{slotOfTicket};
+ghost use Rattle.record.specs.Clients.{noClient};
+ghost use Rattle.record.specs.Queue.{readySlots};
+ghost use Rattle.record.specs.Rules.{valid};
+ghost use Rattle.queue.specs.Refusals.{firstRefusal};
+ghost use Rattle.engine.specs.Run.{runTable, oldestTicket, oldest, boundsOfClient, resetOf, pendingLowered, withoutOldest};
+use record::Batch;
+use record::Client;
+use record::Record;
+use record::Slot;
+use record::SlotState;
+use register::Bank;
+use rules::Bounds;
+
+// What run is refused with, 0 if it takes a batch; `ring` and `memory` are the lengths of what is lent.
+pub fn run_refusal(engine: Record, ring: usize, memory: usize) -> u32
+    ensures { λ r. ⌜ r ≡ firstRefusal (runTable engine ring memory) ⌝ }
+{
+    let setup = engine.setup;
+    let slots = engine.slots;
+    let lent = !(ring == setup.ring) | !(memory == setup.memory);
+    let none = record::ready_slots(slots) == 0;
+    let no10 = queue::first_refusal(lent, 10, queue::first_refusal(none, 9, 0));
+    queue::first_refusal(!record::is_valid(engine), 11, no10)
+}
+
+// What a client may touch: its window, and common.
+pub fn bounds_for(engine: Record, client: u32) -> Bounds
+    requires { ⌜ client < 4 ⌝ }
+    ensures { λ r. ⌜ (r ≡ boundsOfClient engine client) × (length (engine .clients) ≡ 4) ⌝ }
+{
+    let setup = engine.setup;
+    let clients = engine.clients;
+    Bounds {
+        window: clients::window_of(clients, client),
+        common: setup.common,
+    }
+}
+
+// The registers at the start of every batch.
+pub fn bank_for(engine: Record) -> Bank
+    ensures { λ r. ⌜ r ≡ resetOf engine ⌝ }
+{
+    let setup = engine.setup;
+    let rule = setup.reset;
+    Bank::reset(rule)
+}
+
+// One batch fewer pending for a client.
+fn lower(clients: [Client; 4], client: u32) -> [Client; 4]
+    requires { ⌜ (client < 4) × (1 ≤ getD clients client noClient .pending) ⌝ }
+    ensures { λ r. ⌜ r ≡ pendingLowered clients client ⌝ }
+{
+    let at = client as usize;
+    let old = clients[at];
+    let window = old.window;
+    let mut after = clients;
+    after[at] = Client {
+        window: window,
+        pending: old.pending - 1,
+        opened: old.opened,
+    };
+    after
+}
+
+// The slot of the oldest batch.
+pub fn oldest_slot(engine: Record) -> usize
+    ensures { λ r. ⌜ (r ≡ slotOfTicket (oldestTicket engine) (engine .slots)) × (length (engine .slots) ≡ 8) ⌝ }
+{
+    let slots = engine.slots;
+    record::slot_of_age(slots, engine.next, record::ready_slots(slots))
+}
+
+// The slots with one of them free.
+fn freed(slots: [Slot; 8], at: usize) -> [Slot; 8]
+    requires { ⌜ at < 8 ⌝ }
+    ensures { λ r. ⌜ r ≡ set slots at free ⌝ }
+{
+    let mut after = slots;
+    after[at] = Slot {
+        state: SlotState::Free,
+    };
+    after
+}
+
+// The record without the oldest batch, which is in the slot `at`: the slot and its ring bytes are free again.
+pub fn without_oldest(engine: Record, at: usize, batch: Batch) -> Record
+    requires { ⌜ (valid engine ≡ true) × (0 < readySlots engine) × (length (engine .clients) ≡ 4) × (length (engine .slots) ≡ 8)
+        × (at ≡ slotOfTicket (oldestTicket engine) (engine .slots)) × (batch ≡ oldest engine) ⌝ }
+    ensures { λ r. ⌜ r ≡ withoutOldest engine ⌝ }
+{
+    let setup = engine.setup;
+    let clients = engine.clients;
+    let slots = engine.slots;
+    let fewer = lower(clients, batch.client);
+    let left = freed(slots, at);
+    let mut after = engine;
+    after.clients = fewer;
+    after.slots = left;
+    after.read = record::wrap(setup.ring, engine.read + batch.length);
+    after
+}

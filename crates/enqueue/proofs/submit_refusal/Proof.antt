@@ -1,0 +1,70 @@
+use mathlib.Core.Path.{_≡_, sym, _∙_}
+use mathlib.Core.Bool.{true}
+use borrow.Author.Tests.{not-true, not-false}
+use Rattle.record.specs.Rules.{valid}
+use Rattle.queue.proofs.Refusals.{eleven}
+use Rattle.queue.specs.Refusals.{firstRefusal}
+use borrow.Author.Needs.{needs}
+use Rattle.enqueue.proofs.submit_refusal.Statement.{statement}
+use Rattle.enqueue.proofs.submit_refusal.Tie as tie
+
+right : (c : tie.Else1) → valid (c .before .before .args .engine) ≡ true
+right c = sym (c .before .is-valid .ensures) ∙ not-false _ (c .if1 .left)
+
+is-valid-requires : tie.Need-is-valid-requires
+is-valid-requires c κs = search needs
+
+returns : tie.Need-returns
+returns c = eleven _ (valid (c .before .before .args .engine)) (sym (c .before .is-valid .ensures) ∙ not-true _ (c .if1 .taken))
+
+taken-slots-requires : tie.Need-taken-slots-requires
+taken-slots-requires c κs = search needs
+
+free-bytes-requires : tie.Need-free-bytes-requires
+free-bytes-requires c κs = (right (c .before .before .before), c .taken-slots .ensures .1)
+
+first-refusal-requires : tie.Need-first-refusal-requires
+first-refusal-requires c κs = search needs
+
+first-refusal-requires-2 : tie.Need-first-refusal-requires-2
+first-refusal-requires-2 c κs = search needs
+
+bad-length-requires : tie.Need-bad-length-requires
+bad-length-requires c κs = search needs
+
+first-refusal-requires-3 : tie.Need-first-refusal-requires-3
+first-refusal-requires-3 c κs = search needs
+
+is-open-requires : tie.Need-is-open-requires
+is-open-requires c κs = search needs
+
+first-refusal-requires-4 : tie.Need-first-refusal-requires-4
+first-refusal-requires-4 c κs = search needs
+
+first-refusal-requires-5 : tie.Need-first-refusal-requires-5
+first-refusal-requires-5 c κs = search needs
+
+first-refusal-requires-6 : tie.Need-first-refusal-requires-6
+first-refusal-requires-6 c κs = search needs
+
+returns-2 : tie.Need-returns-2
+unfolding firstRefusal
+returns-2 c = rw (right (c .before .before .before .before .before .before .before .before .before .before .before .before .before), c .first-refusal6 .ensures, c .before .first-refusal5 .ensures, c .before .before .is-open .ensures, c .before .before .before .first-refusal4 .ensures, c .before .before .before .before .before .first-refusal3 .ensures, c .before .before .before .before .before .before .bad-length .ensures, c .before .before .before .before .before .before .before .first-refusal2 .ensures, c .before .before .before .before .before .before .before .before .first-refusal .ensures, c .before .before .before .before .before .before .before .before .before .free-bytes .ensures, c .before .before .before .before .before .before .before .before .before .before .taken-slots .ensures .0)
+
+pub submit-refusal-spec : {M : Type 1} → statement M
+submit-refusal-spec =
+    tie.close
+    (tie.spec
+    is-valid-requires
+    returns
+    taken-slots-requires
+    free-bytes-requires
+    first-refusal-requires
+    first-refusal-requires-2
+    bad-length-requires
+    first-refusal-requires-3
+    first-refusal-requires-4
+    is-open-requires
+    first-refusal-requires-5
+    first-refusal-requires-6
+    returns-2)

@@ -1,0 +1,144 @@
+// A batch more in the record: what submit and begin are refused with, where the batch goes, and the record with it.
+ghost use mathlib.Core.Path.{_≡_};
+ghost use mathlib.Core.Bool.{true};
+ghost use Prim.Native.Nat.{_≤_, _<_};
+ghost use lib.ListN.{length, getD, set};
+ghost use Rattle.record.specs.Slots.{readyWith, readyBatches, lowestFree};
+ghost use Rattle.record.specs.Tickets.{ticketAfter};
+ghost use Rattle.record.specs.Clients.{noClient, clientAt};
+ghost use Rattle.record.specs.Queue.{readySlots, takenSlots, freeBytes, writeOffset};
+ghost use Rattle.record.specs.Staged.{stagedSlots};
+ghost use Rattle.record.specs.Rules.{valid};
+ghost use Rattle.queue.specs.Refusals.{firstRefusal, submitTable};
+ghost use Rattle.queue.specs.Calls.{pendingRaised, withBatch};
+use record::Batch;
+use record::Client;
+use record::Record;
+use record::Slot;
+use record::SlotState;
+use record::Staged;
+
+// The ring bytes that are free.
+fn free_bytes(engine: Record) -> usize
+    requires { ⌜ (valid engine ≡ true) × (readySlots engine ≤ 8) ⌝ }
+    ensures { λ r. ⌜ r ≡ freeBytes engine ⌝ }
+{
+    let setup = engine.setup;
+    let slots = engine.slots;
+    let staged = engine.staged;
+    let ring = setup.ring;
+    let ready = record::ready_bytes(slots);
+    ring - (ready + staged.total)
+}
+
+// The slot that a staged submission holds.
+fn staged_slots(staged: Staged) -> usize
+    ensures { λ r. ⌜ (r ≡ stagedSlots staged) × (r ≤ 1) ⌝ }
+{
+    if staged.total == 0 { 0 } else { 1 }
+}
+
+// The slots that are taken: each ready batch has one, and so has a staged submission.
+fn taken_slots(engine: Record) -> usize
+    ensures { λ r. ⌜ (r ≡ takenSlots engine) × (readySlots engine ≤ 8) ⌝ }
+{
+    let slots = engine.slots;
+    let staged = engine.staged;
+    let ready = record::ready_slots(slots);
+    let held = staged_slots(staged);
+    ready + held
+}
+
+// Where the next batch goes, and where the staged one lies: after the newest ready one, at the read offset if none is ready.
+pub fn write_offset(engine: Record) -> usize
+    requires { ⌜ valid engine ≡ true ⌝ }
+    ensures { λ r. ⌜ (r ≡ writeOffset engine) × (readySlots engine ≤ 8) ⌝ }
+{
+    let setup = engine.setup;
+    let slots = engine.slots;
+    let ready = record::ready_slots(slots);
+    if ready == 0 {
+        return engine.read;
+    }
+    record::wrap(setup.ring, engine.read + record::ready_bytes(slots))
+}
+
+// What submit and begin are refused with, 0 if they are not.
+pub fn submit_refusal(engine: Record, given: usize, client: u32, size: usize) -> u32
+    ensures { λ r. ⌜ r ≡ firstRefusal (submitTable engine given client size) ⌝ }
+{
+    if !record::is_valid(engine) {
+        return 11;
+    }
+    let setup = engine.setup;
+    let ring = setup.ring;
+    let staged = engine.staged;
+    let taken = taken_slots(engine);
+    let no8 = queue::first_refusal(free_bytes(engine) < size, 8, 0);
+    let no7 = queue::first_refusal(8 <= taken, 7, no8);
+    let no6 = queue::first_refusal(record::bad_length(ring, size), 6, no7);
+    let no13 = queue::first_refusal(!(staged.total == 0), 13, no6);
+    let no5 = queue::first_refusal(!record::is_open(engine, client), 5, no13);
+    queue::first_refusal(!(given == ring), 10, no5)
+}
+
+// One batch more pending for a client.
+fn raise(clients: [Client; 4], client: u32) -> [Client; 4]
+    requires { ⌜ (client < 4) × (getD clients client noClient .pending ≤ 8) ⌝ }
+    ensures { λ r. ⌜ r ≡ pendingRaised clients client ⌝ }
+{
+    let at = client as usize;
+    let old = clients[at];
+    let window = old.window;
+    let mut after = clients;
+    after[at] = Client {
+        window: window,
+        pending: old.pending + 1,
+        opened: old.opened,
+    };
+    after
+}
+
+// The lowest free slot.
+pub fn lowest_slot(slots: [Slot; 8]) -> usize
+    requires { ⌜ length (readyBatches slots) < 8 ⌝ }
+    ensures { λ r. ⌜ (r ≡ lowestFree slots) × (r < 8) ⌝ }
+{
+    record::lowest_free(slots)
+}
+
+// The batch in a slot.
+fn fill(slots: [Slot; 8], at: usize, batch: Batch) -> [Slot; 8]
+    requires { ⌜ at < 8 ⌝ }
+    ensures { λ r. ⌜ r ≡ set slots at (readyWith batch) ⌝ }
+{
+    let mut after = slots;
+    after[at] = Slot {
+        state: SlotState::Ready(batch),
+    };
+    after
+}
+
+// The ticket after another; after 4,294,967,295 it is 0.
+fn next_ticket(ticket: u32) -> u32
+    ensures { λ r. ⌜ r ≡ ticketAfter ticket ⌝ }
+{
+    std::num::wrapping_add_u32(ticket, 1)
+}
+
+// The record with a batch more, in the slot `at`.
+pub fn with_batch(engine: Record, at: usize, batch: Batch) -> Record
+    requires { ⌜ (batch .client < 4) × (clientAt engine (batch .client) .pending ≤ 8) × (at < 8) ⌝ }
+    ensures { λ r. ⌜ r ≡ withBatch engine at batch ⌝ }
+{
+    let clients = engine.clients;
+    let slots = engine.slots;
+    let raised = raise(clients, batch.client);
+    let filled = fill(slots, at, batch);
+    let mut after = engine;
+    after.clients = raised;
+    after.slots = filled;
+    after.next = next_ticket(engine.next);
+    after.staged = record::no_staged();
+    after
+}

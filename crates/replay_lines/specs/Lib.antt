@@ -1,0 +1,2 @@
+-- Lines gathered in one buffer.
+pub mod Gather

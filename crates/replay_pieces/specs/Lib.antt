@@ -1,0 +1,2 @@
+-- What a replay hands over, and what it leaves in memory.
+pub mod Reached

@@ -1,0 +1,52 @@
+// Run: the oldest batch judged and drawn by either engine, and taken out of the queue. It has no `requires`: any record, ring and memory may be handed in.
+ghost use mathlib.Core.Path.{_≡_};
+ghost use Rattle.engine.specs.Run.{runResult, runMemory};
+use engine::Completion;
+use engine::Outcome;
+use engine::Ran;
+use record::Record;
+
+// Takes the oldest batch: it is judged and drawn, the tasks before a fault too, and its slot and ring bytes are free again. The slow engine (02, request
+// 13), which is there to check the fast one by, draws each pixel by itself; what it promises is the same.
+pub fn run_by(engine: Record, ring: &[u8], memory: &mut [u8], slow: bool) -> Ran
+    ensures { λ r. ⌜ (r ≡ runResult engine (now (ring .entry)) (now (memory .entry)))
+        × (now (memory .exit) ≡ runMemory engine (now (ring .entry)) (now (memory .entry))) ⌝ }
+{
+    let number = dequeue::run_refusal(engine, ring.len(), memory.len());
+    if number != 0 {
+        return Ran {
+            outcome: Outcome::Refused(number),
+            engine: engine,
+        };
+    }
+    let slots = engine.slots;
+    let at = dequeue::oldest_slot(engine);
+    let batch = record::batch_of(slots[at]);
+    let bounds = dequeue::bounds_for(engine, batch.client);
+    let verdict = walk::run_batch(
+        memory,
+        ring,
+        batch.offset,
+        batch.length,
+        bounds,
+        dequeue::bank_for(engine),
+        slow,
+    );
+    let completion = Completion {
+        client: batch.client,
+        ticket: batch.ticket,
+        verdict: verdict,
+    };
+    Ran {
+        outcome: Outcome::Completed(completion),
+        engine: dequeue::without_oldest(engine, at, batch),
+    }
+}
+
+// Takes the oldest batch by the fast engine.
+pub fn run(engine: Record, ring: &[u8], memory: &mut [u8]) -> Ran
+    ensures { λ r. ⌜ (r ≡ runResult engine (now (ring .entry)) (now (memory .entry)))
+        × (now (memory .exit) ≡ runMemory engine (now (ring .entry)) (now (memory .entry))) ⌝ }
+{
+    run_by(engine, ring, memory, false)
+}

@@ -1,0 +1,31 @@
+use mathlib.Core.Path.{_∙_}
+use Rattle.queue.proofs.Calls.{cancel-refused, cancel-done}
+use borrow.Author.Needs.{needs}
+use Rattle.submission.proofs.cancel.Statement.{statement}
+use Rattle.submission.proofs.cancel.Tie as tie
+
+cancel-refusal-requires : tie.Need-cancel-refusal-requires
+cancel-refusal-requires c κs = search needs
+
+returns : tie.Need-returns
+returns c = cancel-refused (c .before .before .args .engine) (c .before .before .args .client) (c .before .cancel-refusal .result) (c .before .cancel-refusal .ensures) (c .if1 .taken)
+
+no-staged-requires : tie.Need-no-staged-requires
+no-staged-requires c κs = search needs
+
+with-staged-requires : tie.Need-with-staged-requires
+with-staged-requires c κs = search needs
+
+returns-2 : tie.Need-returns-2
+returns-2 c = let e = c .before .before .before .before .args in
+    cancel-done (e .engine) (e .client) (c .before .before .before .cancel-refusal .result) (c .before .before .before .cancel-refusal .ensures) (c .before .before .if1 .left) (c .with-staged .result) (rw (c .before .no-staged .ensures) at (c .with-staged .ensures))
+
+pub cancel-spec : {M : Type 1} → statement M
+cancel-spec =
+    tie.close
+    (tie.spec
+    cancel-refusal-requires
+    returns
+    no-staged-requires
+    with-staged-requires
+    returns-2)

@@ -1,0 +1,52 @@
+// What a call answered, told in numbers, and the record after it written as bytes.
+ghost use Rattle.record_bytes.specs.Written.{written};
+ghost use Rattle.answers.specs.Answers.{Small};
+ghost use Rattle.calls.specs.Calls.{Told, ToldTwo, Reports};
+use engine::Ran;
+use queue::Reply;
+
+// Tells what a call answered, and writes the record after it if it was not refused.
+pub fn tell(bytes: &mut [u8], reply: Reply, value: &mut u32) -> u32
+    ensures { λ r. ⌜ Told (now (bytes .entry)) (written (reply .engine) (now (bytes .entry))) (reply .answer) r (now (value .exit)) (now (bytes .exit)) ⌝ }
+{
+    let answer = reply.answer;
+    let engine = reply.engine;
+    let words = answers::answer_words(answer);
+    let number = words[0];
+    *value = words[1];
+    if number == 0 {
+        record_bytes::encode(engine, bytes);
+    }
+    number
+}
+
+// The same of a piece.
+pub fn tell_two(bytes: &mut [u8], reply: Reply, two: &mut [u32; 2]) -> u32
+    ensures { λ r. ⌜ ToldTwo (now (bytes .entry)) (written (reply .engine) (now (bytes .entry))) (reply .answer) r (now (two .exit)) (now (bytes .exit)) ⌝ }
+{
+    let answer = reply.answer;
+    let engine = reply.engine;
+    let words = answers::piece_words(answer);
+    let number = words[0];
+    *two = [words[1], words[2]];
+    if number == 0 {
+        record_bytes::encode(engine, bytes);
+    }
+    number
+}
+
+// The same of run.
+pub fn report(bytes: &mut [u8], ran: Ran, five: &mut [u32; 5]) -> u32
+    requires { ⌜ Small (ran .outcome) ⌝ }
+    ensures { λ r. ⌜ Reports (now (bytes .entry)) (written (ran .engine) (now (bytes .entry))) (ran .outcome) r (now (five .exit)) (now (bytes .exit)) ⌝ }
+{
+    let outcome = ran.outcome;
+    let engine = ran.engine;
+    let words = answers::outcome_words(outcome);
+    let number = words[0];
+    *five = [words[1], words[2], words[3], words[4], words[5]];
+    if number == 0 {
+        record_bytes::encode(engine, bytes);
+    }
+    number
+}
