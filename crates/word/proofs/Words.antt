@@ -56,24 +56,18 @@ pub words-leBytes : (word : ℕ) (rest : List ℕ) → word < 2 ^ 32 → words (
 unfolding words
 words-leBytes word rest small = ap (λ (w : ℕ). w ∷ words rest) (le32-bytes word small)
 
-infixr 70 _also_
 -- each of some numbers is a word of 32 bits
-pub data Below32 : List ℕ → Type 0 where
-  none : Below32 []
-  _also_ : {w : ℕ} {ws : List ℕ} → w < 2 ^ 32 → Below32 ws → Below32 (w ∷ ws)
-
-infixr 65 _then_
-pub _then_ : {a b : List ℕ} → Below32 a → Below32 b → Below32 (a ++ b)
-none then k = k
-(h also i) then k = h also (i then k)
+abbrev pub Below32 : List ℕ → Type 0
+Below32 [] = Unit
+Below32 (w ∷ ws) = (w < 2 ^ 32) × Below32 ws
 
 -- words that were written are read back, whatever bytes come after them
-pub words-back : {ws : List ℕ} → Below32 ws → (rest : List ℕ) → words (wordsBytes ws ++ rest) ≡ ws ++ words rest
+pub words-back : (ws rest : List ℕ) → Below32 ws → words (wordsBytes ws ++ rest) ≡ ws ++ words rest
 unfolding wordsBytes leBytes
-words-back none rest = refl
-words-back {ws = w ∷ ws} (h also k) rest = words-leBytes w (wordsBytes ws ++ rest) h ∙ ap (λ (l : List ℕ). w ∷ l) (words-back k rest)
+words-back [] rest h = refl
+words-back (w ∷ ws) rest h = words-leBytes w (wordsBytes ws ++ rest) (h .0) ∙ ap (λ (l : List ℕ). w ∷ l) (words-back ws rest (h .1))
 
 -- and where none come
-pub words-back-all : {ws : List ℕ} → Below32 ws → words (wordsBytes ws) ≡ ws
+pub words-back-all : (ws : List ℕ) → Below32 ws → words (wordsBytes ws) ≡ ws
 unfolding words
-words-back-all {ws} k = ap words (sym (append-nil (wordsBytes ws))) ∙ words-back k [] ∙ append-nil ws
+words-back-all ws h = ap words (sym (append-nil (wordsBytes ws))) ∙ words-back ws [] h ∙ append-nil ws
