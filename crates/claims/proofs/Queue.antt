@@ -36,6 +36,7 @@ use Rattle.claims.proofs.Related.{Sound, facts}
 use Rattle.claims.proofs.Pieces.{may, copied, filled, kept, come, whole, addable}
 use Rattle.claims.proofs.Runs.{run-offset}
 use Rattle.claims.proofs.Follows.{at-end}
+use Rattle.claims.proofs.Freed.{window-freed}
 
 -- a batch's bytes alone
 abbrev alone : Batch → List ℕ → List ℕ
@@ -198,6 +199,7 @@ module _ (setup : Setup) (n : ℕ) (s : State) (S : Sound setup n s) where
       rw (allowed (close client) z)
       (record {
         free = closed-now client (open-place (s .engine) client (a .owner) .0);
+        window-free = λ w some low high. window-freed (s .engine) (S .sized) (length (s .memory)) client a (given w) some low high;
         others = not-closed client;
         zeros = zero-in w (s .memory) fits;
         rest = zero-local w 0 .outside (s .memory) (omega arith, fits);

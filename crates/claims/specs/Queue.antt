@@ -3,7 +3,7 @@
 use mathlib.Core.Path.{_≡_}
 use mathlib.Core.Bool.{true, false}
 use mathlib.Core.List.{List, [], _∷_, _++_}
-use Prim.Native.Nat.{ℕ, _+_, _-_, _<_}
+use Prim.Native.Nat.{ℕ, _+_, _-_, _≤_, _<_}
 use lib.ListN.{length}
 use Rattle.word.specs.Word.{words}
 use Rattle.ring.specs.Segment.{segment, wrapOffset}
@@ -97,6 +97,9 @@ pub record Opened (w : Window) (s after : State) : Type 0 where
 -- memory, the ring and what waits are as they were
 pub record Closed (client : ℕ) (s after : State) : Type 0 where
   pub free : isOpen (after .engine) client ≡ false
+  -- row 4 of open does not hold of a window inside the freed one, nor any row before it
+  pub window-free : (w : Window) → 0 < w .length → clientAt (s .engine) client .window .start ≤ w .start →
+      w .start + w .length ≤ clientAt (s .engine) client .window .start + clientAt (s .engine) client .window .length → firstRefusal (refusalTableOf (opens w) after) ≡ 0
   pub others : (k : ℕ) → ¬ (k ≡ client) → clientAt (after .engine) k ≡ clientAt (s .engine) k
   pub zeros : (i : ℕ) → In (window (clientAt (s .engine) client .window .start) (clientAt (s .engine) client .window .length)) i → byte (after .memory) i ≡ 0
   pub rest : (i : ℕ) → ¬ (In (window (clientAt (s .engine) client .window .start) (clientAt (s .engine) client .window .length)) i) → byte (after .memory) i ≡ byte (s .memory) i
