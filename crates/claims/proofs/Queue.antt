@@ -37,6 +37,7 @@ use Rattle.claims.proofs.Pieces.{may, copied, filled, kept, come, whole
 use Rattle.claims.proofs.Runs.{run-offset}
 use Rattle.claims.proofs.Follows.{at-end}
 use Rattle.claims.proofs.Freed.{window-freed}
+use Rattle.claims.proofs.ClosedPlace.{closed-free}
 
 -- a batch's bytes alone
 abbrev alone : Batch → List ℕ → List ℕ
@@ -214,6 +215,7 @@ module _ (setup : Setup) (n : ℕ) (s : State) (S : Sound setup n s) where
     sound = S .ok;
     opens = λ w z. (rw (allowed (opens w) z), opened w z);
     closes = λ client z. (rw (allowed (close client) z), closed client z);
+    closed-place = λ client c e shut. closed-free setup n s S client c e shut;
     after-newest = write-newest (s .engine) (facts setup n s S) few;
     none-ready = write-first (s .engine) (facts setup n s S) few;
     submitted = submitted;
