@@ -6,7 +6,7 @@ use lib.ListN.{length}
 use denote.Ref.{now}
 use borrow.Author.Needs.{needs}
 use Rattle.ring.specs.Segment.{batchWords}
-use Rattle.batch.specs.declared.verdict.Judgement.{Judgement}
+use Rattle.batch.specs.declared.verdict.Validation.{Validation}
 use Rattle.batch.specs.declared.verdict.Verdict.{Verdict}
 use Rattle.batch.specs.Batch.{decodeBatch, validationOf}
 use Rattle.batch.specs.Walk.{decodeRest}
@@ -111,7 +111,7 @@ same-length : tie.Need-same-length Inv-loop μ-loop
 same-length c = search needs
 
 -- what the judgement is, and what is drawn, where the walk stands at this
-abbrev verdict-of : Judgement → Verdict
+abbrev verdict-of : Validation → Verdict
 verdict-of j = j .verdict
 
 returns : tie.Need-returns Inv-loop μ-loop
