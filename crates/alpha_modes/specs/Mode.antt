@@ -1,4 +1,4 @@
--- What a byte of a row of ARGB8888 pixels becomes by an alpha mode (01, "Pixels"). Such a pixel lies in memory as B, G, R, A.
+-- Internal: what a byte of a row of ARGB8888 pixels becomes by an alpha mode (01, "Pixels"). Such a pixel lies in memory as B, G, R, A.
 use Prim.Native.Nat.{ℕ, _%_}
 use mathlib.Core.Bool.{cond}
 use mathlib.Core.List.{List}

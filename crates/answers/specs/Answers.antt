@@ -21,7 +21,7 @@ lastOf (Accepted ticket) = 1
 lastOf (Ready count) = 0
 lastOf (Missing bytes) = 0
 
--- a piece's six (02, 6): 0 and the bytes still to come, or, of the last, 1 and the ticket
+-- Internal: a piece's six (02, 6): 0 and the bytes still to come, or, of the last, 1 and the ticket
 abbrev pub pieceWords : Answer → List ℕ
 pieceWords answer = refusalNumberOf answer ∷ lastOf answer ∷ valueOf answer ∷ 0 ∷ 0 ∷ 0 ∷ []
 

@@ -11,18 +11,18 @@ use Rattle.rules.specs.declared.fault.Fault.{Fault}
 use Rattle.rules.specs.declared.task.Bounds.{Bounds}
 use Rattle.batch.specs.declared.walk.Step.{Step}
 use Rattle.batch.specs.declared.walk.Step.the-variants.{Task as Next, Faulty as Stop, End}
-use Rattle.batch.specs.declared.verdict.Judgement.{Judgement}
+use Rattle.batch.specs.declared.verdict.Validation.{Validation}
 use Rattle.batch.specs.declared.verdict.Verdict.the-variants.{Faultless, Faulty}
 use Rattle.batch.specs.Batch.{DecodedBatch, BatchEnd, finished, faulty, stopWith, consTask, verdictAfter, verdictOf, validationOf}
 use Rattle.batch.specs.Walk.{decodeRest, decodeAfterStep, stepAt, StepSimulates}
 use Rattle.batch.proofs.Simulates.{simulates}
 
--- the judgement of m tasks, where the reading ended like this
-abbrev told : ℕ → DecodedBatch → Judgement
+-- the validation of m tasks, where the reading ended like this
+abbrev told : ℕ → DecodedBatch → Validation
 told m r = record { verdict = verdictAfter m (r .ending); bank = r .bank }
 
--- the judgement of a batch of which n tasks have been counted and this is the rest
-abbrev pub counted : ℕ → DecodedBatch → Judgement
+-- the validation of a batch of which n tasks have been counted and this is the rest
+abbrev pub counted : ℕ → DecodedBatch → Validation
 counted n r = told (n + length (r .tasks)) r
 
 pub counted-none : (r : DecodedBatch) → validationOf r ≡ counted 0 r
@@ -48,7 +48,7 @@ module _ (bounds : Bounds) (ws : List ℕ) (b : Bank) (k : ℕ) (s : Step) (is :
   pub step-onward : (t : Task) (b′ : Bank) (k′ : ℕ) → s ≡ Next t b′ k′ → (k < k′) × (k′ ≤ length ws)
   step-onward t b′ k′ e = rw e at (go .onward)
 
-  -- and of the judgement, in a batch of which n tasks have been counted
+  -- and of the validation, in a batch of which n tasks have been counted
   module _ (n : ℕ) where
     pub step-task : (t : Task) (b′ : Bank) (k′ : ℕ) → s ≡ Next t b′ k′ → counted n (decodeRest bounds ws b k) ≡ counted (n + 1) (decodeRest bounds ws b′ k′)
     step-task t b′ k′ e = ap (counted n) (reads-task t b′ k′ e) ∙ counted-one n t (decodeRest bounds ws b′ k′)

@@ -17,7 +17,7 @@ use Rattle.rules.specs.declared.fault.Fault.the-variants.{ReservedBits, GroupLe
 use Rattle.rules.specs.declared.task.Bounds.{Bounds}
 use Rattle.rules.specs.declared.task.Check.{Check}
 use Rattle.rules.specs.declared.task.Check.the-variants.{Valid, Invalid}
-use Rattle.batch.specs.declared.verdict.Judgement.{Judgement}
+use Rattle.batch.specs.declared.verdict.Validation.{Validation}
 use Rattle.batch.specs.declared.verdict.Verdict.{Verdict}
 use Rattle.batch.specs.declared.verdict.Verdict.the-variants.{Faultless, Faulty}
 use Rattle.rules.specs.Faults.{writeFault, faultNumber, faultStatus}
@@ -113,7 +113,7 @@ abbrev pub verdictOf : DecodedBatch → Verdict
 verdictOf reading = verdictAfter (length (reading .tasks)) (reading .ending)
 
 -- Internal: with the bank at its end
-abbrev pub validationOf : DecodedBatch → Judgement
+abbrev pub validationOf : DecodedBatch → Validation
 validationOf reading = record { verdict = verdictOf reading; bank = reading .bank }
 
 -- the status word: tasks x 65,536 + 1; of a faulty batch "the status word carries their number in the upper half, finish bit clear" (02, 5)

@@ -2,9 +2,9 @@
 pub mod verdict;
 pub mod walk;
 
-pub use verdict::Judgement;
+pub use verdict::Validation;
 pub use verdict::Verdict;
-pub use verdict::judge;
+pub use verdict::validate;
 pub use walk::Step;
 pub use walk::next_task;
 pub use walk::word_at;

@@ -48,13 +48,13 @@ impl Verdict {
 }
 
 // A verdict, and the bank as it stands where judging ended: a word that is refused is not in it.
-pub struct Judgement {
+pub struct Validation {
     pub verdict: Verdict,
     pub bank: Bank,
 }
 
 // Judges the batch of `size` bytes at an offset of the ring, read from a bank on. What does not lie in the ring has no words.
-pub fn judge(ring: &[u8], offset: usize, size: usize, bounds: Bounds, bank: Bank) -> Judgement
+pub fn validate(ring: &[u8], offset: usize, size: usize, bounds: Bounds, bank: Bank) -> Validation
     ensures { λ r. ⌜ r ≡ validationOf (decodeBatch bounds bank (batchWords (now (ring .entry)) offset size)) ⌝ }
 {
     let mut current = bank;
@@ -68,13 +68,13 @@ pub fn judge(ring: &[u8], offset: usize, size: usize, bounds: Bounds, bank: Bank
                 count = count + 1;
             }
             Step::Faulty(fault, place, held) => {
-                return Judgement {
+                return Validation {
                     verdict: Verdict::Faulty(count, fault, place),
                     bank: held,
                 };
             }
             Step::End => {
-                return Judgement {
+                return Validation {
                     verdict: Verdict::Faultless(count),
                     bank: current,
                 };

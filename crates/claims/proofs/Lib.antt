@@ -16,6 +16,8 @@ pub mod InTime
 pub mod Cutting
 pub mod Faulted
 pub mod Theorem
+pub mod Freed
+pub mod ClosedPlace
 pub mod Queue
 pub mod Order
 pub mod Twelve

@@ -36,6 +36,8 @@ use Rattle.claims.proofs.Related.{Sound, facts}
 use Rattle.claims.proofs.Pieces.{may, copied, filled, kept, come, whole, addable}
 use Rattle.claims.proofs.Runs.{run-offset}
 use Rattle.claims.proofs.Follows.{at-end}
+use Rattle.claims.proofs.Freed.{window-freed}
+use Rattle.claims.proofs.ClosedPlace.{closed-free}
 
 -- a batch's bytes alone
 abbrev alone : Batch → List ℕ → List ℕ
@@ -198,6 +200,7 @@ module _ (setup : Setup) (n : ℕ) (s : State) (S : Sound setup n s) where
       rw (allowed (close client) z)
       (record {
         free = closed-now client (open-place (s .engine) client (a .owner) .0);
+        window-free = λ w some low high. window-freed (s .engine) (S .sized) (length (s .memory)) client a (given w) some low high;
         others = not-closed client;
         zeros = zero-in w (s .memory) fits;
         rest = zero-local w 0 .outside (s .memory) (omega arith, fits);
@@ -212,6 +215,7 @@ module _ (setup : Setup) (n : ℕ) (s : State) (S : Sound setup n s) where
     sound = S .ok;
     opens = λ w z. (rw (allowed (opens w) z), opened w z);
     closes = λ client z. (rw (allowed (close client) z), closed client z);
+    closed-place = λ client c e shut. closed-free setup n s S client c e shut;
     after-newest = write-newest (s .engine) (facts setup n s S) few;
     none-ready = write-first (s .engine) (facts setup n s S) few;
     submitted = submitted;

@@ -4,8 +4,9 @@ use mathlib.Core.Bool.{Bool, true, false, cond}
 use mathlib.Core.Logic.{_⊎_, inl, inr, ⊎-elim}
 use mathlib.Core.List.{List, [], _∷_}
 use Prim.Native.Nat.{ℕ, zero, suc, _+_, _*_, _≤_}
+use native.Mathlib.Nat.{add-zero}
 use native.Mathlib.Omega.{arith}
-use lib.ListN.{length, take}
+use lib.ListN.{length, take, drop}
 use lib.Seq.{length-take-le}
 use lib.Dec.{eqb, ltb, eqb·suc-zero}
 use borrow.Author.Tests.{eqb-false, le-ltb}
@@ -40,6 +41,9 @@ above-less : (m n : ℕ) (e : BatchEnd) → m ≤ n → Above n e → Above m e
 above-less m n finished h a = tt
 above-less m n (faulty f offset) h a = omega arith
 
+next-word : (k count : ℕ) → k + suc count ≡ k + 1 + count
+next-word k count = omega arith
+
 -- the task that is read is the faulty one, and its group begins at word `head`
 abbrev First : (head : ℕ) → DecodedBatch → Type 0
 First head r = (r .tasks ≡ []) × Above head (r .ending)
@@ -61,6 +65,7 @@ module _ (bounds : Bounds) where
     bank : Bank
     reads : decodeFrom bounds b k position (take count ws) ≡ record { tasks = r .tasks; ending = finished; bank = bank }
     low : Above (k + count) (r .ending)
+    rest : decodeFrom bounds bank (k + count) start (drop count ws) ≡ stopWith (r .bank) (r .ending)
 
   -- where a group is read, its task may be the faulty one
   abbrev Claim : Bank → ℕ → DecoderState → List ℕ → DecodedBatch → Type 0
@@ -90,6 +95,7 @@ module _ (bounds : Bounds) where
                 ∙ goes-on b k h (length (take (c .count) ws)) (onFrom bounds b k (take (c .count) ws)) e (whole (field 15 2 h) (length ws) _ l (omega (arith, c .enough, long)))
                 ∙ c .reads;
             low = above-less (k + suc (c .count)) (k + 1 + c .count) (after .ending) (omega arith) (c .low);
+            rest = ap (λ (m : ℕ). decodeFrom bounds (c .bank) m start (drop (c .count) ws)) (next-word k (c .count)) ∙ c .rest;
           }
 
       by : (r l : Bool) → reservedBits h ≡ r → badGroupLength (field 15 2 h) (length ws) ≡ l
@@ -99,23 +105,29 @@ module _ (bounds : Bounds) where
       by false true er el = inl (refl, omega arith)
       by false false er el = ⊎-elim (λ (n : First k after). inl n) (λ (c : Cut b (k + 1) (groupOf k h) (field 15 2 h) ws after). inr (further er el c)) (on (omega arith))
 
-  -- before a task
-  start-none : (b : Bank) (k : ℕ) (ws : List ℕ) (r : DecodedBatch) → First k r → Cut b k start 0 ws r
+  read-none : (b : Bank) (k : ℕ) → decodeFrom bounds b k start [] ≡ stopWith b finished
   unfolding decodeFrom
-  start-none b k ws r n = record {
-    count = 0;
-    enough = omega arith;
-    within = omega arith;
-    bank = b;
-    reads = rw (n .0);
-    low = above-less (k + 0) k (r .ending) (omega arith) (n .1);
-  }
+  read-none b k = refl
+
+  -- before a task
+  start-none : (b : Bank) (k : ℕ) (ws : List ℕ) → First k (decodeFrom bounds b k start ws) → Cut b k start 0 ws (decodeFrom bounds b k start ws)
+  start-none b k ws n =
+      let r : DecodedBatch = decodeFrom bounds b k start ws in
+      record {
+        count = 0;
+        enough = omega arith;
+        within = omega arith;
+        bank = b;
+        reads = read-none b k ∙ ap (λ (ts : List Task). record { tasks = ts; ending = finished; bank = b }) (sym (n .0));
+        low = above-less (k + 0) k (r .ending) (omega arith) (n .1);
+        rest = ap (λ (m : ℕ). decodeFrom bounds b m start ws) (add-zero k) ∙ ap (λ (ts : List Task). record { tasks = ts; ending = r .ending; bank = r .bank }) (n .0);
+      }
 
   start-cut : (b : Bank) (k h : ℕ) (ws : List ℕ) → Claim b (k + 1) (groupOf k h) ws (decodeFrom bounds b (k + 1) (groupOf k h) ws)
       → Cut b k start 0 (h ∷ ws) (decodeFrom bounds b k start (h ∷ ws))
   unfolding decodeFrom
   start-cut b k h ws on =
-      ⊎-elim (start-none b k (h ∷ ws) (decodeFrom bounds b k start (h ∷ ws))) (λ (c : Cut b k start 0 (h ∷ ws) (decodeFrom bounds b k start (h ∷ ws))). c)
+      ⊎-elim (start-none b k (h ∷ ws)) (λ (c : Cut b k start 0 (h ∷ ws) (decodeFrom bounds b k start (h ∷ ws))). c)
       (header-cut b k h ws start (λ xs. refl) on)
 
   -- in a group
@@ -139,6 +151,7 @@ module _ (bounds : Bounds) where
             bank = c .bank;
             reads = ap (λ (x : Write). afterWrite b k x (onWith bounds k (inside n (offset + 4) ends head) (take (c .count) ws))) e ∙ c .reads;
             low = above-less (k + suc (c .count)) (k + 1 + c .count) (r .ending) (omega arith) (c .low);
+            rest = ap (λ (m : ℕ). decodeFrom bounds (c .bank) m start (drop (c .count) ws)) (next-word k (c .count)) ∙ c .rest;
           }))
           (on next (omega arith))
 
@@ -166,12 +179,13 @@ module _ (bounds : Bounds) where
             ∙ ap (λ (check : Check). afterTaskCheck check b head (decodeFrom bounds b k start (take (c .count) ws))) e
             ∙ ap (consTask (taskOf b)) (c .reads);
         low = c .low;
+        rest = c .rest;
       })
       by (Invalid f) e = inl (refl, omega arith)
 
   cut-from : (b : Bank) (k : ℕ) (position : DecoderState) (ws : List ℕ) → Claim b k position ws (decodeFrom bounds b k position ws)
   unfolding decodeFrom
-  cut-from b k start [] = start-none b k [] (stopWith b finished) (refl, tt)
+  cut-from b k start [] = start-none b k [] (refl, tt)
   cut-from b k start (h ∷ ws) = start-cut b k h ws (cut-from b (k + 1) (groupOf k h) ws)
   cut-from b k (inside (suc n) offset ends head) [] = λ lower. inl (refl, omega arith)
   cut-from b k (inside (suc n) offset ends head) (w ∷ ws) = word-cut b k n offset ends head w ws (λ next. cut-from next (k + 1) (inside n (offset + 4) ends head) ws)
@@ -180,15 +194,16 @@ module _ (bounds : Bounds) where
       let r = decodeHeader b k h (length ws) (onFrom bounds b k ws) in
       ⊎-elim (λ (n : First k r). inl (n .0, above-less head k (r .ending) lower (n .1))) (λ (c : Cut b k (inside zero offset false head) 0 (h ∷ ws) r). inr c)
       (header-cut b k h ws (inside zero offset false head) (λ xs. refl) (cut-from b (k + 1) (groupOf k h) ws))
-  cut-from b k (inside zero offset true head) [] = judged-cut b k offset head [] (start-none b k [] (stopWith b finished) (refl, tt))
+  cut-from b k (inside zero offset true head) [] = judged-cut b k offset head [] (start-none b k [] (refl, tt))
   cut-from b k (inside zero offset true head) (h ∷ ws) = judged-cut b k offset head (h ∷ ws) (start-cut b k h ws (cut-from b (k + 1) (groupOf k h) ws))
 
 pub standing-before : (bounds : Bounds) (bank : Bank) (words memory : List ℕ) (tasks : ℕ) (fault : Fault) (offset : ℕ) → verdictOf (decodeBatch bounds bank words) ≡ Faulty tasks fault offset
-    → Standing bounds bank words memory tasks offset
+    → Standing bounds bank words memory tasks fault offset
 standing-before bounds bank words memory tasks fault offset v =
     let c = cut-from bounds bank 0 start words in
     let r = decodeBatch bounds bank words in
     let stopped = faulty-stopped tasks fault offset r v in
+    let none : 0 + c .count ≡ c .count = omega arith in
     let low : Above (0 + c .count) (faulty fault offset) = rw (stopped .0) at (c .low) in
     record {
       before = c .count;
@@ -198,4 +213,9 @@ standing-before bounds bank words memory tasks fault offset v =
           batch-tasks bounds bank words memory
           ∙ ap (λ (d : DecodedBatch). drawTasks (d .tasks) memory) (sym (c .reads))
           ∙ sym (batch-tasks bounds bank (take (c .count) words) memory);
+      begins =
+          ap (λ (d : DecodedBatch). decodeFrom bounds (d .bank) (c .count) start (drop (c .count) words)) (c .reads)
+          ∙ ap (λ (m : ℕ). decodeFrom bounds (c .bank) m start (drop (c .count) words)) (sym none)
+          ∙ c .rest
+          ∙ ap (stopWith (r .bank)) (stopped .0);
     }

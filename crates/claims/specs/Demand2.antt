@@ -3,13 +3,13 @@
 -- batch. proofs/Demand2.antt proves it.
 use mathlib.Core.Path.{_≡_}
 use mathlib.Core.List.{List}
-use Prim.Native.Nat.{ℕ, _*_, _<_, _≤_}
+use Prim.Native.Nat.{ℕ, _+_, _*_, _<_, _≤_}
 use lib.ListN.{length, take, drop}
 use Rattle.register.specs.declared.bank.Bank.{Bank}
 use Rattle.rules.specs.declared.fault.Fault.{Fault}
 use Rattle.rules.specs.declared.task.Bounds.{Bounds}
 use Rattle.batch.specs.declared.verdict.Verdict.the-variants.{Faultless, Faulty}
-use Rattle.batch.specs.Batch.{decodeBatch, verdictOf, tasksDrawn}
+use Rattle.batch.specs.Batch.{faulty, start, stopWith, decodeFrom, decodeBatch, verdictOf, tasksDrawn}
 use Rattle.batch.specs.Marks.{taskEndCount}
 use Rattle.encoder.specs.declared.Answer.the-variants.{Written}
 use Rattle.encoder.specs.Forms.{Form, formSize}
@@ -26,20 +26,24 @@ use Rattle.claims.specs.BatchSemantics.{completionStatusOf, semanticsFro
 use Rattle.claims.specs.Engine.{State, mkState, CallResult, performCall}
 use Rattle.claims.specs.Demand1.{refusalTableOf}
 
--- of a faulty batch with a fault at this offset: the words before the faulty task are by themselves a faultless batch, of so many tasks, and it draws the same
-pub record Standing (bounds : Bounds) (bank : Bank) (words memory : List ℕ) (tasks offset : ℕ) : Type 0 where
-  -- how many words these are
+-- of a faulty batch with this fault at this offset: the words before the faulty task are by themselves a faultless batch, of so many tasks, and it draws
+-- the same; and the faulty task is the one that begins with the next word
+pub record Standing (bounds : Bounds) (bank : Bank) (words memory : List ℕ) (tasks : ℕ) (fault : Fault) (offset : ℕ) : Type 0 where
+  -- how many words stand before the faulty task, so that byte 4 * before is its first
   pub before : ℕ
   pub within : 4 * before ≤ offset
   pub faultless : verdictOf (decodeBatch bounds bank (take before words)) ≡ Faultless tasks
   pub same : drawBatch bounds bank words memory ≡ drawBatch bounds bank (take before words) memory
+  -- read on from there, with the registers as those words left them: no task is finished before the fault
+  pub begins : decodeFrom bounds (decodeBatch bounds bank (take before words) .bank) before start (drop before words)
+      ≡ stopWith (decodeBatch bounds bank words .bank) (faulty fault offset)
 
 -- what holds of any batch of these words, read from any bank on, within any bounds, drawn in any memory
 pub record OfBatch (bounds : Bounds) (bank : Bank) (words memory : List ℕ) : Type 0 where
   -- all its tasks are drawn, each on what the tasks before it left; of a faulty batch those before its fault
   pub drawn : drawBatch bounds bank words memory ≡ drawTasks (tasksDrawn (decodeBatch bounds bank words)) memory
   -- "tasks before the faulty one stand, and the status word carries their number" (02, 5)
-  pub faulty : (tasks : ℕ) (fault : Fault) (offset : ℕ) → verdictOf (decodeBatch bounds bank words) ≡ Faulty tasks fault offset → Standing bounds bank words memory tasks offset
+  pub faulty : (tasks : ℕ) (fault : Fault) (offset : ℕ) → verdictOf (decodeBatch bounds bank words) ≡ Faulty tasks fault offset → Standing bounds bank words memory tasks fault offset
   -- "no byte outside a task's output rows changes": what is written, with what, and what is not
   pub writes : WriteFrame bounds bank words memory
   -- the task number "is the task-end marks in the batch"

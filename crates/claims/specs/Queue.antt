@@ -3,11 +3,13 @@
 use mathlib.Core.Path.{_≡_}
 use mathlib.Core.Bool.{true, false}
 use mathlib.Core.List.{List, [], _∷_, _++_}
-use Prim.Native.Nat.{ℕ, _+_, _-_, _<_}
-use lib.ListN.{length}
+use Prim.Native.Nat.{ℕ, _+_, _-_, _≤_, _<_}
+use lib.ListN.{length, set}
 use Rattle.word.specs.Word.{words}
 use Rattle.ring.specs.Segment.{segment, wrapOffset}
 use Rattle.record.specs.declared.Batch.{Batch}
+use Rattle.record.specs.declared.Client.{Client}
+use Rattle.record.specs.declared.Record.{Record}
 use Rattle.record.specs.Slots.{totalLength}
 use Rattle.record.specs.Staged.{noStaged}
 use Rattle.record.specs.Clients.{clientAt, isOpen, lowestClosed}
@@ -18,7 +20,7 @@ use Rattle.queue.specs.Calls.{newBatch, begun, more, isLast}
 use Rattle.engine.specs.Run.{oldest, oldestWords}
 use Rattle.model.specs.Windows.{Window, In, window, byte}
 use Rattle.model.specs.Calls.{Setup, Call, opens, submit, run, begin, piece, cancel, close, opened, done}
-use Rattle.claims.specs.Engine.{State, performCall, SetUpAccepted}
+use Rattle.claims.specs.Engine.{State, mkState, performCall, answersOf, memoriesOf, SetUpAccepted}
 use Rattle.claims.specs.Demand1.{refusalTableOf}
 use Rattle.claims.specs.Demand3.{finalState}
 
@@ -97,6 +99,9 @@ pub record Opened (w : Window) (s after : State) : Type 0 where
 -- memory, the ring and what waits are as they were
 pub record Closed (client : ℕ) (s after : State) : Type 0 where
   pub free : isOpen (after .engine) client ≡ false
+  -- row 4 of open does not hold of a window inside the freed one, nor any row before it
+  pub window-free : (w : Window) → 0 < w .length → clientAt (s .engine) client .window .start ≤ w .start →
+      w .start + w .length ≤ clientAt (s .engine) client .window .start + clientAt (s .engine) client .window .length → firstRefusal (refusalTableOf (opens w) after) ≡ 0
   pub others : (k : ℕ) → ¬ (k ≡ client) → clientAt (after .engine) k ≡ clientAt (s .engine) k
   pub zeros : (i : ℕ) → In (window (clientAt (s .engine) client .window .start) (clientAt (s .engine) client .window .length)) i → byte (after .memory) i ≡ 0
   pub rest : (i : ℕ) → ¬ (In (window (clientAt (s .engine) client .window .start) (clientAt (s .engine) client .window .length)) i) → byte (after .memory) i ≡ byte (s .memory) i
@@ -104,6 +109,23 @@ pub record Closed (client : ℕ) (s after : State) : Type 0 where
   pub ring : after .ring ≡ s .ring
   pub queue : SameQueue s after
   pub waits : waiting (after .engine) ≡ waiting (s .engine)
+
+-- the same record, but for what one place holds
+abbrev pub withPlace : Record → (client : ℕ) → Client → Record
+withPlace engine client c = record {
+  setup = engine .setup;
+  clients = set (engine .clients) client c;
+  slots = engine .slots;
+  read = engine .read;
+  next = engine .next;
+  staged = engine .staged;
+}
+
+-- what a closed place holds does not matter: with anything else in it, later calls answer the same and leave the same memory
+abbrev pub ClosedPlaceFree : State → Type 0
+ClosedPlaceFree s = (client : ℕ) (c : Client) → clientAt (s .engine) client .opened ≡ false → c .opened ≡ false → (later : List Call) →
+    let other : State = mkState (withPlace (s .engine) client c) (s .ring) (s .memory) in
+    (answersOf later other ≡ answersOf later s) × (memoriesOf later other ≡ memoriesOf later s)
 
 pub record Queue (s : State) : Type 0 where
   -- the record keeps its rules: 11 never comes
@@ -114,6 +136,7 @@ pub record Queue (s : State) : Type 0 where
   -- 02, 11: "Add closing"; it answers nothing
   pub closes : (client : ℕ) → firstRefusal (refusalTableOf (close client) s) ≡ 0 →
       (performCall (close client) s .answer ≡ done) × Closed client s (performCall (close client) s .after)
+  pub closed-place : ClosedPlaceFree s
   -- "Submit copies the batch into the ring after the newest one (at the read offset if none is ready)"
   pub after-newest : (batches : List Batch) (newest : Batch) → waiting (s .engine) ≡ batches ++ newest ∷ [] →
       writeOffset (s .engine) ≡ wrapOffset (s .engine .setup .ring) (newest .offset + newest .length)

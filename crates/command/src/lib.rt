@@ -6,6 +6,7 @@ ghost use Prim.Native.Nat.{_<_};
 ghost use lib.ListN.{length};
 ghost use lib.Dec.{leb};
 ghost use Rattle.io.specs.Counts.{Counts};
+ghost use Rattle.ppm.specs.Words.{parseNumber, formatNamed};
 use libc::STDERR_FILENO;
 use libc::STDOUT_FILENO;
 use ppm::Named;
@@ -19,22 +20,23 @@ pub fn complain(what: &[u8], why: &[u8]) {
     io::write_all(STDERR_FILENO, why);
 }
 
-// An argument that is to be a number; what is wrong with it is told. One that is too long for the buffer counts as empty, and so as none.
-pub fn number_argument(index: usize, name: &[u8]) -> Number {
-    let mut text = io::buffer();
-    let n = os::arg(index, &mut text);
-    let number = ppm::number_of(&text[..n]);
+// The number that an argument's text spells; that it spells none is told, with the argument's name. One that was too long for its buffer is an empty
+// text (`os::arg`), and so none.
+pub fn number_in(text: &[u8], name: &[u8]) -> Number
+    ensures { λ r. ⌜ r ≡ parseNumber (now (text .entry)) ⌝ }
+{
+    let number = ppm::number_of(text);
     if let Number::Invalid = number {
         complain(name, b" is not a number from 0 to 4294967295\n");
     }
     number
 }
 
-// An argument that is to be a format; what is wrong with it is told.
-pub fn format_argument(index: usize) -> Named {
-    let mut text = io::buffer();
-    let n = os::arg(index, &mut text);
-    let format = ppm::format_named(&text[..n]);
+// The format that an argument's text names; that it names none is told.
+pub fn format_in(text: &[u8]) -> Named
+    ensures { λ r. ⌜ r ≡ formatNamed (now (text .entry)) ⌝ }
+{
+    let format = ppm::format_named(text);
     if let Named::Unknown = format {
         complain(b"FORMAT", b" is not argb8888, rgb888 or rgb565\n");
     }

@@ -39,7 +39,7 @@ submissions Second entries = scored entries
 
 -- ---- of a record that lies in the buffer up to `end` (crate records)
 
--- the score's word stands at 5; bytes that do not lie there have none
+-- Internal: the score's word stands at 5; bytes that do not lie there have none
 abbrev pub scoreIn : Edition → (held : List ℕ) → (end : ℕ) → Bool
 scoreIn First held end = true
 scoreIn Second held end = (leb 9 end && leb end (length held)) && isScoreWord (be32At held 5)

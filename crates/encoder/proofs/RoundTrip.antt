@@ -8,6 +8,7 @@ use native.Mathlib.Omega.{arith}
 use lib.ListN.{length}
 use Rattle.word.specs.Word.{words}
 use Rattle.word.proofs.Tests.{and-true}
+use Rattle.word.proofs.Words.{Below32, words-back}
 use Rattle.gradient.specs.declared.Steps.{Steps}
 use Rattle.register.specs.Bank.{resetSteps}
 use Rattle.register.specs.declared.bank.Bank.{Bank}
@@ -23,7 +24,6 @@ use Rattle.encoder.specs.Forms.{Form, firstForm, secondForm, fieldsIn, f
 use Rattle.encoder.specs.Encoder.{taskBytes}
 use Rattle.encoder.specs.RoundTrip.{taskWith, stepsAfter, allTasks, allWords, allBytes, AllAllowed, Fits32Bits, AllFit32Bits, AllPassTaskCheck, endHeader, bankWith, expectedDecoding, bankAfter}
 use Rattle.encoder.proofs.Allowed.{parts, surface-fits, source-fits, destination-fits, blending-fits, steps-fit}
-use Rattle.encoder.proofs.Written.{Below, words-back}
 use Rattle.encoder.proofs.Groups.{StepsTaken, task-read, shaded-read}
 use Rattle.encoder.proofs.TaskFields.{all-taken, steps-taken, task-back}
 
@@ -101,7 +101,7 @@ one-mark-each (w ∷ ws) = omega (arith, mark-each w (allWords ws), one-mark-eac
 
 -- ---- bytes
 
-first-below : (f : Fields) → allowed f ≡ true → Fits32Bits f → Below (taskWords (bankOf resetSteps f))
+first-below : (f : Fields) → allowed f ≡ true → Fits32Bits f → Below32 (taskWords (bankOf resetSteps f))
 unfolding taskWords bankOf surfaceRegisters sourceControl destinationControl blendingWord
 first-below f ok plain =
     let p = parts f ok in
@@ -111,7 +111,7 @@ first-below f ok plain =
     let b = blending-fits (f .blending) (p .blending) in
     (omega arith, (omega arith, (omega arith, (omega arith, (plain .colour, (plain .source, (omega arith, (omega arith, (omega arith, (omega arith, (omega arith, (plain .destination, (omega arith, (omega arith, (omega arith, (omega arith, (omega arith, (omega arith, (omega arith, (plain .output, tt))))))))))))))))))))
 
-second-below : (f : Fields) (steps : Steps) → allowed f ≡ true → stepsAllowed steps ≡ true → Fits32Bits f → Below (shadedWords (bankOf steps f))
+second-below : (f : Fields) (steps : Steps) → allowed f ≡ true → stepsAllowed steps ≡ true → Fits32Bits f → Below32 (shadedWords (bankOf steps f))
 unfolding shadedWords bankOf surfaceRegisters sourceControl destinationControl blendingWord
 second-below f steps ok fit plain =
     let p = parts f ok in
@@ -122,7 +122,7 @@ second-below f steps ok fit plain =
     let g = steps-fit steps fit in
     (omega arith, (omega arith, (omega arith, (omega arith, (plain .colour, (plain .source, (omega arith, (omega arith, (omega arith, (omega arith, (omega arith, (omega arith, (omega arith, (omega arith, (omega arith, (omega arith, (plain .destination, (omega arith, (omega arith, (omega arith, (omega arith, (omega arith, (omega arith, (omega arith, (plain .output, tt)))))))))))))))))))))))))
 
-below : (w : Form) → formAllowed w ≡ true → Fits32Bits (fieldsIn w) → Below (formWords w)
+below : (w : Form) → formAllowed w ≡ true → Fits32Bits (fieldsIn w) → Below32 (formWords w)
 below (firstForm f) ok plain = first-below f ok plain
 below (secondForm f steps) ok plain = let both = and-true (allowed f) (stepsAllowed steps) ok in second-below f steps (both .0) (both .1) plain
 

@@ -9,7 +9,9 @@ fn asked() -> Number {
         command::complain(b"fault", b" takes two arguments\n");
         return Number::Invalid;
     }
-    command::number_argument(2, b"TICKET")
+    let mut text = io::buffer();
+    let n = os::arg(2, &mut text);
+    command::number_in(&text[..n], b"TICKET")
 }
 
 // How to give the arguments.

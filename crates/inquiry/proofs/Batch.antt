@@ -14,7 +14,7 @@ use Rattle.rules.specs.declared.fault.Fault.{Fault}
 use Rattle.rules.specs.declared.task.Bounds.{Bounds}
 use Rattle.batch.specs.declared.walk.Step.{Step}
 use Rattle.batch.specs.declared.walk.Step.the-variants.{Task as Next, Faulty as Stop, End}
-use Rattle.batch.specs.declared.verdict.Judgement.{Judgement}
+use Rattle.batch.specs.declared.verdict.Validation.{Validation}
 use Rattle.batch.specs.declared.verdict.Verdict.the-variants.{Faultless, Faulty}
 use Rattle.batch.specs.Batch.{BatchEnd, finished, faulty, DecodedBatch, consTask, tasksDrawn, verdictAfter, validationOf}
 use Rattle.batch.specs.Walk.{decodeRest, stepAt}
@@ -81,10 +81,10 @@ register-here g k ws h =
 
 -- ---- a batch judged
 
-module _ (ws : List ℕ) (r : DecodedBatch) (j : Judgement) (is : j ≡ validationOf r) where
+module _ (ws : List ℕ) (r : DecodedBatch) (j : Validation) (is : j ≡ validationOf r) where
   by-ending : (e : BatchEnd) → e ≡ r .ending → explained ws r ≡ explainedBy ws (j .bank) e
   unfolding explained
-  by-ending e same = ap (λ (b : Bank). explainedBy ws b (r .ending)) (sym (ap (λ (q : Judgement). q .bank) is)) ∙ ap (explainedBy ws (j .bank)) (sym same)
+  by-ending e same = ap (λ (b : Bank). explainedBy ws b (r .ending)) (sym (ap (λ (q : Validation). q .bank) is)) ∙ ap (explainedBy ws (j .bank)) (sym same)
 
   pub explained-none : (n : ℕ) → j .verdict ≡ Faultless n → NoFault ≡ explained ws r
   explained-none n v = go (r .ending) refl
@@ -92,7 +92,7 @@ module _ (ws : List ℕ) (r : DecodedBatch) (j : Judgement) (is : j ≡ validati
       go : (e : BatchEnd) → e ≡ r .ending → NoFault ≡ explained ws r
       go finished same = sym (by-ending finished same)
       go (faulty f place) same =
-          let wrong : Faulty (length (r .tasks)) f place ≡ Faultless n = ap (verdictAfter (length (r .tasks))) same ∙ sym (ap (λ (q : Judgement). q .verdict) is) ∙ v in
+          let wrong : Faulty (length (r .tasks)) f place ≡ Faultless n = ap (verdictAfter (length (r .tasks))) same ∙ sym (ap (λ (q : Validation). q .verdict) is) ∙ v in
           absurd (let z : _≡_ {A = ℕ} 0 1 = cc in omega arith)
 
   pub explained-fault : (n : ℕ) (f : Fault) (place : ℕ) → j .verdict ≡ Faulty n f place → explainedBy ws (j .bank) (faulty f place) ≡ explained ws r
@@ -100,10 +100,10 @@ module _ (ws : List ℕ) (r : DecodedBatch) (j : Judgement) (is : j ≡ validati
     where
       go : (e : BatchEnd) → e ≡ r .ending → explainedBy ws (j .bank) (faulty f place) ≡ explained ws r
       go finished same =
-          let wrong : Faultless (length (r .tasks)) ≡ Faulty n f place = ap (verdictAfter (length (r .tasks))) same ∙ sym (ap (λ (q : Judgement). q .verdict) is) ∙ v in
+          let wrong : Faultless (length (r .tasks)) ≡ Faulty n f place = ap (verdictAfter (length (r .tasks))) same ∙ sym (ap (λ (q : Validation). q .verdict) is) ∙ v in
           absurd (let z : _≡_ {A = ℕ} 0 1 = cc in omega arith)
       go (faulty g other) same =
-          let right : Faulty (length (r .tasks)) g other ≡ Faulty n f place = ap (verdictAfter (length (r .tasks))) same ∙ sym (ap (λ (q : Judgement). q .verdict) is) ∙ v in
+          let right : Faulty (length (r .tasks)) g other ≡ Faulty n f place = ap (verdictAfter (length (r .tasks))) same ∙ sym (ap (λ (q : Validation). q .verdict) is) ∙ v in
           let fault : f ≡ g = cc in
           let there : place ≡ other = cc in
           sym (by-ending (faulty g other) same ∙ rw (fault, there))

@@ -67,10 +67,11 @@ pub record Feeds (q : Question) (seen : List ℕ) (input : List ℕ) (f : Fed) (
 
 -- ---- the finding after what a step of the reading found: contract of inner functions
 
--- over 1,024 records nothing is looked at
+-- Internal: over 1,024 records nothing is looked at
 abbrev pub findingNext : Question → Finding → Entry → Finding
 findingNext q f entry = cond (ltb 1024 (f .records) || ltb 1024 (f .accepted)) f (findingAfter q f entry)
 
+-- Internal
 abbrev pub findingOn : Question → Finding → Found → (held : List ℕ) → Finding
 findingOn q f Nothing held = f
 findingOn q f (Record end) held = findingNext q f (entryIn held end)

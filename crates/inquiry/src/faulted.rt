@@ -8,7 +8,7 @@ ghost use Rattle.lines.specs.Lines.{fileReset};
 ghost use Rattle.batch.specs.Batch.{decodeBatch};
 ghost use Rattle.provenance.specs.Faulted.{groupAfter, registerAt, heldSurface, heldSteps, heldIn, detailOf, explained};
 use batch::Verdict;
-use batch::judge;
+use batch::validate;
 use batch::word_at;
 use gradient::Steps;
 use provenance::Detail;
@@ -122,7 +122,7 @@ fn detail_of(fault: Fault, register: u32, bank: Bank) -> Detail
 pub fn explain(ring: &[u8], offset: usize, size: usize, bounds: Bounds) -> Why
     ensures { λ r. ⌜ r ≡ explained (batchWords (now (ring .entry)) offset size) (decodeBatch bounds (fileReset First) (batchWords (now (ring .entry)) offset size)) ⌝ }
 {
-    let judged = judge(
+    let judged = validate(
         ring,
         offset,
         size,

@@ -16,8 +16,8 @@ use Rattle.model.specs.Calls.{Setup, Call, opens, submit, run, pending, 
 use Rattle.model.specs.BatchSemantics.{BatchSemantics, Confined}
 use Rattle.model.specs.State.{Batch, batch, Model, taken, idle, initialModel, lowestFree, windowsIn, takenSlots, totalBytes, countOf}
 use Rattle.model.specs.Refusals.{freeBytes, refusalTable, firstHolding}
-use Rattle.model.specs.Model.{refuseOr, effect, answers, after, closed, modelAfterAll}
-use Rattle.model.specs.Tenancy.{batchesOf}
+use Rattle.model.specs.Model.{refuseOr, effect, step, answers, memories, after, closed, modelAfterAll}
+use Rattle.model.specs.Tenancy.{batchesOf, entered}
 use Rattle.model.specs.Order.{Event, opening, closing, job, jobs, seenBy, Reordered, changes, submissions, AllRun, SameOutcome, Exchanged, ByHand}
 use Rattle.model.specs.Noninterference.{none, more, same, rewritten, repieced, LowEquivalent}
 use Rattle.model.specs.Properties.{Noninterference}
@@ -235,6 +235,25 @@ twins = record {
 
 unmoved-so : Noninterference toy setup 128 0 earlier (window 12 10) later later′ memory memory′
 unmoved-so = claims toy setup 128 .noninterference toy-confined 0 earlier (window 12 10) later later′ memory memory′ twins
+
+-- the tenancy's closing is accepted, so that from there on every answer and all of memory agree, though the two drew different bytes
+abbrev stay : List Call → List ℕ → Model
+stay during start = after toy setup 128 during (entered toy setup 128 (initialModel start) earlier (window 12 10))
+
+closes-so : step toy setup 128 (close 0) (stay later memory) .answer ≡ done
+unfolding after refuseOr effect refusalTable firstHolding overlapAny lowestFree windowsIn totalBytes countOf
+closes-so = refl
+
+abbrev next : List Call
+next = opens (window 12 10) ∷ submit 0 (replicate 4 3) ∷ run ∷ []
+
+closed-so : (answers toy setup 128 (close 0 ∷ next) (stay later memory) ≡ answers toy setup 128 (close 0 ∷ next) (stay later′ memory′))
+    × (memories toy setup 128 (close 0 ∷ next) (stay later memory) ≡ memories toy setup 128 (close 0 ∷ next) (stay later′ memory′))
+closed-so = unmoved-so .from-closing next closes-so
+
+differ-so : (byte (stay later memory .memory) 12 ≡ 212) × (byte (stay later′ memory′ .memory) 12 ≡ 101)
+unfolding after refuseOr effect refusalTable firstHolding overlapAny lowestFree windowsIn totalBytes countOf
+differ-so = (refl, refl)
 
 -- ---- order: two clients hand in and are run in two orders, by pieces in one; then the second one goes and a third comes
 

@@ -7,19 +7,25 @@ use surface::Surface;
 
 // The rectangle that the arguments name. What is wrong with them is reported.
 fn asked() -> Rectangle {
-    let Number::Value(address) = command::number_argument(2, b"ADDRESS") else {
+    let mut text = io::buffer();
+    let n = os::arg(2, &mut text);
+    let Number::Value(address) = command::number_in(&text[..n], b"ADDRESS") else {
         return Rectangle::Outside;
     };
-    let Number::Value(stride) = command::number_argument(3, b"STRIDE") else {
+    let n = os::arg(3, &mut text);
+    let Number::Value(stride) = command::number_in(&text[..n], b"STRIDE") else {
         return Rectangle::Outside;
     };
-    let Number::Value(width) = command::number_argument(4, b"WIDTH") else {
+    let n = os::arg(4, &mut text);
+    let Number::Value(width) = command::number_in(&text[..n], b"WIDTH") else {
         return Rectangle::Outside;
     };
-    let Number::Value(height) = command::number_argument(5, b"HEIGHT") else {
+    let n = os::arg(5, &mut text);
+    let Number::Value(height) = command::number_in(&text[..n], b"HEIGHT") else {
         return Rectangle::Outside;
     };
-    let Named::Known(format) = command::format_argument(6) else {
+    let n = os::arg(6, &mut text);
+    let Named::Known(format) = command::format_in(&text[..n]) else {
         return Rectangle::Outside;
     };
     let rectangle = ppm::rectangle_of(address, stride, width, height, format);

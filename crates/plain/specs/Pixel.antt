@@ -1,4 +1,4 @@
--- One pixel of a task, drawn by itself (02, request 13). The definition of a task does not speak of it: it is what the functions of the slow engine ask.
+-- Internal: one pixel of a task, drawn by itself (02, request 13); what the functions of the slow engine ask.
 use mathlib.Core.Path.{_≡_}
 use mathlib.Core.Bool.{true}
 use mathlib.Core.List.{List}

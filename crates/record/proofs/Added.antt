@@ -14,7 +14,7 @@ use Rattle.record.specs.declared.SlotState.{SlotState}
 use Rattle.record.specs.declared.SlotState.the-variants.{Free, Ready}
 use Rattle.record.specs.Slots.{free, readyWith, consIfReady, readyBatches, sumOver, isFreeState, lowestFree}
 use Rattle.record.specs.Tickets.{ticketAfter, ticketBefore, hasTicket, slotOfTicket, isReadyTicket, batchOfTicket, ticketsConsecutive, inTicketOrder}
-use Rattle.record.proofs.Slots.{sum-added, length-added}
+use Rattle.record.proofs.Slots.{sum-added, length-sum}
 use Rattle.record.proofs.Order.{tickets-apart, ticket-back, ticket-newest, batch-other, given-other, no-other}
 
 -- ---- the lowest free slot
@@ -64,11 +64,8 @@ module _ (b : Batch) where
 
   pub length-new : (ss : List Slot) (i : ℕ) → i < length ss → getD ss i free .state ≡ Free →
       length (readyBatches (set ss i (readyWith b))) ≡ suc (length (readyBatches ss))
-  unfolding readyBatches
-  length-new [] i h e = absurd (omega arith)
-  length-new (s ∷ ss) zero h e = rw e
-  length-new (s ∷ ss) (suc i) h e =
-      omega (arith, length-added (s .state) (readyBatches ss), length-added (s .state) (readyBatches (set ss i (readyWith b))), length-new ss i (omega arith) e)
+  length-new ss i h e =
+      omega (arith, length-sum (readyBatches ss), length-sum (readyBatches (set ss i (readyWith b))), sum-new (λ x. 1) ss i h e)
 
   -- a ticket that no slot has is found where it is put
   pub place-new : (ss : List Slot) (i : ℕ) → i < length ss → slotOfTicket (b .ticket) ss ≡ length ss → slotOfTicket (b .ticket) (set ss i (readyWith b)) ≡ i

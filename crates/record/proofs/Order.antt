@@ -13,7 +13,7 @@ use Rattle.record.specs.declared.SlotState.{SlotState}
 use Rattle.record.specs.declared.SlotState.the-variants.{Free, Ready}
 use Rattle.record.specs.Slots.{free, consIfReady, readyBatches, sumOver}
 use Rattle.record.specs.Tickets.{ticketAfter, ticketBefore, hasTicket, slotOfTicket, isReadyTicket, batchInState, batchOfTicket, ticketsConsecutive, inTicketOrder}
-use Rattle.record.proofs.Slots.{sum-added, length-added}
+use Rattle.record.proofs.Slots.{sum-added, length-sum}
 
 -- ---- tickets
 
@@ -79,23 +79,12 @@ unfolding sumOver
 sum-has f t Free e = absurd (false≢true e)
 sum-has f t (Ready b) e = omega arith
 
-pub length-has : (t : ℕ) (s : SlotState) → hasTicket t s ≡ true → length (consIfReady s []) ≡ 1
-length-has t Free e = absurd (false≢true e)
-length-has t (Ready b) e = refl
-
 pub sum-split : (f : Batch → ℕ) (ss : List Slot) (i : ℕ) → sumOver f (readyBatches ss) ≡ sumOver f (consIfReady (getD ss i free .state) []) + sumOver f (readyBatches (set ss i free))
 unfolding readyBatches sumOver
 sum-split f [] i = omega arith
 sum-split f (s ∷ ss) zero = sum-added f (s .state) (readyBatches ss)
 sum-split f (s ∷ ss) (suc i) =
     omega (arith, sum-added f (s .state) (readyBatches ss), sum-added f (s .state) (readyBatches (set ss i free)), sum-split f ss i)
-
-pub length-split : (ss : List Slot) (i : ℕ) → length (readyBatches ss) ≡ length (consIfReady (getD ss i free .state) []) + length (readyBatches (set ss i free))
-unfolding readyBatches
-length-split [] i = omega arith
-length-split (s ∷ ss) zero = length-added (s .state) (readyBatches ss)
-length-split (s ∷ ss) (suc i) =
-    omega (arith, length-added (s .state) (readyBatches ss), length-added (s .state) (readyBatches (set ss i free)), length-split ss i)
 
 -- later batches stay where they are
 module _ (next k : ℕ) (ss : List Slot) (i : ℕ) (small : suc k < 4294967296) (has : hasTicket (ticketBefore next (suc k)) (getD ss i free .state) ≡ true) where
@@ -130,11 +119,14 @@ oldest next k ss small e =
     let both = and-true (isReadyTicket t ss) (ticketsConsecutive k next ss) e in
     let found = ltb-true (slotOfTicket t ss) (length ss) (both .0) in
     let has = place-has t ss found in
+    let one : Batch → ℕ = λ b. 1 in
+    let left : List Slot = set ss (slotOfTicket t ss) free in
     record {
       found = found;
       has = has;
       rest = given-freed next k ss (slotOfTicket t ss) small has k (omega arith) ∙ both .1;
-      fewer = length-split ss (slotOfTicket t ss) ∙ rw (length-has t (getD ss (slotOfTicket t ss) free .state) has) (omega arith);
+      fewer =
+          omega (arith, length-sum (readyBatches ss), length-sum (readyBatches left), sum-split one ss (slotOfTicket t ss), sum-has one t (getD ss (slotOfTicket t ss) free .state) has);
     }
 
 -- sums go over the same batches

@@ -7,7 +7,7 @@ ghost use lib.ListN.{length, drop};
 ghost use lib.Dec.{leb, eqb};
 ghost use Rattle.ring.specs.Segment.{wrapOffset};
 ghost use Rattle.record.specs.Setup.{badRing, badMemory, badLength};
-ghost use Rattle.record.specs.Slots.{consIfReady, readyBatches, totalLength, countOf, isFreeState, lowestFree};
+ghost use Rattle.record.specs.Slots.{consIfReady, readyBatches, sumOver, amountOf, totalLength, countOf, isFreeState, lowestFree};
 ghost use Rattle.record.specs.Staged.{noStaged, slotHeld};
 ghost use Rattle.record.specs.Tickets.{ticketBefore, hasTicket, slotOfTicket, batchInState};
 ghost use Rattle.record.specs.Clients.{isOpen, windowsOf, lowestClosed, overlapsAny, badWindow, windowsValid, pendingCountsMatch};
@@ -101,33 +101,30 @@ fn is_free(slot: Slot) -> bool
     }
 }
 
-fn ready_in_slot(slot: Slot) -> usize
-    ensures { λ r. ⌜ (r ≡ length (consIfReady (slot .state) [])) × (r ≤ 1) ⌝ }
+// What is summed over the ready batches: 1 for each, the length of each, or 1 for each of a client.
+pub enum Amount {
+    One,
+    Length,
+    OfClient(u32),
+}
+
+fn amount_of(amount: Amount, b: Batch) -> usize
+    ensures { λ r. ⌜ r ≡ amountOf amount b ⌝ }
 {
-    let state = slot.state;
-    match state {
-        SlotState::Free => 0,
-        SlotState::Ready(_) => 1,
+    match amount {
+        Amount::One => 1,
+        Amount::Length => b.length,
+        Amount::OfClient(client) => if b.client == client { 1 } else { 0 },
     }
 }
 
-fn bytes_in_slot(slot: Slot) -> usize
-    ensures { λ r. ⌜ r ≡ totalLength (consIfReady (slot .state) []) ⌝ }
+fn amount_in_slot(slot: Slot, amount: Amount) -> usize
+    ensures { λ r. ⌜ r ≡ sumOver (amountOf amount) (consIfReady (slot .state) []) ⌝ }
 {
     let state = slot.state;
     match state {
         SlotState::Free => 0,
-        SlotState::Ready(b) => b.length,
-    }
-}
-
-fn owned_in_slot(slot: Slot, client: u32) -> usize
-    ensures { λ r. ⌜ (r ≡ countOf client (consIfReady (slot .state) [])) × (r ≤ 1) ⌝ }
-{
-    let state = slot.state;
-    match state {
-        SlotState::Free => 0,
-        SlotState::Ready(b) => if b.client == client { 1 } else { 0 },
+        SlotState::Ready(b) => amount_of(amount, b),
     }
 }
 
@@ -165,17 +162,25 @@ fn has_age(slot: Slot, next: u32, k: usize) -> bool
     }
 }
 
-// How many slots are ready.
-pub fn ready_slots(slots: [Slot; 8]) -> usize
-    ensures { λ r. ⌜ (r ≡ length (readyBatches slots)) × (r ≤ 8) × (length slots ≡ 8) ⌝ }
+// An amount of each ready batch, summed.
+fn sum_over(slots: [Slot; 8], amount: Amount) -> usize
+    requires { ⌜ sumOver (amountOf amount) (readyBatches slots) ≤ 32768 ⌝ }
+    ensures { λ r. ⌜ r ≡ sumOver (amountOf amount) (readyBatches slots) ⌝ }
 {
     let mut n: usize = 0;
     let mut i: usize = 0;
     while i < 8 {
-        n += ready_in_slot(slots[i]);
+        n += amount_in_slot(slots[i], amount);
         i += 1;
     }
     n
+}
+
+// How many slots are ready.
+pub fn ready_slots(slots: [Slot; 8]) -> usize
+    ensures { λ r. ⌜ (r ≡ length (readyBatches slots)) × (r ≤ 8) × (length slots ≡ 8) ⌝ }
+{
+    sum_over(slots, Amount::One)
 }
 
 // How many ring bytes the ready batches have.
@@ -183,26 +188,14 @@ pub fn ready_bytes(slots: [Slot; 8]) -> usize
     requires { ⌜ totalLength (readyBatches slots) ≤ 32768 ⌝ }
     ensures { λ r. ⌜ r ≡ totalLength (readyBatches slots) ⌝ }
 {
-    let mut n: usize = 0;
-    let mut i: usize = 0;
-    while i < 8 {
-        n += bytes_in_slot(slots[i]);
-        i += 1;
-    }
-    n
+    sum_over(slots, Amount::Length)
 }
 
 // How many ready batches are the client's.
 pub fn count_of(slots: [Slot; 8], client: u32) -> usize
     ensures { λ r. ⌜ r ≡ countOf client (readyBatches slots) ⌝ }
 {
-    let mut n: usize = 0;
-    let mut i: usize = 0;
-    while i < 8 {
-        n += owned_in_slot(slots[i], client);
-        i += 1;
-    }
-    n
+    sum_over(slots, Amount::OfClient(client))
 }
 
 // The lowest free slot, 8 if there is none.

@@ -16,10 +16,10 @@ use Rattle.record.specs.declared.Record.{Record}
 use Rattle.record.specs.declared.Slot.{Slot}
 use Rattle.record_bytes.specs.declared.write.Row.{Row}
 use Rattle.record_bytes.specs.Layout.{wordAt, low}
-use Rattle.record_bytes.specs.Written.{rowOf, flagOf, wordsWith, wordsOf, bytesOf}
+use Rattle.record_bytes.specs.Written.{headWords, clientsWords, stagedWords, rowOf, rowWords, rowAt, flagOf, wordsOf, bytesOf}
 use Rattle.record_bytes.specs.Read.{slotRight, slotsRight, fixedRight, isRecord, slotIn, clientsIn, slotsIn, recordIn, recordOf}
 use Rattle.record_bytes.specs.RoundTrip.{AllBytes, Canonical}
-use Rattle.record_bytes.proofs.Cases.{rows-are, record-size}
+use Rattle.record_bytes.proofs.Cases.{record-size}
 use Rattle.record_bytes.proofs.Words.{low-is}
 
 -- ---- bytes
@@ -119,6 +119,20 @@ slots ws h =
     let a2 = and-true (slotRight ws 24 && slotRight ws 29) (slotRight ws 34) (a3 .0) in
     let a1 = and-true (slotRight ws 24) (slotRight ws 29) (a2 .0) in
     ((a1 .0), a1 .1, a2 .1, a3 .1, a4 .1, a5 .1, a6 .1, a7 .1)
+
+-- the words of a record, with rows that may be another's
+unfoldable wordsWith : Record → (s0 s1 s2 s3 s4 s5 s6 s7 : Row) → List ℕ
+wordsWith r s0 s1 s2 s3 s4 s5 s6 s7 =
+    headWords r ++ (clientsWords (r .clients)
+    ++ ((rowWords s0 ++ (rowWords s1 ++ (rowWords s2 ++ (rowWords s3 ++ (rowWords s4 ++ (rowWords s5 ++ (rowWords s6 ++ rowWords s7)))))))
+    ++ stagedWords (r .staged)))
+
+module _ (r : Record) {s0 s1 s2 s3 s4 s5 s6 s7 : Row} where
+  rows-are : s0 ≡ rowAt (r .slots) 0 → s1 ≡ rowAt (r .slots) 1 → s2 ≡ rowAt (r .slots) 2 → s3 ≡ rowAt (r .slots) 3 →
+      s4 ≡ rowAt (r .slots) 4 → s5 ≡ rowAt (r .slots) 5 → s6 ≡ rowAt (r .slots) 6 → s7 ≡ rowAt (r .slots) 7 →
+      wordsWith r s0 s1 s2 s3 s4 s5 s6 s7 ≡ wordsOf r
+  unfolding wordsOf wordsWith
+  rows-are e0 e1 e2 e3 e4 e5 e6 e7 = rw (e0, e1, e2, e3, e4, e5, e6, e7)
 
 abbrev rowIn : List ℕ → ℕ → Row
 rowIn ws k = record { tag = wordAt ws k; client = wordAt ws (k + 1); ticket = wordAt ws (k + 2); offset = wordAt ws (k + 3); length = wordAt ws (k + 4) }

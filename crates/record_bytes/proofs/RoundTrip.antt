@@ -19,7 +19,7 @@ use Rattle.record.specs.Slots.{free}
 use Rattle.record.specs.Clients.{noClient}
 use Rattle.record_bytes.specs.declared.write.Row.{Row}
 use Rattle.record_bytes.specs.Layout.{wordAt, low}
-use Rattle.record_bytes.specs.Written.{tagOf, flagOf, rowOf, rowAt, wordsWith, wordsOf, bytesOf}
+use Rattle.record_bytes.specs.Written.{tagOf, flagOf, rowOf, rowAt, wordsOf, bytesOf}
 use Rattle.record_bytes.specs.Read.{slotRight, slotsRight, fixedRight, isRecord, setupIn, clientIn, slotIn, clientsIn, slotsIn, stagedIn, recordIn, noRecord, recordOf}
 use Rattle.record_bytes.specs.RoundTrip.{AllSlots, StateSmall, Typed, Small}
 use Rattle.record_bytes.proofs.Cases.{length-record}
@@ -89,43 +89,43 @@ module _ (r : Record) where
   flag i = getD (r .clients) i noClient .opened
 
   fixed : fixedRight (wordsOf r) ≡ true
-  unfolding fixedRight wordsOf wordsWith
+  unfolding fixedRight wordsOf
   fixed = rw (flag-small (flag 0), flag-small (flag 1), flag-small (flag 2), flag-small (flag 3))
 
   rule : isRuleNumber (wordAt (wordsOf r) 3) ≡ true
-  unfolding wordsOf wordsWith
+  unfolding wordsOf
   rule = own-number (r .setup .reset)
 
-  s0 : Stands (wordsOf r) 24 (rowAt r 0)
-  unfolding wordsOf wordsWith
+  s0 : Stands (wordsOf r) 24 (rowAt (r .slots) 0)
+  unfolding wordsOf
   s0 = (refl, refl, refl, refl, refl)
 
-  s1 : Stands (wordsOf r) 29 (rowAt r 1)
-  unfolding wordsOf wordsWith
+  s1 : Stands (wordsOf r) 29 (rowAt (r .slots) 1)
+  unfolding wordsOf
   s1 = (refl, refl, refl, refl, refl)
 
-  s2 : Stands (wordsOf r) 34 (rowAt r 2)
-  unfolding wordsOf wordsWith
+  s2 : Stands (wordsOf r) 34 (rowAt (r .slots) 2)
+  unfolding wordsOf
   s2 = (refl, refl, refl, refl, refl)
 
-  s3 : Stands (wordsOf r) 39 (rowAt r 3)
-  unfolding wordsOf wordsWith
+  s3 : Stands (wordsOf r) 39 (rowAt (r .slots) 3)
+  unfolding wordsOf
   s3 = (refl, refl, refl, refl, refl)
 
-  s4 : Stands (wordsOf r) 44 (rowAt r 4)
-  unfolding wordsOf wordsWith
+  s4 : Stands (wordsOf r) 44 (rowAt (r .slots) 4)
+  unfolding wordsOf
   s4 = (refl, refl, refl, refl, refl)
 
-  s5 : Stands (wordsOf r) 49 (rowAt r 5)
-  unfolding wordsOf wordsWith
+  s5 : Stands (wordsOf r) 49 (rowAt (r .slots) 5)
+  unfolding wordsOf
   s5 = (refl, refl, refl, refl, refl)
 
-  s6 : Stands (wordsOf r) 54 (rowAt r 6)
-  unfolding wordsOf wordsWith
+  s6 : Stands (wordsOf r) 54 (rowAt (r .slots) 6)
+  unfolding wordsOf
   s6 = (refl, refl, refl, refl, refl)
 
-  s7 : Stands (wordsOf r) 59 (rowAt r 7)
-  unfolding wordsOf wordsWith
+  s7 : Stands (wordsOf r) 59 (rowAt (r .slots) 7)
+  unfolding wordsOf
   s7 = (refl, refl, refl, refl, refl)
 
   slots-right : slotsRight (wordsOf r) ≡ true
@@ -161,12 +161,12 @@ module _ (r : Record) where
       (eight-are (r .slots) n)
 
   clients-back : length (r .clients) ≡ 4 → clientsIn (wordsOf r) ≡ r .clients
-  unfolding clientsIn wordsOf wordsWith
+  unfolding clientsIn wordsOf
   clients-back n = rw (flag-is (flag 0), flag-is (flag 1), flag-is (flag 2), flag-is (flag 3)) (four-are (r .clients) n)
 
   numbers-back : Small r →
       record { setup = setupIn (wordsOf r); clients = r .clients; slots = r .slots; read = wordAt (wordsOf r) 5; next = wordAt (wordsOf r) 6; staged = stagedIn (wordsOf r) } ≡ r
-  unfolding wordsOf wordsWith
+  unfolding wordsOf
   numbers-back s =
       rw (
         low-is (r .setup .ring) (s .ring),

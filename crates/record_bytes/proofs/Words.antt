@@ -1,12 +1,12 @@
 -- The words of a record's bytes are those that were written.
-use mathlib.Core.Path.{_≡_, refl, ap, _∙_}
+use mathlib.Core.Path.{_≡_}
 use mathlib.Core.Bool.{Bool, true, false}
-use mathlib.Core.List.{List, [], _∷_, _++_}
+use mathlib.Core.List.{List, [], _∷_}
 use Prim.Native.Nat.{ℕ, zero, suc, _%_, _<_, _^_}
 use native.Mathlib.Omega.{arith}
 use lib.ListN.{getD}
-use Rattle.word.specs.Word.{leBytes, wordsBytes, words}
-use Rattle.word.proofs.Words.{words-leBytes}
+use Rattle.word.specs.Word.{words}
+use Rattle.word.proofs.Words.{Below32, words-back-all}
 use Rattle.reset.specs.declared.ResetRule.{ResetRule}
 use Rattle.reset.specs.declared.ResetRule.the-variants.{Unblended, SrcOver}
 use Rattle.reset.specs.Reset.{numberOf}
@@ -14,28 +14,15 @@ use Rattle.record.specs.declared.Client.{Client}
 use Rattle.record.specs.declared.Slot.{Slot}
 use Rattle.record.specs.declared.SlotState.{SlotState}
 use Rattle.record.specs.declared.SlotState.the-variants.{Free, Ready}
+use Rattle.record.specs.declared.Setup.{Setup}
+use Rattle.record.specs.declared.Staged.{Staged}
 use Rattle.record.specs.declared.Record.{Record}
 use Rattle.record.specs.Slots.{free}
 use Rattle.record.specs.Clients.{noClient}
+use Rattle.record_bytes.specs.declared.write.Row.{Row}
 use Rattle.record_bytes.specs.Layout.{low}
-use Rattle.record_bytes.specs.Written.{headWords, flagOf, clientWords, rowOf, rowWords, wordsWith, wordsOf, bytesOf}
+use Rattle.record_bytes.specs.Written.{flagOf, rowOf, stagedWords, wordsOf, bytesOf}
 use Rattle.record_bytes.specs.RoundTrip.{AllClients, AllSlots, ClientTyped, StateTyped, Typed}
-
-infixr 70 _also_
--- each word is one of 32 bits
-data Below : List ℕ → Type 0 where
-  none : Below []
-  _also_ : {w : ℕ} {ws : List ℕ} → w < 2 ^ 32 → Below ws → Below (w ∷ ws)
-
-words-back : {ws : List ℕ} → Below ws → words (wordsBytes ws) ≡ ws
-unfolding wordsBytes leBytes words
-words-back none = refl
-words-back {ws = w ∷ ws} (h also k) = words-leBytes w (wordsBytes ws) h ∙ ap (λ (l : List ℕ). w ∷ l) (words-back k)
-
-infixr 65 _then_
-_then_ : {a b : List ℕ} → Below a → Below b → Below (a ++ b)
-none then k = k
-(h also i) then k = h also (i then k)
 
 pub low-below : (n : ℕ) → low n < 2 ^ 32
 low-below n = omega arith
@@ -64,39 +51,47 @@ number-below : (rule : ResetRule) → numberOf rule < 2 ^ 32
 number-below Unblended = zero-below
 number-below SrcOver = one-below
 
-head-below : (r : Record) → r .next < 2 ^ 32 → Below (headWords r)
-head-below r h =
-    low-below (r .setup .ring) also low-below (r .setup .memory) also low-below (r .setup .common) also number-below (r .setup .reset)
-    also zero-below also low-below (r .read) also h also zero-below also none
-
 flag-below : (opened : Bool) → flagOf opened < 2 ^ 32
 flag-below true = one-below
 flag-below false = zero-below
 
-client-below : (c : Client) → ClientTyped c → Below (clientWords c)
-client-below c h = h .0 also h .1 also h .2 also flag-below (c .opened) also none
+-- the words of a client, before others
+abbrev ClientBelow : Client → Type 0 → Type 0
+ClientBelow c K = (c .window .start < 2 ^ 32) × ((c .window .length < 2 ^ 32) × ((c .pending < 2 ^ 32) × ((flagOf (c .opened) < 2 ^ 32) × K)))
 
-row-below : (s : Slot) → StateTyped (s .state) → Below (rowWords (rowOf s))
-row-below s h = go (s .state) h
+client-then : {K : Type 0} (c : Client) → ClientTyped c → K → ClientBelow c K
+client-then c h k = (h .0, (h .1, (h .2, (flag-below (c .opened), k))))
+
+-- and of a slot
+abbrev RowBelow : Row → Type 0 → Type 0
+RowBelow r K = (r .tag < 2 ^ 32) × ((r .client < 2 ^ 32) × ((r .ticket < 2 ^ 32) × ((r .offset < 2 ^ 32) × ((r .length < 2 ^ 32) × K))))
+
+row-then : {K : Type 0} (s : Slot) → StateTyped (s .state) → K → RowBelow (rowOf s) K
+row-then {K} s h k = go (s .state) h
   where
-    go : (st : SlotState) → StateTyped st → Below (rowWords (rowOf (record { state = st })))
-    go Free h = zero-below also zero-below also zero-below also zero-below also zero-below also none
-    go (Ready b) h = one-below also h .0 also h .1 also low-below (b .offset) also low-below (b .length) also none
+    go : (st : SlotState) → StateTyped st → RowBelow (rowOf (record { state = st })) K
+    go Free h = (zero-below, (zero-below, (zero-below, (zero-below, (zero-below, k)))))
+    go (Ready b) h = (one-below, (h .0, (h .1, (low-below (b .offset), (low-below (b .length), k)))))
 
 module _ (r : Record) (t : Typed r) where
-  client : (i : ℕ) → Below (clientWords (getD (r .clients) i noClient))
-  client i = client-below (getD (r .clients) i noClient) (client-at ClientTyped (zero-below, zero-below, zero-below) (r .clients) (t .clients) i)
+  client : {K : Type 0} (i : ℕ) → K → ClientBelow (getD (r .clients) i noClient) K
+  client i k = client-then (getD (r .clients) i noClient) (client-at ClientTyped (zero-below, zero-below, zero-below) (r .clients) (t .clients) i) k
 
-  row : (i : ℕ) → Below (rowWords (rowOf (getD (r .slots) i free)))
-  row i = row-below (getD (r .slots) i free) (slot-at StateTyped tt (r .slots) (t .slots) i)
+  row : {K : Type 0} (i : ℕ) → K → RowBelow (rowOf (getD (r .slots) i free)) K
+  row i k = row-then (getD (r .slots) i free) (slot-at StateTyped tt (r .slots) (t .slots) i) k
 
-  all-below : Below (wordsOf r)
-  unfolding wordsOf wordsWith
+  all-below : Below32 (wordsOf r)
+  unfolding wordsOf
   all-below =
-      head-below r (t .next) then (client 0 then client 1 then client 2 then client 3)
-      then row 0 then row 1 then row 2 then row 3 then row 4 then row 5 then row 6 then row 7
-      then (t .staged also low-below (r .staged .slot) also low-below (r .staged .total) also low-below (r .staged .received) also none)
+      let g : Staged = r .staged in
+      let last : Below32 (stagedWords g) = (t .staged, (low-below (g .slot), (low-below (g .total), (low-below (g .received), tt)))) in
+      let slots = row 0 (row 1 (row 2 (row 3 (row 4 (row 5 (row 6 (row 7 last))))))) in
+      let clients = client 0 (client 1 (client 2 (client 3 slots))) in
+      let s : Setup = r .setup in (
+        low-below (s .ring),
+        (low-below (s .memory), (low-below (s .common), (number-below (s .reset), (zero-below, (low-below (r .read), (t .next, (zero-below, clients))))))),
+      )
 
   pub record-words : words (bytesOf r) ≡ wordsOf r
   unfolding bytesOf
-  record-words = words-back all-below
+  record-words = words-back-all (wordsOf r) all-below

@@ -49,18 +49,16 @@ abbrev pub clientsWords : List Client → List ℕ
 clientsWords cs =
     clientWords (getD cs 0 noClient) ++ (clientWords (getD cs 1 noClient) ++ (clientWords (getD cs 2 noClient) ++ clientWords (getD cs 3 noClient)))
 
--- with the rows of the eight slots
-unfoldable pub wordsWith : Record → (s0 s1 s2 s3 s4 s5 s6 s7 : Row) → List ℕ
-wordsWith r s0 s1 s2 s3 s4 s5 s6 s7 =
-    headWords r ++ (clientsWords (r .clients)
-    ++ (rowWords s0 ++ (rowWords s1 ++ (rowWords s2 ++ (rowWords s3 ++ (rowWords s4 ++ (rowWords s5 ++ (rowWords s6 ++ (rowWords s7
-    ++ stagedWords (r .staged))))))))))
+abbrev pub rowAt : List Slot → ℕ → Row
+rowAt ss i = rowOf (getD ss i free)
 
-abbrev pub rowAt : Record → ℕ → Row
-rowAt r i = rowOf (getD (r .slots) i free)
+abbrev pub slotsWords : List Slot → List ℕ
+slotsWords ss =
+    rowWords (rowAt ss 0) ++ (rowWords (rowAt ss 1) ++ (rowWords (rowAt ss 2) ++ (rowWords (rowAt ss 3)
+    ++ (rowWords (rowAt ss 4) ++ (rowWords (rowAt ss 5) ++ (rowWords (rowAt ss 6) ++ rowWords (rowAt ss 7)))))))
 
 unfoldable pub wordsOf : Record → List ℕ
-wordsOf r = wordsWith r (rowAt r 0) (rowAt r 1) (rowAt r 2) (rowAt r 3) (rowAt r 4) (rowAt r 5) (rowAt r 6) (rowAt r 7)
+wordsOf r = headWords r ++ (clientsWords (r .clients) ++ (slotsWords (r .slots) ++ stagedWords (r .staged)))
 
 unfoldable pub bytesOf : Record → List ℕ
 bytesOf r = wordsBytes (wordsOf r)

@@ -1,12 +1,14 @@
 // A record as bytes.
 ghost use mathlib.Core.Path.{_≡_};
-ghost use Rattle.record.specs.Tickets.{batchInState};
-ghost use Rattle.record_bytes.specs.Layout.{low};
-ghost use Rattle.record_bytes.specs.Written.{tagOf, rowOf, flagOf, wordsOf, written};
+ghost use lib.ListN.{length};
+ghost use Rattle.word.specs.Word.{wordsBytes};
+ghost use Rattle.word.specs.Splice.{spliced};
+ghost use Rattle.record_bytes.specs.Written.{headWords, tagOf, rowOf, rowWords, flagOf, clientWords, clientsWords, slotsWords, stagedWords, written};
 use record::Client;
 use record::Record;
 use record::Slot;
 use record::SlotState;
+use record::Staged;
 
 // The words of a slot.
 pub struct Row {
@@ -41,6 +43,13 @@ fn row_of(slot: Slot) -> Row
     }
 }
 
+fn slot_words(slot: Slot) -> [u32; 5]
+    ensures { λ r. ⌜ r ≡ rowWords (rowOf slot) ⌝ }
+{
+    let row = row_of(slot);
+    [row.tag, row.client, row.ticket, row.offset, row.length]
+}
+
 // Whether a client is open.
 fn flag_of(client: Client) -> u32
     ensures { λ r. ⌜ r ≡ flagOf (client .opened) ⌝ }
@@ -48,108 +57,64 @@ fn flag_of(client: Client) -> u32
     if client.opened { 1 } else { 0 }
 }
 
-fn words_of(engine: Record) -> [u32; 68]
-    ensures { λ r. ⌜ r ≡ wordsOf engine ⌝ }
+fn client_words(client: Client) -> [u32; 4]
+    ensures { λ r. ⌜ r ≡ clientWords client ⌝ }
+{
+    let window = client.window;
+    [window.start, window.length, client.pending, flag_of(client)]
+}
+
+// The set-up numbers, the read offset and the next ticket.
+fn head_words(engine: Record) -> [u32; 8]
+    ensures { λ r. ⌜ r ≡ headWords engine ⌝ }
 {
     let setup = engine.setup;
     let rule = setup.reset;
-    let reset = rule.number();
-    let clients = engine.clients;
-    let slots = engine.slots;
-    let staged = engine.staged;
-    let slot = (staged.slot % 4294967296) as u32;
-    let total = (staged.total % 4294967296) as u32;
-    let received = (staged.received % 4294967296) as u32;
-    let c0 = clients[0];
-    let c1 = clients[1];
-    let c2 = clients[2];
-    let c3 = clients[3];
-    let w0 = c0.window;
-    let w1 = c1.window;
-    let w2 = c2.window;
-    let w3 = c3.window;
-    let f0 = flag_of(c0);
-    let f1 = flag_of(c1);
-    let f2 = flag_of(c2);
-    let f3 = flag_of(c3);
-    let s0 = row_of(slots[0]);
-    let s1 = row_of(slots[1]);
-    let s2 = row_of(slots[2]);
-    let s3 = row_of(slots[3]);
-    let s4 = row_of(slots[4]);
-    let s5 = row_of(slots[5]);
-    let s6 = row_of(slots[6]);
-    let s7 = row_of(slots[7]);
     [
         (setup.ring % 4294967296) as u32,
         (setup.memory % 4294967296) as u32,
         (setup.common % 4294967296) as u32,
-        reset,
+        rule.number(),
         0,
         (engine.read % 4294967296) as u32,
         engine.next,
         0,
-        w0.start,
-        w0.length,
-        c0.pending,
-        f0,
-        w1.start,
-        w1.length,
-        c1.pending,
-        f1,
-        w2.start,
-        w2.length,
-        c2.pending,
-        f2,
-        w3.start,
-        w3.length,
-        c3.pending,
-        f3,
-        s0.tag,
-        s0.client,
-        s0.ticket,
-        s0.offset,
-        s0.length,
-        s1.tag,
-        s1.client,
-        s1.ticket,
-        s1.offset,
-        s1.length,
-        s2.tag,
-        s2.client,
-        s2.ticket,
-        s2.offset,
-        s2.length,
-        s3.tag,
-        s3.client,
-        s3.ticket,
-        s3.offset,
-        s3.length,
-        s4.tag,
-        s4.client,
-        s4.ticket,
-        s4.offset,
-        s4.length,
-        s5.tag,
-        s5.client,
-        s5.ticket,
-        s5.offset,
-        s5.length,
-        s6.tag,
-        s6.client,
-        s6.ticket,
-        s6.offset,
-        s6.length,
-        s7.tag,
-        s7.client,
-        s7.ticket,
-        s7.offset,
-        s7.length,
-        staged.client,
-        slot,
-        total,
-        received,
     ]
+}
+
+fn staged_words(staged: Staged) -> [u32; 4]
+    ensures { λ r. ⌜ r ≡ stagedWords staged ⌝ }
+{
+    [
+        staged.client,
+        (staged.slot % 4294967296) as u32,
+        (staged.total % 4294967296) as u32,
+        (staged.received % 4294967296) as u32,
+    ]
+}
+
+fn write_clients(bytes: &mut [u8], clients: [Client; 4])
+    requires { ⌜ length (now bytes) ≡ 272 ⌝ }
+    ensures { λ _. ⌜ now (bytes .exit) ≡ spliced 32 (wordsBytes (clientsWords clients)) (now (bytes .entry)) ⌝ }
+{
+    let mut i: usize = 0;
+    while i < 4 {
+        let words = client_words(clients[i]);
+        word::write_le_words(bytes, 32 + 16 * i, &words);
+        i += 1;
+    }
+}
+
+fn write_slots(bytes: &mut [u8], slots: [Slot; 8])
+    requires { ⌜ length (now bytes) ≡ 272 ⌝ }
+    ensures { λ _. ⌜ now (bytes .exit) ≡ spliced 96 (wordsBytes (slotsWords slots)) (now (bytes .entry)) ⌝ }
+{
+    let mut i: usize = 0;
+    while i < 8 {
+        let words = slot_words(slots[i]);
+        word::write_le_words(bytes, 96 + 20 * i, &words);
+        i += 1;
+    }
 }
 
 // Writes the record to a buffer of 272 bytes; one of another length stays as it was.
@@ -157,7 +122,13 @@ pub fn encode(engine: Record, bytes: &mut [u8])
     ensures { λ _. ⌜ now (bytes .exit) ≡ written engine (now (bytes .entry)) ⌝ }
 {
     if bytes.len() == 272 {
-        let words = words_of(engine);
-        word::write_le_words(bytes, 0, &words);
+        let clients = engine.clients;
+        let slots = engine.slots;
+        let head = head_words(engine);
+        let staged = staged_words(engine.staged);
+        word::write_le_words(bytes, 0, &head);
+        write_clients(bytes, clients);
+        write_slots(bytes, slots);
+        word::write_le_words(bytes, 256, &staged);
     }
 }

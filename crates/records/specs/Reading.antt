@@ -83,12 +83,12 @@ pub record Takes (edition : Edition) (r : Reader) (held input : List ℕ) (t : T
   pub ready : Ready edition (t .reader) held′
   pub some : 1 ≤ length input → 1 ≤ t .used
 
--- where the batch begins in the buffer: behind the length and the client, and in edition 2 behind the score
+-- Internal: where the batch begins in the buffer: behind the length and the client, and in edition 2 behind the score
 abbrev pub batchStart : Edition → ℕ
 batchStart First = 5
 batchStart Second = 9
 
--- a record that was found lies in the buffer
+-- Internal: a record that was found lies in the buffer
 abbrev pub Lies : Edition → Found → (room : ℕ) → Type 0
 Lies edition Nothing room = Unit {0}
 Lies edition (Record end) room = (batchStart edition ≤ end) × (end ≤ room)

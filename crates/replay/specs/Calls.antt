@@ -73,8 +73,9 @@ pub record FeedContract (r : Replay) (held ring memory input line : List ℕ) (f
 abbrev pub finishedText : Replay → (line : List ℕ) → List ℕ
 finishedText r line = cond (leb 128 (length line)) (endingLine (endingAt (r .reader .stage) (r .reader .held))) []
 
--- ---- Internal: what comes of a record, and of what was found
+-- ---- of a record, and of what was found
 
+-- Internal: what the call that serves a record leaves
 pub record Serves (text : List ℕ) (next : State) (line : List ℕ) (s : Served) (ring′ memory′ line′ : List ℕ) : Type 0 where
   pub engine-is : s .engine ≡ next .engine
   pub ring-is : ring′ ≡ next .ring

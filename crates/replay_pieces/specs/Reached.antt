@@ -19,7 +19,7 @@ use Rattle.replay.specs.Chunking.{Stands}
 abbrev pub handedOf : (shows : Bool) → (text : List ℕ) → ℕ
 handedOf shows text = cond shows (length text % 2 ^ 64) 0
 
--- after a piece of the file, where these bytes were seen before it and this text was handed over: some of its bytes were fed, all of them
+-- Internal: after a piece of the file, where these bytes were seen before it and this text was handed over: some of its bytes were fed, all of them
 -- if nothing failed, and what they print was handed over
 pub record PieceFed (edition : Edition) (engine : State) (seen text piece : List ℕ) (shows : Bool) (r : Replay) (handed : ℕ) (well : Bool) (held ring memory : List ℕ) : Type 0 where
   pub used : ℕ
@@ -29,7 +29,7 @@ pub record PieceFed (edition : Edition) (engine : State) (seen text piece : List
   pub counts : handed ≡ handedOf shows (text ++ more)
   pub whole : well ≡ true → used ≡ length piece
 
--- where a replay of this edition stands after some bytes, of which some text was handed over
+-- Internal: where a replay of this edition stands after some bytes, of which some text was handed over
 pub record Reached (edition : Edition) (engine : State) (shows : Bool) (handed : ℕ) (r : Replay) (held ring memory : List ℕ) : Type 0 where
   pub seen : List ℕ
   pub text : List ℕ
@@ -37,7 +37,7 @@ pub record Reached (edition : Edition) (engine : State) (shows : Bool) (handed :
   pub stands : Stands engine seen text r held ring memory
   pub counts : handed ≡ handedOf shows text
 
--- the last line, and how many bytes of it were handed over
+-- Internal: the last line, and how many bytes of it were handed over
 pub record Finishes (r : Replay) (shows : Bool) (line : List ℕ) (handed : ℕ) (line′ : List ℕ) : Type 0 where
   pub written : ℕ
   pub prints : Prints (finishedText r line) line written line′

@@ -7,11 +7,13 @@ use native.Mathlib.Omega.{arith}
 use lib.ListN.{length, take, drop, getD}
 use borrow.Author.Tests.{lt-ltb, le-ltb, eq-eqb, ne-eqb}
 use Rattle.word.specs.Word.{le32At}
-use Rattle.session.specs.declared.script.Request.the-variants.{Open, Submit, Run, Pending, Begin, Piece, Cancel, Close}
+use Rattle.session.specs.declared.script.Request.the-variants.{Open, Submit, Run, Begin, Piece}
+use Rattle.session.specs.declared.script.OfClient.{OfClient}
+use Rattle.session.specs.declared.script.OfClient.the-variants.{Pending, Cancel, Close}
 use Rattle.session.specs.declared.script.Next.the-variants.{End, Call as Begins}
 use Rattle.model.specs.Calls.{Call, opens, submit, pending, begin, piece, cancel, close}
 use Rattle.session.specs.Script.{parsed, parseOpen, parseBytes, parseRun, parseClient, parseBegin, parseCall}
-use Rattle.session.specs.Parsing.{ParsesAs}
+use Rattle.session.specs.Parsing.{clientCall, requestOf, ParsesAs}
 
 module _ (bytes : List ℕ) where
   pub open-short : length bytes < 9 → ParsesAs bytes (parseOpen bytes) End
@@ -66,17 +68,11 @@ module _ (bytes : List ℕ) where
   pub client-long : (call : ℕ → Call) → 2 ≤ length bytes → parseClient call bytes ≡ parsed (call (getD bytes 1 0)) (drop 2 bytes)
   client-long call h = rw (le-ltb (length bytes) 2 h)
 
-  pub pending-read : (client : ℕ) → 2 ≤ length bytes → client ≡ getD bytes 1 0 →
-      ParsesAs bytes (parseClient pending bytes) (Begins (record { request = Pending client; size = 2 }))
-  pending-read client h e = record { means = rw (client-long pending h, e); within = (h, tt) }
-
-  pub cancel-read : (client : ℕ) → 2 ≤ length bytes → client ≡ getD bytes 1 0 →
-      ParsesAs bytes (parseClient cancel bytes) (Begins (record { request = Cancel client; size = 2 }))
-  cancel-read client h e = record { means = rw (client-long cancel h, e); within = (h, tt) }
-
-  pub close-read : (client : ℕ) → 2 ≤ length bytes → client ≡ getD bytes 1 0 →
-      ParsesAs bytes (parseClient close bytes) (Begins (record { request = Close client; size = 2 }))
-  close-read client h e = record { means = rw (client-long close h, e); within = (h, tt) }
+  pub client-read : (kind : OfClient) (client : ℕ) → 2 ≤ length bytes → client ≡ getD bytes 1 0 →
+      ParsesAs bytes (parseClient (clientCall kind) bytes) (Begins (record { request = requestOf kind client; size = 2 }))
+  client-read Pending client h e = record { means = rw (client-long pending h, e); within = (h, tt) }
+  client-read Cancel client h e = record { means = rw (client-long cancel h, e); within = (h, tt) }
+  client-read Close client h e = record { means = rw (client-long close h, e); within = (h, tt) }
 
 -- ---- by the opcode
 

@@ -6,6 +6,8 @@ use lib.ListN.{length, take, drop}
 use Rattle.model.specs.Calls.{Call, opens, submit, run, pending, begin, piece, cancel, close}
 use Rattle.session.specs.declared.script.Request.{Request}
 use Rattle.session.specs.declared.script.Request.the-variants.{Open, Submit, Run, Pending, Begin, Piece, Cancel, Close}
+use Rattle.session.specs.declared.script.OfClient.{OfClient}
+use Rattle.session.specs.declared.script.OfClient.the-variants.{Pending as PendingOf, Cancel as CancelOf, Close as CloseOf}
 use Rattle.session.specs.declared.script.Next.{Next}
 use Rattle.session.specs.declared.script.Next.the-variants.{End, Call as Begins}
 use Rattle.session.specs.Script.{Parsed, ended, parsed}
@@ -20,6 +22,17 @@ callOf bytes (Begin client total) = begin client total
 callOf bytes (Piece client from to) = piece client (take (to - from) (drop from bytes))
 callOf bytes (Cancel client) = cancel client
 callOf bytes (Close client) = close client
+
+-- the calls whose only argument is a client, and the code's values of them
+abbrev pub clientCall : OfClient → ℕ → Call
+clientCall PendingOf = pending
+clientCall CancelOf = cancel
+clientCall CloseOf = close
+
+abbrev pub requestOf : OfClient → ℕ → Request
+requestOf PendingOf client = Pending client
+requestOf CancelOf client = Cancel client
+requestOf CloseOf client = Close client
 
 -- these bytes lie inside the script
 abbrev pub BatchInBounds : (size : ℕ) → Request → Type 0

@@ -1,8 +1,9 @@
 // The calls of a script, one at a time.
+ghost use mathlib.Core.Path.{_≡_};
 ghost use mathlib.Core.Bool.{cond};
-ghost use Rattle.model.specs.Calls.{submit, pending, piece, cancel, close};
+ghost use Rattle.model.specs.Calls.{submit, piece};
 ghost use Rattle.session.specs.Script.{parseOpen, parseBytes, parseClient, parseBegin, parseCall};
-ghost use Rattle.session.specs.Parsing.{ParsesAs};
+ghost use Rattle.session.specs.Parsing.{clientCall, requestOf, ParsesAs};
 
 // A call, taken from bytes that begin with it. A batch or a piece is the bytes `from` to `to` of them.
 pub enum Request {
@@ -14,6 +15,13 @@ pub enum Request {
     Piece(u32, usize, usize),
     Cancel(u32),
     Close(u32),
+}
+
+// The calls whose only argument is a client.
+pub enum OfClient {
+    Pending,
+    Cancel,
+    Close,
 }
 
 // A call, and how many bytes it takes.
@@ -66,20 +74,6 @@ fn bytes_in(bytes: &[u8], whole: bool) -> Next
     })
 }
 
-// Pending: the client after the opcode.
-fn pending_in(bytes: &[u8]) -> Next
-    ensures { λ r. ⌜ ParsesAs (now (bytes .entry)) (parseClient pending (now (bytes .entry))) r ⌝ }
-{
-    if bytes.len() < 2 {
-        return Next::End;
-    }
-    let client = bytes[1] as u32;
-    Next::Call(Found {
-        request: Request::Pending(client),
-        size: 2,
-    })
-}
-
 // Begin: client and total length after the opcode.
 fn begin_in(bytes: &[u8]) -> Next
     ensures { λ r. ⌜ ParsesAs (now (bytes .entry)) (parseBegin (now (bytes .entry))) r ⌝ }
@@ -95,30 +89,26 @@ fn begin_in(bytes: &[u8]) -> Next
     })
 }
 
-// Cancel: the client after the opcode.
-fn cancel_in(bytes: &[u8]) -> Next
-    ensures { λ r. ⌜ ParsesAs (now (bytes .entry)) (parseClient cancel (now (bytes .entry))) r ⌝ }
+fn request_of(kind: OfClient, client: u32) -> Request
+    ensures { λ r. ⌜ r ≡ requestOf kind client ⌝ }
 {
-    if bytes.len() < 2 {
-        return Next::End;
+    match kind {
+        OfClient::Pending => Request::Pending(client),
+        OfClient::Cancel => Request::Cancel(client),
+        OfClient::Close => Request::Close(client),
     }
-    let client = bytes[1] as u32;
-    Next::Call(Found {
-        request: Request::Cancel(client),
-        size: 2,
-    })
 }
 
-// Close: the client after the opcode.
-fn close_in(bytes: &[u8]) -> Next
-    ensures { λ r. ⌜ ParsesAs (now (bytes .entry)) (parseClient close (now (bytes .entry))) r ⌝ }
+// A call of a client alone: the client after the opcode.
+fn client_in(bytes: &[u8], kind: OfClient) -> Next
+    ensures { λ r. ⌜ ParsesAs (now (bytes .entry)) (parseClient (clientCall kind) (now (bytes .entry))) r ⌝ }
 {
     if bytes.len() < 2 {
         return Next::End;
     }
-    let client = bytes[1] as u32;
+    let request = request_of(kind, bytes[1] as u32);
     Next::Call(Found {
-        request: Request::Close(client),
+        request: request,
         size: 2,
     })
 }
@@ -137,11 +127,11 @@ pub fn next_call(bytes: &[u8]) -> Next
             request: Request::Run,
             size: 1,
         }),
-        3 => pending_in(bytes),
+        3 => client_in(bytes, OfClient::Pending),
         4 => begin_in(bytes),
         5 => bytes_in(bytes, false),
-        6 => cancel_in(bytes),
-        7 => close_in(bytes),
+        6 => client_in(bytes, OfClient::Cancel),
+        7 => client_in(bytes, OfClient::Close),
         _ => Next::End,
     }
 }

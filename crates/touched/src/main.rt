@@ -8,16 +8,21 @@ use ppm::Pixel;
 
 // The first byte of the pixel that the arguments name, of a page that begins at an address. What is wrong with them is told.
 fn pixel(address: u32) -> Pixel {
-    let Number::Value(stride) = command::number_argument(3, b"STRIDE") else {
+    let mut text = io::buffer();
+    let n = os::arg(3, &mut text);
+    let Number::Value(stride) = command::number_in(&text[..n], b"STRIDE") else {
         return Pixel::TooFar;
     };
-    let Named::Known(format) = command::format_argument(4) else {
+    let n = os::arg(4, &mut text);
+    let Named::Known(format) = command::format_in(&text[..n]) else {
         return Pixel::TooFar;
     };
-    let Number::Value(x) = command::number_argument(5, b"X") else {
+    let n = os::arg(5, &mut text);
+    let Number::Value(x) = command::number_in(&text[..n], b"X") else {
         return Pixel::TooFar;
     };
-    let Number::Value(y) = command::number_argument(6, b"Y") else {
+    let n = os::arg(6, &mut text);
+    let Number::Value(y) = command::number_in(&text[..n], b"Y") else {
         return Pixel::TooFar;
     };
     let at = ppm::pixel_of(address, stride, format, x, y);
@@ -36,7 +41,9 @@ fn asked(count: usize) -> Pixel {
         command::complain(b"touched", b" takes two arguments, or six\n");
         return Pixel::TooFar;
     }
-    let Number::Value(address) = command::number_argument(2, b"ADDRESS") else {
+    let mut text = io::buffer();
+    let n = os::arg(2, &mut text);
+    let Number::Value(address) = command::number_in(&text[..n], b"ADDRESS") else {
         return Pixel::TooFar;
     };
     if count == 3 {

@@ -4,10 +4,11 @@ use mathlib.Core.Bool.{Bool, true, false}
 use native.Mathlib.Omega.{arith}
 use Rattle.transform.specs.declared.Rotation.{Rotation}
 use Rattle.transform.specs.declared.Rotation.the-variants.{Rotate0, Rotate90, Rotate180, Rotate270}
+use Rattle.transform.specs.declared.Flip.{Flip}
 use Rattle.transform.specs.declared.Transform.{Transform}
 use Rattle.transform.specs.declared.Size.{Size}
 use Rattle.transform.specs.declared.Point.{Point}
-use Rattle.transform.specs.Transform.{InPicture, rotatedSize, unrotated, mirrored, sourcePixel}
+use Rattle.transform.specs.Transform.{InPicture, rotatedSize, unrotated, mirrored, unflipped, sourcePixel}
 
 pub unrotated-within : (r : Rotation) (s : Size) (p : Point) → InPicture (rotatedSize r s) p → InPicture s (unrotated r s p)
 unrotated-within Rotate0 s p h = h
@@ -19,11 +20,10 @@ pub mirrored-below : (on : Bool) (n i : ℕ) → i < n → mirrored on n i < n
 mirrored-below true n i h = omega arith
 mirrored-below false n i h = h
 
+pub unflipped-within : (f : Flip) (s : Size) (p : Point) → InPicture s p → InPicture s (unflipped f s p)
+unflipped-within f s p h =
+    record { across = mirrored-below (f .horizontal) (s .width) (p .x) (h .across); down = mirrored-below (f .vertical) (s .height) (p .y) (h .down) }
+
 pub source-within : (t : Transform) (s : Size) (p : Point) → InPicture (rotatedSize (t .rotation) s) p → InPicture s (sourcePixel t s p)
 unfolding sourcePixel
-source-within t s p h =
-    let q = unrotated-within (t .rotation) s p h in
-    record {
-      across = mirrored-below (t .flip .horizontal) (s .width) (unrotated (t .rotation) s p .x) (q .across);
-      down = mirrored-below (t .flip .vertical) (s .height) (unrotated (t .rotation) s p .y) (q .down);
-    }
+source-within t s p h = search (unflipped-within, unrotated-within)

@@ -1,10 +1,10 @@
 -- Laws of words in bytes.
-use mathlib.Core.Path.{_≡_, refl, ap}
-use mathlib.Core.List.{List, [], _∷_}
+use mathlib.Core.Path.{_≡_, refl, ap, sym, _∙_}
+use mathlib.Core.List.{List, [], _∷_, _++_, append-nil}
 use Prim.Native.Nat.{ℕ, zero, suc, _+_, _*_, _/_, _%_, _^_, _<_}
 use native.Mathlib.Omega.{arith}
 use lib.ListN.{length, getD}
-use Rattle.word.specs.Word.{byteOf, le32, le32At, words}
+use Rattle.word.specs.Word.{byteOf, le32, le32At, leBytes, wordsBytes, words}
 
 -- the low bytes of a number, one more at a time
 low-two : (word : ℕ) → word % 256 + word / 256 % 256 * 256 ≡ word % 65536
@@ -55,3 +55,19 @@ getD-words (suc k) (a ∷ b ∷ c ∷ d ∷ rest) h =
 pub words-leBytes : (word : ℕ) (rest : List ℕ) → word < 2 ^ 32 → words (byteOf word 0 ∷ byteOf word 1 ∷ byteOf word 2 ∷ byteOf word 3 ∷ rest) ≡ word ∷ words rest
 unfolding words
 words-leBytes word rest small = ap (λ (w : ℕ). w ∷ words rest) (le32-bytes word small)
+
+-- each of some numbers is a word of 32 bits
+abbrev pub Below32 : List ℕ → Type 0
+Below32 [] = Unit
+Below32 (w ∷ ws) = (w < 2 ^ 32) × Below32 ws
+
+-- words that were written are read back, whatever bytes come after them
+pub words-back : (ws rest : List ℕ) → Below32 ws → words (wordsBytes ws ++ rest) ≡ ws ++ words rest
+unfolding wordsBytes leBytes
+words-back [] rest h = refl
+words-back (w ∷ ws) rest h = words-leBytes w (wordsBytes ws ++ rest) (h .0) ∙ ap (λ (l : List ℕ). w ∷ l) (words-back ws rest (h .1))
+
+-- and where none come
+pub words-back-all : (ws : List ℕ) → Below32 ws → words (wordsBytes ws) ≡ ws
+unfolding words
+words-back-all ws h = ap words (sym (append-nil (wordsBytes ws))) ∙ words-back ws [] h ∙ append-nil ws

@@ -15,10 +15,14 @@ unfolding wordsBytes leBytes
 length-bytes [] = refl
 length-bytes (w ∷ ws) = omega (arith, length-bytes ws)
 
+bytes-append : (a b : List ℕ) → wordsBytes (a ++ b) ≡ wordsBytes a ++ wordsBytes b
+unfolding wordsBytes
+bytes-append [] b = refl
+bytes-append (w ∷ ws) b = rw (bytes-append ws b) (sym (append-assoc (leBytes w) (wordsBytes ws) (wordsBytes b)))
+
 bytes-last : (words : List ℕ) (word : ℕ) → wordsBytes (words ++ (word ∷ [])) ≡ wordsBytes words ++ leBytes word
 unfolding wordsBytes
-bytes-last [] word = append-nil (leBytes word)
-bytes-last (w ∷ ws) word = rw (bytes-last ws word) (sym (append-assoc (leBytes w) (wordsBytes ws) (leBytes word)))
+bytes-last words word = rw (bytes-append words (word ∷ []), append-nil (leBytes word))
 
 length-word : (word : ℕ) → length (leBytes word) ≡ 4
 unfolding leBytes
@@ -37,3 +41,9 @@ write-next at k words bytes₀ bytes h fits e =
     let before : length (wordsBytes (take k words)) ≡ 4 * k = length-bytes (take k words) ∙ ap (λ (n : ℕ). 4 * n) (length-take-le k words (omega arith)) in
     let more : wordsBytes (take (k + 1) words) ≡ wordsBytes (take k words) ++ leBytes word = rw (add-one k, take-suc words k 0 h) (bytes-last (take k words) word) in
     rw (e, more, ← before) (spliced-on at (wordsBytes (take k words)) (leBytes word) bytes₀ (omega (arith, length-word word)))
+
+-- words written in two parts, the second where the first ends
+pub write-on : (at : ℕ) (a b bytes : List ℕ) → at + 4 * (length a + length b) ≤ length bytes →
+    spliced (at + 4 * length a) (wordsBytes b) (spliced at (wordsBytes a) bytes) ≡ spliced at (wordsBytes (a ++ b)) bytes
+write-on at a b bytes fits =
+    rw (bytes-append a b, ← length-bytes a) (spliced-on at (wordsBytes a) (wordsBytes b) bytes (omega (arith, length-bytes a, length-bytes b)))

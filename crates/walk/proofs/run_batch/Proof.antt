@@ -6,7 +6,7 @@ use lib.ListN.{length}
 use denote.Ref.{now}
 use borrow.Author.Needs.{needs}
 use Rattle.ring.specs.Segment.{batchWords}
-use Rattle.batch.specs.declared.verdict.Judgement.{Judgement}
+use Rattle.batch.specs.declared.verdict.Validation.{Validation}
 use Rattle.batch.specs.declared.verdict.Verdict.{Verdict}
 use Rattle.batch.specs.Batch.{decodeBatch, validationOf}
 use Rattle.batch.specs.Walk.{decodeRest}
@@ -22,13 +22,13 @@ use Rattle.walk.proofs.run_batch.Tie as tie
 abbrev Inv-loop : tie.InvT-loop
 Inv-loop memory₀ ring offset size bounds slow source₀ destination₀ window current₀ at₀ count₀ memory source destination current at count =
     let ws = batchWords ring offset size in
-    (at ≤ length ws)
-    × (drawTasks (decodeBatch bounds current₀ ws .tasks) memory₀ ≡ drawTasks (decodeRest bounds ws current at .tasks) memory)
+    (drawTasks (decodeBatch bounds current₀ ws .tasks) memory₀ ≡ drawTasks (decodeRest bounds ws current at .tasks) memory)
+    × (validationOf (decodeBatch bounds current₀ ws) ≡ counted count (decodeRest bounds ws current at))
+    × (at ≤ length ws)
     × (length memory ≡ length memory₀)
     × (length source ≡ 16384)
     × (length destination ≡ 16384)
     × (count ≤ at)
-    × (validationOf (decodeBatch bounds current₀ ws) ≡ counted count (decodeRest bounds ws current at))
 
 abbrev μ-loop : tie.MeasureT-loop
 μ-loop memory₀ ring offset size bounds slow source₀ destination₀ window current₀ at₀ count₀ memory source destination current at count = length (batchWords ring offset size) - at
@@ -50,7 +50,7 @@ onward c =
 loop-holds : tie.Need-loop-holds Inv-loop μ-loop
 loop-holds c =
     let s = c .before .before .before in
-    (omega arith, refl, refl, refl, refl, omega arith, counted-none (decodeBatch (s .args .bounds) (s .args .bank) (Ws s)))
+    (refl, counted-none (decodeBatch (s .args .bounds) (s .args .bank) (Ws s)), omega arith, refl, refl, refl, omega arith)
 
 next-task-requires : tie.Need-next-task-requires Inv-loop μ-loop
 next-task-requires c κs = search needs
@@ -72,8 +72,8 @@ draw-task-requires c κs =
     let n = t .before .before .next-task in (
       drawable (s .args .bounds) (t .task .given .0 .0)
           (step-sound (s .args .bounds) (Ws s) (l .current) (l .at) (n .result) (n .ensures) _ _ _ (t .task .given .1))
-          (length (l .memory)) (omega (arith, s .pre .window, l .inv .2)) (omega (arith, s .pre .common, l .inv .2)),
-      record { source = omega (arith, l .inv .3); destination = omega (arith, l .inv .4) },
+          (length (l .memory)) (omega (arith, s .pre .window, l .inv .3)) (omega (arith, s .pre .common, l .inv .3)),
+      record { source = omega (arith, l .inv .4); destination = omega (arith, l .inv .5) },
     )
 
 add-count : tie.Need-add-count Inv-loop μ-loop
@@ -81,10 +81,13 @@ add-count c =
     let t = c .before .before .before .before .before .before .before .before .before in
     let s = t .before .before .before .before .before .before .before in
     let l = t .before .before .before .loop in
-    omega (arith, onward t, l .inv .5, words-fit (now (s .args .ring)) (s .args .offset) (s .args .size), s .fits .size)
+    omega (arith, onward t, l .inv .6, words-fit (now (s .args .ring)) (s .args .offset) (s .args .size), s .fits .size)
 
 loop-less : tie.Need-loop-less Inv-loop μ-loop
-loop-less c = omega (arith, onward (c .before .before .before .before .before .before .before .before .before))
+loop-less c =
+    let t = c .before .before .before .before .before .before .before .before .before in
+    let s = t .before .before .before .before .before .before .before in
+    omega (arith, onward t, words-fit (now (s .args .ring)) (s .args .offset) (s .args .size))
 
 loop-again : tie.Need-loop-again Inv-loop μ-loop
 loop-again c =
@@ -93,15 +96,15 @@ loop-again c =
     let l = t .before .before .before .loop in
     let n = t .before .before .next-task in
     let d = c .before .before .before .before .draw-task in (
-      onward t .1,
-      l .inv .1
+      l .inv .0
           ∙ step-draws (s .args .bounds) (Ws s) (l .current) (l .at) (n .result) (n .ensures) (l .memory) _ _ _ (t .task .given .1)
           ∙ ap (drawTasks (decodeRest (s .args .bounds) (Ws s) (t .task .given .0 .1 .0) (t .task .given .0 .1 .1 .0) .tasks)) (sym (d .ensures)),
-      d .kept .0 ∙ l .inv .2,
-      d .kept .1 .1 .1 .0 ∙ l .inv .3,
-      d .kept .1 .1 .1 .1 .0 ∙ l .inv .4,
-      omega (arith, onward t, l .inv .5),
-      l .inv .6 ∙ step-task (s .args .bounds) (Ws s) (l .current) (l .at) (n .result) (n .ensures) (l .count) _ _ _ (t .task .given .1),
+      l .inv .1 ∙ step-task (s .args .bounds) (Ws s) (l .current) (l .at) (n .result) (n .ensures) (l .count) _ _ _ (t .task .given .1),
+      onward t .1,
+      d .kept .0 ∙ l .inv .3,
+      d .kept .1 .1 .1 .0 ∙ l .inv .4,
+      d .kept .1 .1 .1 .1 .0 ∙ l .inv .5,
+      omega (arith, onward t, l .inv .6),
     )
 
 enum-known-fault : tie.Need-enum-known-fault Inv-loop μ-loop
@@ -111,7 +114,7 @@ same-length : tie.Need-same-length Inv-loop μ-loop
 same-length c = search needs
 
 -- what the judgement is, and what is drawn, where the walk stands at this
-abbrev verdict-of : Judgement → Verdict
+abbrev verdict-of : Validation → Verdict
 verdict-of j = j .verdict
 
 returns : tie.Need-returns Inv-loop μ-loop
@@ -119,8 +122,8 @@ returns c =
     let s = c .before .before .before .before .before .before .before .before in
     let l = c .before .before .before .before .loop in
     let n = c .before .before .before .next-task in (
-      sym (ap verdict-of (l .inv .6 ∙ step-faulty (s .args .bounds) (Ws s) (l .current) (l .at) (n .result) (n .ensures) (l .count) _ _ _ (c .before .fault .given .1))),
-      sym (batch-tasks (s .args .bounds) (s .args .bank) (Ws s) (now (s .args .memory)) ∙ l .inv .1
+      sym (ap verdict-of (l .inv .1 ∙ step-faulty (s .args .bounds) (Ws s) (l .current) (l .at) (n .result) (n .ensures) (l .count) _ _ _ (c .before .fault .given .1))),
+      sym (batch-tasks (s .args .bounds) (s .args .bank) (Ws s) (now (s .args .memory)) ∙ l .inv .0
           ∙ step-stops (s .args .bounds) (Ws s) (l .current) (l .at) (n .result) (n .ensures) (l .memory) _ _ _ (c .before .fault .given .1)),
     )
 
@@ -135,8 +138,8 @@ returns-2 c =
     let s = c .before .before .before .before .before .before .before in
     let l = c .before .before .before .loop in
     let n = c .before .before .next-task in (
-      sym (ap verdict-of (l .inv .6 ∙ step-end (s .args .bounds) (Ws s) (l .current) (l .at) (n .result) (n .ensures) (l .count) (c .enum-told .given .1))),
-      sym (batch-tasks (s .args .bounds) (s .args .bank) (Ws s) (now (s .args .memory)) ∙ l .inv .1
+      sym (ap verdict-of (l .inv .1 ∙ step-end (s .args .bounds) (Ws s) (l .current) (l .at) (n .result) (n .ensures) (l .count) (c .enum-told .given .1))),
+      sym (batch-tasks (s .args .bounds) (s .args .bank) (Ws s) (now (s .args .memory)) ∙ l .inv .0
           ∙ step-ends (s .args .bounds) (Ws s) (l .current) (l .at) (n .result) (n .ensures) (l .memory) (c .enum-told .given .1)),
     )
 

@@ -16,8 +16,8 @@ open-in-requires c κs = search needs
 bytes-in-requires : tie.Need-bytes-in-requires
 bytes-in-requires c κs = search needs
 
-pending-in-requires : tie.Need-pending-in-requires
-pending-in-requires c κs = search needs
+client-in-requires : tie.Need-client-in-requires
+client-in-requires c κs = search needs
 
 begin-in-requires : tie.Need-begin-in-requires
 begin-in-requires c κs = search needs
@@ -25,11 +25,11 @@ begin-in-requires c κs = search needs
 bytes-in-requires-2 : tie.Need-bytes-in-requires-2
 bytes-in-requires-2 c κs = search needs
 
-cancel-in-requires : tie.Need-cancel-in-requires
-cancel-in-requires c κs = search needs
+client-in-requires-2 : tie.Need-client-in-requires-2
+client-in-requires-2 c κs = search needs
 
-close-in-requires : tie.Need-close-in-requires
-close-in-requires c κs = search needs
+client-in-requires-3 : tie.Need-client-in-requires-3
+client-in-requires-3 c κs = search needs
 
 returns-2 : tie.Need-returns-2
 returns-2 c = rw (next-open (c .before .before .before .before .before .args .bytes .now) (omega arith) (c .before .match .keys1)) (c .open-in .ensures)
@@ -41,7 +41,7 @@ returns-4 : tie.Need-returns-4
 returns-4 c = rw (next-run (c .before .before .before .before .args .bytes .now) (omega arith) (c .match .keys3)) (run-read (c .before .before .before .before .args .bytes .now) (omega arith))
 
 returns-5 : tie.Need-returns-5
-returns-5 c = rw (next-pending (c .before .before .before .before .before .args .bytes .now) (omega arith) (c .before .match .keys4)) (c .pending-in .ensures)
+returns-5 c = rw (next-pending (c .before .before .before .before .before .args .bytes .now) (omega arith) (c .before .match .keys4)) (c .client-in .ensures)
 
 returns-6 : tie.Need-returns-6
 returns-6 c = rw (next-begin (c .before .before .before .before .before .args .bytes .now) (omega arith) (c .before .match .keys5)) (c .begin-in .ensures)
@@ -50,10 +50,10 @@ returns-7 : tie.Need-returns-7
 returns-7 c = rw (next-piece (c .before .before .before .before .before .args .bytes .now) (omega arith) (c .before .match .keys6)) (c .bytes-in2 .ensures)
 
 returns-8 : tie.Need-returns-8
-returns-8 c = rw (next-cancel (c .before .before .before .before .before .args .bytes .now) (omega arith) (c .before .match .keys7)) (c .cancel-in .ensures)
+returns-8 c = rw (next-cancel (c .before .before .before .before .before .args .bytes .now) (omega arith) (c .before .match .keys7)) (c .client-in2 .ensures)
 
 returns-9 : tie.Need-returns-9
-returns-9 c = rw (next-close (c .before .before .before .before .before .args .bytes .now) (omega arith) (c .before .match .keys8)) (c .close-in .ensures)
+returns-9 c = rw (next-close (c .before .before .before .before .before .args .bytes .now) (omega arith) (c .before .match .keys8)) (c .client-in3 .ensures)
 
 returns-10 : tie.Need-returns-10
 returns-10 c = next-unknown (c .before .before .before .before .args .bytes .now) (omega arith) (c .match .rest .0 .0 .0 .0 .0 .0 .0 .1) (c .match .rest .0 .0 .0 .0 .0 .0 .1) (c .match .rest .0 .0 .0 .0 .0 .1) (c .match .rest .0 .0 .0 .0 .1) (c .match .rest .0 .0 .0 .1) (c .match .rest .0 .0 .1) (c .match .rest .0 .1) (c .match .rest .1)
@@ -66,11 +66,11 @@ next-call-spec =
     shared-slice-read-match
     open-in-requires
     bytes-in-requires
-    pending-in-requires
+    client-in-requires
     begin-in-requires
     bytes-in-requires-2
-    cancel-in-requires
-    close-in-requires
+    client-in-requires-2
+    client-in-requires-3
     returns-2
     returns-3
     returns-4

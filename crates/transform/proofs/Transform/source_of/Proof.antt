@@ -12,7 +12,7 @@ origin-requires-2 c κs =
 
 returns : tie.Need-returns
 unfolding sourcePixel
-returns c = cc
+returns c = simp (c .origin2 .ensures, c .before .origin .ensures)
 
 pub source-of-spec : {M : Type 1} → statement M
 source-of-spec = tie.close (tie.spec

@@ -9,8 +9,8 @@ use Rattle.batch.specs.Batch.{decodeBatch, validationOf}
 use Rattle.batch.specs.Walk.{decodeRest}
 use Rattle.batch.proofs.Ways.{words-fit}
 use Rattle.batch.proofs.Steps.{counted, counted-none, step-onward, step-task, step-faulty, step-end}
-use Rattle.batch.proofs.verdict.judge.Statement.{statement}
-use Rattle.batch.proofs.verdict.judge.Tie as tie
+use Rattle.batch.proofs.verdict.validate.Statement.{statement}
+use Rattle.batch.proofs.verdict.validate.Tie as tie
 
 abbrev Inv-loop : tie.InvT-loop
 Inv-loop ring offset size bounds current₀ at₀ count₀ current at count =
@@ -70,8 +70,8 @@ returns-2 c =
     let t = c .before .before .next-task in
     sym (l .inv .2 ∙ step-end (s .args .bounds) (Ws s) (l .current) (l .at) (t .result) (t .ensures) (l .count) (c .enum-told .given .1))
 
-pub judge-spec : {M : Type 1} → statement M
-judge-spec =
+pub validate-spec : {M : Type 1} → statement M
+validate-spec =
     tie.close
     (tie.spec
     Inv-loop
