@@ -1,0 +1,71 @@
+-- Lines, one after another, and how long they are.
+use mathlib.Core.Path.{_≡_, refl, sym, ap, _∙_}
+use mathlib.Core.Bool.{Bool, true, false, cond}
+use mathlib.Core.List.{List, [], _∷_, _++_, append-assoc}
+use Prim.Native.Nat.{ℕ, suc, _+_, _*_, _^_, _≤_, _<_}
+use native.Mathlib.Omega.{arith}
+use lib.ListN.{length, getD, drop, length-append, drop-of-length-le}
+use lib.Dec.{eqb}
+use Rattle.text.specs.Line.{Line, pushed, appended}
+use Rattle.text.specs.Decimal.{decimal}
+use Rattle.text.proofs.Typing.{typed-append, typed-one, rest-next}
+use Rattle.text.proofs.Digits.{decimal-size}
+use Rattle.totals.specs.Totals.{largest}
+use Rattle.tally_lines.specs.Lines.{labelOf, countLines}
+use Rattle.tally_lines.specs.Reading.{Counts}
+
+-- two texts and a character, one after another
+pub typed-three : (l a b r : Line) (xs ys : List ℕ) (byte : ℕ) → a ≡ appended l xs → b ≡ appended a ys → r ≡ pushed b byte → r ≡ appended l (xs ++ (ys ++ (byte ∷ [])))
+typed-three l a b r xs ys byte p q s =
+    s ∙ rw (q, p, typed-append l xs (ys ++ (byte ∷ [])), typed-append (appended l xs) ys (byte ∷ [])) (typed-one (appended (appended l xs) ys) byte)
+
+-- ---- one line, and the others
+
+module _ (counts : List ℕ) (k : ℕ) (h : k < length counts) where
+  abbrev one : List ℕ
+  one = labelOf k ++ (decimal (getD counts k 0) ++ (10 ∷ []))
+
+  abbrev others : List ℕ
+  others = countLines (k + 1) (drop (k + 1) counts)
+
+  pub lines-front : countLines k (drop k counts) ≡ labelOf k ++ (decimal (getD counts k 0) ++ (10 ∷ others))
+  unfolding countLines
+  lines-front = rw (rest-next counts k h)
+
+  pub lines-turn : (l l′ : Line) → l′ ≡ appended l one → appended l (countLines k (drop k counts)) ≡ appended l′ others
+  lines-turn l l′ e =
+      let split : labelOf k ++ (decimal (getD counts k 0) ++ (10 ∷ others)) ≡ one ++ others = simp append-assoc in
+      ap (appended l) (lines-front ∙ split) ∙ typed-append l one others ∙ rw e
+
+pub lines-none : (l : Line) (counts : List ℕ) (k : ℕ) → length counts ≤ k → appended l (countLines k (drop k counts)) ≡ l
+unfolding countLines appended
+lines-none l counts k h = rw (drop-of-length-le counts h)
+
+-- ---- how long they are
+
+either-size : (b : Bool) (xs ys : List ℕ) (n : ℕ) → length xs ≤ n → length ys ≤ n → length (cond b xs ys) ≤ n
+either-size true xs ys n p q = p
+either-size false xs ys n p q = q
+
+pub label-size : (k : ℕ) → k < 14 → length (labelOf k) ≤ 27
+unfolding labelOf
+label-size k h =
+    let few : length (decimal (k + 16)) ≤ 20 = decimal-size (k + 16) (omega arith) in
+    either-size (eqb k 0) _ _ 27 (omega arith)
+    (either-size (eqb k 1) _ _ 27 (omega arith)
+    (either-size (eqb k 2) _ _ 27 (omega arith)
+    (either-size (eqb k 3) _ _ 27 (omega arith)
+    (either-size (eqb k 13) _ _ 27 (omega arith)
+    (simp length-append (omega arith))))))
+
+sizes : (counts : List ℕ) (k : ℕ) → ((j : ℕ) → getD counts j 0 ≤ largest) → k + length counts ≤ 14 → length (countLines k counts) ≤ 48 * length counts
+unfolding countLines
+sizes [] k small h = omega arith
+sizes (count ∷ counts) k small h =
+    let few : length (decimal count) ≤ 20 = decimal-size count (omega (arith, small 0)) in
+    let name : length (labelOf k) ≤ 27 = label-size k (omega arith) in
+    let rest : length (countLines (k + 1) counts) ≤ 48 * length counts = sizes counts (k + 1) (λ j. small (suc j)) (omega arith) in
+    simp length-append (omega (arith, few, name, rest))
+
+pub lines-size : (counts : List ℕ) → Counts counts → length (countLines 0 counts) ≤ 672
+lines-size counts C = omega (arith, sizes counts 0 (C .small) (omega (arith, C .size)), C .size)
