@@ -4,11 +4,11 @@ use mathlib.Core.Bool.{Bool, true, false, cond}
 use mathlib.Core.List.{List, [], _∷_, _++_, append-assoc}
 use Prim.Native.Nat.{ℕ, suc, _+_, _*_, _^_, _≤_, _<_}
 use native.Mathlib.Omega.{arith}
-use lib.ListN.{length, getD, drop, length-append, drop-of-length-le}
+use lib.ListN.{length, getD, take, drop, length-append, drop-of-length-le}
 use lib.Dec.{eqb}
-use Rattle.text.specs.Line.{Line, pushed, appended}
+use Rattle.text.specs.Line.{Line, lineOf, pushed, appended}
 use Rattle.text.specs.Decimal.{decimal}
-use Rattle.text.proofs.Typing.{typed-append, typed-one, rest-next}
+use Rattle.text.proofs.Typing.{typed-append, typed-one, typed-whole, typed-taken, rest-next}
 use Rattle.text.proofs.Digits.{decimal-size}
 use Rattle.totals.specs.Totals.{largest}
 use Rattle.tally_lines.specs.Lines.{labelOf, countLines}
@@ -58,6 +58,12 @@ label-size k h =
     (either-size (eqb k 13) _ _ 27 (omega arith)
     (simp length-append (omega arith))))))
 
+pub label-typed : (bytes bytes′ : List ℕ) (k n : ℕ) → k < 14 → length bytes ≡ 27 → lineOf bytes′ n ≡ appended (lineOf bytes 0) (labelOf k) → (n ≡ length (labelOf k)) × (n ≤ 27)
+label-typed bytes bytes′ k n h size e =
+    let few : length (labelOf k) ≤ 27 = label-size k h in
+    let same : n ≡ length (labelOf k) = ap (λ (l : Line). l .end) (e ∙ typed-whole bytes (labelOf k) (omega arith)) in
+    (same, omega arith)
+
 sizes : (counts : List ℕ) (k : ℕ) → ((j : ℕ) → getD counts j 0 ≤ largest) → k + length counts ≤ 14 → length (countLines k counts) ≤ 48 * length counts
 unfolding countLines
 sizes [] k small h = omega arith
@@ -69,3 +75,9 @@ sizes (count ∷ counts) k small h =
 
 pub lines-size : (counts : List ℕ) → Counts counts → length (countLines 0 counts) ≤ 672
 lines-size counts C = omega (arith, sizes counts 0 (C .small) (omega (arith, C .size)), C .size)
+
+-- lines in a buffer that has room for them
+pub lines-typed : (bytes bytes′ text : List ℕ) (n : ℕ) → length text ≤ 672 → length bytes ≡ 672 → lineOf bytes′ n ≡ appended (lineOf bytes 0) text → (n ≤ 672) × (take n bytes′ ≡ text)
+lines-typed bytes bytes′ text n few size e =
+    let same : n ≡ length text = ap (λ (l : Line). l .end) (e ∙ typed-whole bytes text (omega arith)) in
+    (omega arith, typed-taken bytes text bytes′ n (omega arith) e)

@@ -1,148 +1,75 @@
+use mathlib.Core.Path.{sym}
+use borrow.Author.Tests.{eq-eqb, ne-eqb}
+use Rattle.tally_lines.specs.Lines.{labelOf}
+use Rattle.tally_lines.proofs.Lines.{typed-three}
 use borrow.Author.Needs.{needs}
 use Rattle.tally_lines.proofs.label.Statement.{statement}
 use Rattle.tally_lines.proofs.label.Tie as tie
-use Rattle.tally_lines.proofs.label.Reads as reads
-use Rattle.tally_lines.proofs.label.Lts as lts
-use Rattle.text.proofs.line.append.Reads as append-reads
-use Rattle.text.proofs.line.decimal.Reads as decimal-reads
-use Rattle.text.proofs.line.push.Reads as push-reads
 
--- src/lib.rt:22:38
-slice-aggregate-append : tie.Need-slice-aggregate-append
-slice-aggregate-append c = search needs
-
--- src/lib.rt:22:9
-append-requires : tie.Need-append-requires
-append-requires c κs = search needs
-
--- src/lib.rt:22:9
-same-length : tie.Need-same-length
-same-length c = search needs
-
--- src/lib.rt:22:9
 returns : tie.Need-returns
-returns c = ?
+unfolding labelOf
+returns c =
+    let t = c .before .before .before .before .before in
+    rw (eq-eqb _ 0 (t .if1 .taken)) (c .before .before .append .ensures)
 
--- src/lib.rt:25:38
-slice-aggregate-append-2 : tie.Need-slice-aggregate-append-2
-slice-aggregate-append-2 c = search needs
-
--- src/lib.rt:25:9
-append-requires-2 : tie.Need-append-requires-2
-append-requires-2 c κs = search needs
-
--- src/lib.rt:25:9
-same-length-2 : tie.Need-same-length-2
-same-length-2 c = search needs
-
--- src/lib.rt:25:9
 returns-2 : tie.Need-returns-2
-returns-2 c = ?
+unfolding labelOf
+returns-2 c =
+    let t = c .before .before .before .before .before in
+    rw (ne-eqb _ 0 (t .before .if1 .left), eq-eqb _ 1 (t .if2 .taken)) (c .before .before .append2 .ensures)
 
--- src/lib.rt:28:38
-slice-aggregate-append-3 : tie.Need-slice-aggregate-append-3
-slice-aggregate-append-3 c = search needs
-
--- src/lib.rt:28:9
-append-requires-3 : tie.Need-append-requires-3
-append-requires-3 c κs = search needs
-
--- src/lib.rt:28:9
-same-length-3 : tie.Need-same-length-3
-same-length-3 c = search needs
-
--- src/lib.rt:28:9
 returns-3 : tie.Need-returns-3
-returns-3 c = ?
+unfolding labelOf
+returns-3 c =
+    let t = c .before .before .before .before .before in
+    rw (ne-eqb _ 0 (t .before .before .if1 .left), ne-eqb _ 1 (t .before .if2 .left), eq-eqb _ 2 (t .if3 .taken)) (c .before .before .append3 .ensures)
 
--- src/lib.rt:31:38
-slice-aggregate-append-4 : tie.Need-slice-aggregate-append-4
-slice-aggregate-append-4 c = search needs
-
--- src/lib.rt:31:9
-append-requires-4 : tie.Need-append-requires-4
-append-requires-4 c κs = search needs
-
--- src/lib.rt:31:9
-same-length-4 : tie.Need-same-length-4
-same-length-4 c = search needs
-
--- src/lib.rt:31:9
 returns-4 : tie.Need-returns-4
-returns-4 c = ?
+unfolding labelOf
+returns-4 c =
+    let t = c .before .before .before .before .before in
+    rw (ne-eqb _ 0 (t .before .before .before .if1 .left), ne-eqb _ 1 (t .before .before .if2 .left), ne-eqb _ 2 (t .before .if3 .left), eq-eqb _ 3 (t .if4 .taken)) (c .before .before .append4 .ensures)
 
--- src/lib.rt:34:38
-slice-aggregate-append-5 : tie.Need-slice-aggregate-append-5
-slice-aggregate-append-5 c = search needs
-
--- src/lib.rt:34:9
-append-requires-5 : tie.Need-append-requires-5
-append-requires-5 c κs = search needs
-
--- src/lib.rt:34:9
-same-length-5 : tie.Need-same-length-5
-same-length-5 c = search needs
-
--- src/lib.rt:34:9
 returns-5 : tie.Need-returns-5
-returns-5 c = ?
+unfolding labelOf
+returns-5 c =
+    let t = c .before .before .before .before .before in
+    rw (ne-eqb _ 0 (t .before .before .before .before .if1 .left), ne-eqb _ 1 (t .before .before .before .if2 .left), ne-eqb _ 2 (t .before .before .if3 .left), ne-eqb _ 3 (t .before .if4 .left), eq-eqb _ 13 (t .if5 .taken)) (c .before .before .append5 .ensures)
 
--- src/lib.rt:36:35
-slice-aggregate-append-6 : tie.Need-slice-aggregate-append-6
-slice-aggregate-append-6 c = search needs
-
--- src/lib.rt:36:9
-append-requires-6 : tie.Need-append-requires-6
-append-requires-6 c κs = search needs
-
--- src/lib.rt:37:36
-add-decimal : tie.Need-add-decimal
-add-decimal c = search needs
-
--- src/lib.rt:37:9
-decimal-requires : tie.Need-decimal-requires
-decimal-requires c κs = search needs
-
--- src/lib.rt:38:5
-push-requires : tie.Need-push-requires
-push-requires c κs = search needs
-
--- src/lib.rt:17:1
-same-length-6 : tie.Need-same-length-6
-same-length-6 c = search needs
-
--- src/lib.rt:17:1
 returns-6 : tie.Need-returns-6
-returns-6 c = ?
+unfolding labelOf
+returns-6 c =
+    let e = c .before .before .before .before .before .before .before .before .before .before .before .before .before in
+    rw (ne-eqb _ 0 (e .before .before .before .before .if1 .left), ne-eqb _ 1 (e .before .before .before .if2 .left), ne-eqb _ 2 (e .before .before .if3 .left), ne-eqb _ 3 (e .before .if4 .left), ne-eqb _ 13 (e .if5 .left)) (typed-three _ _ _ _ _ _ 32 (c .before .before .before .before .before .before .before .before .before .before .append6 .ensures) (c .before .before .before .before .before .before .decimal .ensures .0) (c .before .before .push .ensures))
 
 pub label-spec : {M : Type 1} → statement M
 label-spec =
     tie.close
     (tie.spec
-    slice-aggregate-append
-    append-requires
-    same-length
+    (λ c. search needs)
+    (λ c κs. search needs)
+    (λ c. search needs)
     returns
-    slice-aggregate-append-2
-    append-requires-2
-    same-length-2
+    (λ c. search needs)
+    (λ c κs. search needs)
+    (λ c. search needs)
     returns-2
-    slice-aggregate-append-3
-    append-requires-3
-    same-length-3
+    (λ c. search needs)
+    (λ c κs. search needs)
+    (λ c. search needs)
     returns-3
-    slice-aggregate-append-4
-    append-requires-4
-    same-length-4
+    (λ c. search needs)
+    (λ c κs. search needs)
+    (λ c. search needs)
     returns-4
-    slice-aggregate-append-5
-    append-requires-5
-    same-length-5
+    (λ c. search needs)
+    (λ c κs. search needs)
+    (λ c. search needs)
     returns-5
-    slice-aggregate-append-6
-    append-requires-6
-    add-decimal
-    decimal-requires
-    push-requires
-    same-length-6
+    (λ c. search needs)
+    (λ c κs. search needs)
+    (λ c. search needs)
+    (λ c κs. search needs)
+    (λ c κs. search needs)
+    (λ c. search needs)
     returns-6)
