@@ -1,17 +1,19 @@
 -- Lines, one after another, and how long they are.
 use mathlib.Core.Path.{_≡_, refl, sym, ap, _∙_}
 use mathlib.Core.Bool.{Bool, true, false, cond}
-use mathlib.Core.List.{List, [], _∷_, _++_, append-assoc}
+use mathlib.Core.List.{List, [], _∷_, _++_, append-nil, append-assoc}
 use Prim.Native.Nat.{ℕ, suc, _+_, _*_, _^_, _≤_, _<_}
 use native.Mathlib.Omega.{arith}
 use lib.ListN.{length, getD, take, drop, length-append, drop-of-length-le}
 use lib.Dec.{eqb}
+use borrow.Author.Tests.{eq-eqb, ne-eqb}
 use Rattle.text.specs.Line.{Line, lineOf, pushed, appended}
 use Rattle.text.specs.Decimal.{decimal}
 use Rattle.text.proofs.Typing.{typed-append, typed-one, typed-whole, typed-taken, rest-next}
 use Rattle.text.proofs.Digits.{decimal-size}
+use Rattle.totals.specs.declared.Answer.{Answer}
 use Rattle.totals.specs.Totals.{largest}
-use Rattle.tally_lines.specs.Lines.{labelOf, countLines}
+use Rattle.tally_lines.specs.Lines.{labelOf, countLines, totalsText, refusedText, answerText, progressText}
 use Rattle.tally_lines.specs.Reading.{Counts}
 
 -- two texts and a character, one after another
@@ -81,3 +83,40 @@ pub lines-typed : (bytes bytes′ text : List ℕ) (n : ℕ) → length text ≤
 lines-typed bytes bytes′ text n few size e =
     let same : n ≡ length text = ap (λ (l : Line). l .end) (e ∙ typed-whole bytes text (omega arith)) in
     (omega arith, typed-taken bytes text bytes′ n (omega arith) e)
+
+-- ---- an answer
+
+abbrev refusedLine : ℕ → List ℕ
+refusedLine refusal = (114 ∷ 101 ∷ 102 ∷ 117 ∷ 115 ∷ 101 ∷ 100 ∷ 32 ∷ []) ++ (decimal refusal ++ (10 ∷ []))
+
+refused-none : (refusal : ℕ) → refusal ≡ 0 → refusedText refusal ≡ []
+unfolding refusedText
+refused-none refusal e = rw (eq-eqb refusal 0 e)
+
+refused-some : (refusal : ℕ) → (refusal ≡ 0 → ⊥) → refusedText refusal ≡ refusedLine refusal
+unfolding refusedText
+refused-some refusal e = rw (ne-eqb refusal 0 e)
+
+module _ (l written : Line) (answer : Answer) (w : written ≡ appended l (totalsText (answer .totals))) (few : length (totalsText (answer .totals)) ≤ 672) where
+  pub answer-added : answer .refusal ≡ 0 → (written ≡ appended l (answerText answer)) × (length (answerText answer) ≤ 704)
+  answer-added e =
+      let none : answerText answer ≡ totalsText (answer .totals) = ap (λ (xs : List ℕ). totalsText (answer .totals) ++ xs) (refused-none (answer .refusal) e) ∙ append-nil (totalsText (answer .totals)) in
+      (w ∙ ap (appended l) (sym none), omega (arith, few, ap length none))
+
+  pub answer-refused : (answer .refusal ≡ 0 → ⊥) → length (decimal (answer .refusal)) ≤ 20 → (r : Line) → r ≡ appended written (refusedLine (answer .refusal))
+      → (r ≡ appended l (answerText answer)) × (length (answerText answer) ≤ 704)
+  answer-refused e short r is =
+      let some : refusedText (answer .refusal) ≡ refusedLine (answer .refusal) = refused-some (answer .refusal) e in
+      let line : length (refusedLine (answer .refusal)) ≤ 29 = simp length-append (omega arith) in
+      let size : length (refusedText (answer .refusal)) ≤ 29 = omega (arith, line, ap length some) in
+      (is ∙ ap (appended written) (sym some) ∙ ap (λ (m : Line). appended m (refusedText (answer .refusal))) w ∙ sym (typed-append l (totalsText (answer .totals)) (refusedText (answer .refusal))),
+      omega (arith, size, few, length-append (totalsText (answer .totals)) (refusedText (answer .refusal))))
+
+-- ---- how many files are done
+
+pub typed-then : (l a r : Line) (xs ys : List ℕ) → a ≡ appended l xs → r ≡ appended a ys → r ≡ appended l (xs ++ ys)
+typed-then l a r xs ys p q = q ∙ rw p (sym (typed-append l xs ys))
+
+pub progress-size : (files of : ℕ) → length (decimal files) ≤ 20 → length (decimal of) ≤ 20 → length (progressText files of) ≤ 64
+unfolding progressText
+progress-size files of a b = simp length-append (omega (arith, a, b))

@@ -5,6 +5,7 @@ use Prim.Native.Nat.{ℕ, _+_}
 use lib.Dec.{eqb}
 use Rattle.text.specs.Decimal.{decimal}
 use Rattle.totals.specs.declared.Totals.{Totals}
+use Rattle.totals.specs.declared.Answer.{Answer}
 
 -- the name of the count at a position, and a space: `batches`, `tasks`, `output_pixels`, `blended_pixels`, `fault_20` to `fault_28`, `records_without_score`
 unfoldable pub labelOf : ℕ → List ℕ
@@ -23,3 +24,14 @@ countLines k (count ∷ counts) = labelOf k ++ (decimal count ++ (10 ∷ countLi
 
 abbrev pub totalsText : Totals → List ℕ
 totalsText totals = countLines 0 (totals .counts)
+
+-- `refused N` after them, if the last lot was refused
+unfoldable pub refusedText : (refusal : ℕ) → List ℕ
+refusedText refusal = cond (eqb refusal 0) [] ((114 ∷ 101 ∷ 102 ∷ 117 ∷ 115 ∷ 101 ∷ 100 ∷ 32 ∷ []) ++ (decimal refusal ++ (10 ∷ [])))
+
+abbrev pub answerText : Answer → List ℕ
+answerText answer = totalsText (answer .totals) ++ refusedText (answer .refusal)
+
+-- how many files of how many are done: `N of M files`; the cursor goes back for the next, or after the last the line is ended
+unfoldable pub progressText : (files of : ℕ) → List ℕ
+progressText files of = decimal files ++ ((32 ∷ 111 ∷ 102 ∷ 32 ∷ []) ++ (decimal of ++ ((32 ∷ 102 ∷ 105 ∷ 108 ∷ 101 ∷ 115 ∷ []) ++ (cond (eqb files of) 10 13 ∷ []))))

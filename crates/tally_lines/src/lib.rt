@@ -1,13 +1,15 @@
 // The lines of totals, as text: printed, and read back. 672 bytes have room for them; what does not fit is dropped.
 ghost use mathlib.Core.Path.{_≡_};
+ghost use mathlib.Core.Bool.{cond};
 ghost use mathlib.Core.List.{_∷_, [], _++_};
 ghost use Prim.Native.Nat.{_<_, _≤_};
 ghost use lib.ListN.{length};
 ghost use Rattle.text.specs.Line.{lineOf, appended};
 ghost use Rattle.text.specs.Decimal.{decimal};
-ghost use Rattle.tally_lines.specs.Lines.{labelOf, countLines, totalsText};
+ghost use Rattle.tally_lines.specs.Lines.{labelOf, countLines, totalsText, answerText, progressText};
 ghost use Rattle.tally_lines.specs.Reading.{Reads, Finds};
 use text::line;
+use totals::Answer;
 use totals::Totals;
 
 // ---- printed
@@ -65,6 +67,38 @@ pub fn write(line: &mut [u8], totals: Totals) -> usize
 {
     let counts = totals.counts;
     count_lines(line, counts)
+}
+
+// The lines of an answer: those of the totals, and `refused 19` after them if so; their length.
+pub fn write_answer(line: &mut [u8], answer: Answer) -> usize
+    ensures { λ r. ⌜ (lineOf (now (line .exit)) r ≡ appended (lineOf (now (line .entry)) 0) (answerText answer)) × (length (answerText answer) ≤ 704) ⌝ }
+{
+    let totals = answer.totals;
+    let n = write(line, totals);
+    if answer.refusal == 0 {
+        return n;
+    }
+    let a = line::append(line, n, b"refused ");
+    let b = line::decimal(line, a, answer.refusal as u64);
+    line::push(line, b, b'\n')
+}
+
+// What ends what is shown: the cursor goes back for the next, or the line is done.
+fn last_byte(last: bool) -> u8
+    ensures { λ r. ⌜ r ≡ cond last 10 13 ⌝ }
+{
+    if last { b'\n' } else { b'\r' }
+}
+
+// How many files of how many are done; the length of the text.
+pub fn write_progress(line: &mut [u8], files: usize, of: usize) -> usize
+    ensures { λ r. ⌜ (lineOf (now (line .exit)) r ≡ appended (lineOf (now (line .entry)) 0) (progressText files of)) × (length (progressText files of) ≤ 64) ⌝ }
+{
+    let a = line::decimal(line, 0, files as u64);
+    let b = line::append(line, a, b" of ");
+    let c = line::decimal(line, b, of as u64);
+    let d = line::append(line, c, b" files");
+    line::push(line, d, last_byte(files == of))
 }
 
 // ---- read
