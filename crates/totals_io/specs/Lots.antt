@@ -24,6 +24,6 @@ pub record AddsText (totals : Totals) (text : List ℕ) (r : Lot) : Type 0 where
 
 -- the same of some text: which one is read no contract can say
 pub record AddsLot (totals : Totals) (r : Lot) : Type 0 where
-  pub text : r .well ≡ true → List ℕ
-  pub added : (e : r .well ≡ true) → AddsPrinted totals (text e) r
+  pub text : List ℕ
+  pub added : r .well ≡ true → AddsPrinted totals text r
   pub nothing : r .well ≡ false → r .answer ≡ record { refusal = 0; totals = totals }

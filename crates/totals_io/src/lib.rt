@@ -1,7 +1,7 @@
 // Totals printed on standard output, and printed totals of lots read from files and added. No contract can say which bytes the system reads, or what
 // it does with those that it is to write; what is added, and how many bytes are handed over to be written, is proved.
 ghost use mathlib.Core.Path.{_≡_};
-ghost use mathlib.Core.Bool.{cond};
+ghost use mathlib.Core.Bool.{false, cond};
 ghost use lib.ListN.{length};
 ghost use Rattle.io.specs.Counts.{Counts};
 ghost use Rattle.tally_lines.specs.Lines.{answerText, progressText};
