@@ -7,14 +7,14 @@ use Prim.Native.Nat.{ℕ, zero, suc, _+_, _≤_, _<_}
 use native.Mathlib.Omega.{arith}
 use lib.Dec.{eqb}
 use lib.ListN.{length}
-use borrow.Author.Tests.{eqb-true, eqb-false}
+use borrow.Author.Tests.{eqb-true, eqb-false, ne-eqb}
 use Rattle.word.proofs.Tests.{split}
 use Rattle.batch.specs.Batch.{verdictOf}
 use Rattle.model.specs.Calls.{Answer as EngineAnswer, completed}
 use Rattle.claims.specs.Engine.{answerOrRefusal}
 use Rattle.claims.specs.BatchSemantics.{completionStatusOf}
 use Rattle.records.specs.declared.Edition.{Edition}
-use Rattle.records.specs.Records.{Entry}
+use Rattle.records.specs.Records.{Entry, records}
 use Rattle.lines.specs.Lines.{engineOpened, submitAndRun}
 use Rattle.lines.specs.Answered.{recordRefusal, verdict, ticketOfCount, acceptedFrom, submitAndRunAll}
 use Rattle.lines.proofs.Answered.{promise as answered}
@@ -59,6 +59,14 @@ refuses totals file answer A e = go (A .only)
     go : (answer .refusal ≡ 0) ⊎ ((answer .refusal ≡ 19) × (answer .totals ≡ totals)) → answer .totals ≡ totals
     go (inl h) = absurd (omega arith)
     go (inr h) = h .1
+
+version : (v : ℕ) (bytes : List ℕ) → (v ≡ 1 → ⊥) → (v ≡ 2 → ⊥) → (c : Count) → fileCount c (v ∷ bytes) ≡ 0
+unfolding fileCount records sumOver
+version v bytes one two c = rw (ne-eqb v 2 two, ne-eqb v 1 one)
+
+empty : (c : Count) → fileCount c [] ≡ 0
+unfolding fileCount records sumOver
+empty c = refl
 
 permuted : (files files′ : Files) → Permuted files files′ → (c : Count) → filesCount c files ≡ filesCount c files′
 unfolding sumOver
@@ -117,8 +125,8 @@ names = record { name = λ p. at (p .index); placed = λ p. placed (p .index) (p
 
 lot : (fresh part totals : Totals) (files : Files) (answer : Answer) → ((c : Count) → totalOf c fresh ≡ 0) → Tallied fresh files part → AddsTotals totals part answer
     → Added Count position totals (λ c. filesCount c files) answer
-lot fresh part totals files answer empty T A =
-    let own : (c : Count) → totalOf c part ≡ filesCount c files = λ c. omega (arith, sums fresh part files T c, empty c) in
+lot fresh part totals files answer zeros T A =
+    let own : (c : Count) → totalOf c part ≡ filesCount c files = λ c. omega (arith, sums fresh part files T c, zeros c) in
     let B = adds-named Count position names totals part answer A in
     record {
       adds = λ fits. let all = B .adds (λ c. omega (arith, fits c, own c)) in (all .0, λ c. omega (arith, all .1 c, own c));
@@ -135,11 +143,11 @@ bounded totals after files (more {file = file} {files = rest} {answer = answer} 
 apart : (fresh one two all : Totals) (files files′ : Files) (answer : Answer) → ((c : Count) → totalOf c fresh ≡ 0)
     → Tallied fresh files one → Tallied fresh files′ two → Tallied fresh (files ++ files′) all → AddsTotals one two answer
     → (answer .refusal ≡ 0) × ((c : Count) → totalOf c (answer .totals) ≡ totalOf c all)
-apart fresh one two all files files′ answer empty T T′ U A =
-    let B = lot fresh two one files′ answer empty T′ A in
+apart fresh one two all files files′ answer zeros T T′ U A =
+    let B = lot fresh two one files′ answer zeros T′ A in
     let total : (c : Count) → totalOf c one + filesCount c files′ ≡ totalOf c all =
     λ c. omega (arith, sums fresh one files T c, sums fresh all (files ++ files′) U c, lots files files′ c) in
-    let sum = B .adds (λ c. omega (arith, total c, bounded fresh all (files ++ files′) U (λ d. omega (arith, empty d)) c)) in
+    let sum = B .adds (λ c. omega (arith, total c, bounded fresh all (files ++ files′) U (λ d. omega (arith, zeros d)) c)) in
     (sum .0, λ c. sum .1 c ∙ total c)
 
 runs : (edition : Edition) (ring memory : List ℕ) → length ring ≡ 32768 → length memory ≡ 65536 → (before : List Entry) (entry : Entry) → eqb (recordRefusal entry) 0 ≡ true
@@ -151,4 +159,4 @@ runs edition ring memory long size before entry taken =
     answered edition .each ring memory long size before entry .answers ∙ rw accepted
 
 pub promise : TallySums
-promise = record { sums = sums; accepts = accepts; refuses = refuses; order = order; lots = lots; lot = lot; apart = apart; runs = runs }
+promise = record { sums = sums; accepts = accepts; version = version; empty = empty; refuses = refuses; order = order; lots = lots; lot = lot; apart = apart; runs = runs }

@@ -46,6 +46,9 @@ pub record TallySums : Type 0 where
   pub accepts : (totals : Totals) (file : List ℕ) (files : Files) (answer : Answer) → Adds totals file answer
       → ((count : Count) → totalOf count totals + filesCount count (file ∷ files) ≤ largest)
       → (answer .refusal ≡ 0) × ((count : Count) → totalOf count (answer .totals) + filesCount count files ≤ largest)
+  -- a file of another version adds nothing, and an empty one neither
+  pub version : (version : ℕ) (bytes : List ℕ) → (version ≡ 1 → ⊥) → (version ≡ 2 → ⊥) → (count : Count) → fileCount count (version ∷ bytes) ≡ 0
+  pub empty : (count : Count) → fileCount count [] ≡ 0
   -- a file that is refused leaves the sum over the files before it
   pub refuses : (totals : Totals) (file : List ℕ) (answer : Answer) → Adds totals file answer → answer .refusal ≡ 19 → answer .totals ≡ totals
   -- whatever order they come in
