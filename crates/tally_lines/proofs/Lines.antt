@@ -108,9 +108,10 @@ module _ (l written : Line) (answer : Answer) (w : written ≡ appended l (total
   answer-refused e short r is =
       let some : refusedText (answer .refusal) ≡ refusedLine (answer .refusal) = refused-some (answer .refusal) e in
       let line : length (refusedLine (answer .refusal)) ≤ 29 = simp length-append (omega arith) in
-      let size : length (refusedText (answer .refusal)) ≤ 29 = omega (arith, line, ap length some) in
-      (is ∙ ap (appended written) (sym some) ∙ ap (λ (m : Line). appended m (refusedText (answer .refusal))) w ∙ sym (typed-append l (totalsText (answer .totals)) (refusedText (answer .refusal))),
-      omega (arith, size, few, length-append (totalsText (answer .totals)) (refusedText (answer .refusal))))
+      let size : length (refusedText (answer .refusal)) ≤ 29 = omega (arith, line, ap length some) in (
+        is ∙ ap (appended written) (sym some) ∙ ap (λ (m : Line). appended m (refusedText (answer .refusal))) w ∙ sym (typed-append l (totalsText (answer .totals)) (refusedText (answer .refusal))),
+        omega (arith, size, few, length-append (totalsText (answer .totals)) (refusedText (answer .refusal))),
+      )
 
 -- ---- how many files are done
 

@@ -47,7 +47,10 @@ fn main() {
     let lots = asks_add();
     let first = if lots { 2 } else { 1 };
     if count <= first {
-        io::write_all(libc::STDERR_FILENO, b"usage: tally FILE.. or tally --add FILE..\n");
+        io::write_all(
+            libc::STDERR_FILENO,
+            b"usage: tally FILE.. or tally --add FILE..\n",
+        );
         return;
     }
     add_files(lots, first, count);

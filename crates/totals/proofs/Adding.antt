@@ -40,6 +40,7 @@ module _ (counts more sum : List ℕ) (k : ℕ) (E : Exact counts more sum k) (i
       each j (inr h) b =
           let same : j ≡ k = omega arith in
           rw same (getD-set-same sum k total 0 inside)
+
       small : (j : ℕ) → (j < k) ⊎ (k ≤ j) → j < k + 1 → getD counts j 0 + getD more j 0 ≤ largest
       small j (inl h) b = E .small j h
       small j (inr h) b =

@@ -62,9 +62,12 @@ loop-again : tie.Need-loop-again Inv-loop μ-loop
 loop-again c =
     let l = c .before .before .before .before .loop in
     let size = c .before .before .label-size .ensures in
-    let read = c .before .read in
-    (search needs, simp length-set (l .inv .1), omega (arith, read .ensures .1, size .1, l .inv .2, c .before .before .before .before .before .before .pre),
-    λ own O e. going-more _ _ own (l .at) (l .k) O (c .before .before .before .loop-test .taken) (l .inv .1) (l .inv .3 own O e) (read .result) (rw (size .0) at (read .ensures .0)))
+    let read = c .before .read in (
+      search needs,
+      simp length-set (l .inv .1),
+      omega (arith, read .ensures .1, size .1, l .inv .2, c .before .before .before .before .before .before .pre),
+      λ own O e. going-more _ _ own (l .at) (l .k) O (c .before .before .before .loop-test .taken) (l .inv .1) (l .inv .3 own O e) (read .result) (rw (size .0) at (read .ensures .0)),
+    )
 
 -- src/lib.rt:87:1
 returns : tie.Need-returns Inv-loop μ-loop
