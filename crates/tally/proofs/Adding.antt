@@ -15,8 +15,9 @@ use Rattle.rules.specs.declared.fault.Fault.the-variants.{ReservedBits, GroupLe
 use Rattle.rules.specs.Faults.{faultNumber}
 use Rattle.records.specs.declared.Edition.{Edition}
 use Rattle.records.specs.declared.Edition.the-variants.{First, Second}
+use Rattle.totals.specs.Totals.{largest}
 use Rattle.tally.specs.declared.Running.{Running}
-use Rattle.tally.specs.Counts.{Count, editionOf, largest}
+use Rattle.tally.specs.Counts.{Count, editionOf}
 use Rattle.tally.specs.Running.{plus}
 
 pub fault-between : (f : Fault) → (20 ≤ faultNumber f) × (faultNumber f ≤ 28)
@@ -29,14 +30,6 @@ fault-between BadSurface = (omega arith, omega arith)
 fault-between SizeMismatch = (omega arith, omega arith)
 fault-between OutOfBounds = (omega arith, omega arith)
 fault-between Overlap = (omega arith, omega arith)
-
--- room in a count
-pub room-is : (have n : ℕ) → have ≤ largest → leb n (largest - have) ≡ leb (have + n) largest
-room-is have n small = go (split largest (have + n))
-  where
-    go : (largest < have + n) ⊎ (have + n ≤ largest) → leb n (largest - have) ≡ leb (have + n) largest
-    go (inl h) = rw (lt-leb n (largest - have) (omega arith), lt-leb (have + n) largest h)
-    go (inr h) = rw (le-leb n (largest - have) (omega arith), le-leb (have + n) largest h)
 
 pub pixels-small : (width height : ℕ) → width ≤ 65535 → height ≤ 65535 → width * height ≤ largest
 pixels-small width height w h =

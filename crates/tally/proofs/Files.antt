@@ -7,37 +7,40 @@ use Prim.Native.Nat.{ℕ, zero, suc, _+_, _-_, _≤_, _<_}
 use native.Mathlib.Omega.{arith}
 use lib.ListN.{length, getD, take, drop, length-drop}
 use lib.Seq.{take-all, take-add}
+use borrow.Author.Tests.{ne-eqb}
 use Rattle.records.specs.declared.Edition.{Edition}
 use Rattle.records.specs.declared.Stage.the-variants.{Version}
 use Rattle.records.specs.declared.Found.{Found}
 use Rattle.records.specs.declared.Found.the-variants.{Nothing, Record, BadVersion, BadRecord}
 use Rattle.records.specs.declared.Taken.{Taken}
 use Rattle.records.specs.Records.{Entry, File, records}
-use Rattle.records.specs.Reading.{fileAt, onto, Ready, Takes}
+use Rattle.records.specs.Reading.{fileAt, onto, Ready, Takes, takenBy, heldAfter}
 use Rattle.records.proofs.Bytes.{room-between}
 use Rattle.records.proofs.Onward.{ends-here}
-use Rattle.tally.specs.declared.Totals.{Totals}
+use Rattle.totals.specs.declared.Totals.{Totals}
+use Rattle.totals.specs.declared.Answer.{Answer}
+use Rattle.totals.specs.Totals.{largest}
 use Rattle.tally.specs.declared.Running.{Running}
 use Rattle.tally.specs.declared.Tally.{Tally}
 use Rattle.tally.specs.declared.Fed.{Fed}
-use Rattle.tally.specs.declared.Answer.{Answer}
-use Rattle.tally.specs.Counts.{Count, sumOver, recordCount, editionOf, fileCount, largest, position}
+use Rattle.tally.specs.Counts.{Count, sumOver, recordCount, editionOf, fileCount, position}
 use Rattle.tally.specs.Running.{foundPlus}
-use Rattle.tally.specs.Tally.{totalOf, Adds, Over, Keeps, editionFor, restCount, Stands, Feeds}
+use Rattle.tally.specs.Tally.{totalOf, Adds, Over, Keeps, editionFor, restCount, begun, fedIn, fedBy, heldBy, Stands, Feeds}
 use Rattle.tally.proofs.Sums.{keeps-as, foundCount, keeps-found}
 
 -- ---- the start
 
 pub starts-by : (totals : Totals) (t : Tally) (held : List ℕ) → length (totals .counts) ≡ 14 → ((c : Count) → totalOf c totals ≤ largest)
-    → t .begun ≡ false → t .reader ≡ record { stage = Version; held = 0 } → t .running ≡ record { fits = true; counts = totals .counts } → 32777 ≤ length held → Stands totals [] t held
+    → t ≡ begun totals → 32777 ≤ length held → Stands totals [] t held
 unfolding fileCount records
-starts-by totals t held size small fresh reader running room = record {
+starts-by totals t held size small is room = rw is (record {
+  before = refl;
   room = room;
-  ready = λ rest. rw reader (record { room = omega (arith, room-between (editionFor t rest)); few = omega (arith, room-between (editionFor t rest)); due = tt });
+  ready = λ rest. record { room = omega (arith, room-between (editionOf rest)); few = omega (arith, room-between (editionOf rest)); due = tt };
   so-far = λ c. 0;
-  file = λ rest c. rw (fresh, reader) (omega arith);
-  keeps = rw running (record { size = size; small = small; exact = λ e c. omega arith; over = λ e. absurd (false≢true (sym e)) });
-}
+  file = λ rest c. omega arith;
+  keeps = record { size = size; small = small; exact = λ e c. omega arith; over = λ e. absurd (false≢true (sym e)) };
+})
 
 -- ---- a step
 
@@ -71,9 +74,10 @@ module _ (totals : Totals) (seen held input held′ : List ℕ) (t : Tally) (e :
       ∙ found-sum c e (u .found) held′ (fileAt e (u .reader) held′ rest)
 
   pub feeds-by : (fed : Fed) (running : Running) → running ≡ foundPlus e (u .found) held′ (t .running)
-      → fed ≡ record { tally = record { edition = e; begun = true; reader = u .reader; running = running }; used = u .used } → Feeds totals seen input fed held′
+      → fed ≡ record { tally = record { before = t .before; edition = e; begun = true; reader = u .reader; running = running }; used = u .used } → Feeds totals seen input fed held′
   feeds-by fed running running-is fed-is = rw (fed-is, running-is) (record {
     stands = record {
+      before = S .before;
       room = omega (arith, S .room, same);
       ready = λ rest. T .ready;
       so-far = λ c. S .so-far c + foundCount c e (u .found) held′;
@@ -83,6 +87,14 @@ module _ (totals : Totals) (seen held input held′ : List ℕ) (t : Tally) (e :
     };
     some = T .some;
   })
+
+-- the same by itself, whatever the tally, the buffer and the input are
+pub fed-is : (t : Tally) (held input held′ : List ℕ) (e : Edition) (u : Taken) (running : Running) → (length input ≡ 0 → ⊥) → e ≡ editionFor t input
+    → u ≡ takenBy e (t .reader) held input → held′ ≡ heldAfter e (t .reader) held input → running ≡ foundPlus e (u .found) held′ (t .running)
+    → (record { tally = record { before = t .before; edition = e; begun = true; reader = u .reader; running = running }; used = u .used } ≡ fedBy t held input) × (held′ ≡ heldBy t held input)
+unfolding fedIn
+fed-is t held input held′ e u running some e-is u-is held-is running-is =
+    (rw (ne-eqb (length input) 0 some, running-is, held-is, u-is, e-is), rw (ne-eqb (length input) 0 some, held-is, e-is))
 
 -- no input
 pub feeds-none : (totals : Totals) (seen input held : List ℕ) (t : Tally) → length input ≡ 0 → Stands totals seen t held → Feeds totals seen input (record { tally = t; used = 0 }) held
@@ -99,12 +111,12 @@ module _ (totals : Totals) (seen held : List ℕ) (t : Tally) (S : Stands totals
       ∙ ap (λ (es : List Entry). S .so-far c + sumOver (recordCount c (editionFor t [])) es) (ends-here (editionFor t []) (t .reader) held (S .ready []))
       ∙ omega arith
 
-  pub ends-large : t .running .fits ≡ false → Adds totals seen (record { refusal = 19; totals = totals })
-  ends-large e = record {
+  pub ends-large : t .running .fits ≡ false → Adds totals seen (record { refusal = 19; totals = t .before })
+  ends-large e = rw (S .before) (record {
     adds = λ small. let o = S .keeps .over e in absurd (omega (arith, o .large, small (o .count), all-there (o .count)));
     refuses = λ c large. (refl, refl);
     only = inr (refl, refl);
-  }
+  })
 
   pub ends-small : (after : Totals) → after .counts ≡ t .running .counts → t .running .fits ≡ true → Adds totals seen (record { refusal = 0; totals = after })
   ends-small after is e = record {

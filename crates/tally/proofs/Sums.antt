@@ -22,15 +22,16 @@ use Rattle.records.specs.Records.{Entry}
 use Rattle.records.specs.Reading.{entryIn}
 use Rattle.editions.specs.Editions.{scoreHolds, submission}
 use Rattle.lines.specs.Answered.{recordRefusal}
+use Rattle.totals.specs.Totals.{largest}
 use Rattle.tally.specs.declared.Running.{Running}
-use Rattle.tally.specs.Counts.{Count, batches, tasks, outputPixels, blendedPixels, faulted, withoutScore, batchCount, pixelsOf, taskCount, endCount, sumOver, ranCount, batchOf, unscoredCount, isRun, recordCount, largest, position}
+use Rattle.tally.specs.Counts.{Count, batches, tasks, outputPixels, blendedPixels, faulted, withoutScore, batchCount, pixelsOf, taskCount, endCount, sumOver, ranCount, batchOf, unscoredCount, isRun, recordCount, position}
 use Rattle.tally.specs.Running.{plus, taskPlus, tasksPlus, endPlus, restPlus, ranPlus, unscoredPlus, submittedPlus, recordPlus, foundPlus}
 use Rattle.tally.specs.Tally.{Over, Keeps}
 use Rattle.tally.proofs.Adding.{fault-between}
 
 -- ---- positions
 
-few : (c : Count) → position c < 14
+pub few : (c : Count) → position c < 14
 few batches = omega arith
 few tasks = omega arith
 few outputPixels = omega arith

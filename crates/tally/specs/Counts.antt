@@ -100,10 +100,6 @@ editionOf (version ∷ bytes) = cond (eqb version 2) Second First
 unfoldable pub fileCount : Count → List ℕ → ℕ
 fileCount count bytes = sumOver (recordCount count (editionOf bytes)) (records (editionOf bytes) bytes .entries)
 
--- "A count that would pass the largest 64-bit number"
-abbrev pub largest : ℕ
-largest = 18446744073709551615
-
 -- ---- the totals: fourteen numbers, in this order
 
 abbrev pub position : Count → ℕ

@@ -15,8 +15,9 @@ use Rattle.records.specs.Records.{Entry}
 use Rattle.records.specs.Reading.{entryIn}
 use Rattle.editions.specs.Editions.{scoreHolds, submission}
 use Rattle.lines.specs.Answered.{recordRefusal}
+use Rattle.totals.specs.Totals.{largest}
 use Rattle.tally.specs.declared.Running.{Running}
-use Rattle.tally.specs.Counts.{pixelsOf, batchOf, largest}
+use Rattle.tally.specs.Counts.{pixelsOf, batchOf}
 
 -- a number more at a position, if it still fits
 unfoldable pub plus : (k n : ℕ) → Running → Running

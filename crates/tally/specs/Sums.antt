@@ -13,9 +13,10 @@ use Rattle.records.specs.declared.Edition.{Edition}
 use Rattle.records.specs.Records.{Entry}
 use Rattle.lines.specs.Lines.{engineOpened, submitAndRun}
 use Rattle.lines.specs.Answered.{recordRefusal, ticketOfCount, acceptedFrom, submitAndRunAll}
-use Rattle.tally.specs.declared.Totals.{Totals}
-use Rattle.tally.specs.declared.Answer.{Answer}
-use Rattle.tally.specs.Counts.{Count, sumOver, batchOf, fileCount, largest}
+use Rattle.totals.specs.declared.Totals.{Totals}
+use Rattle.totals.specs.declared.Answer.{Answer}
+use Rattle.totals.specs.Totals.{largest, Added, AddsTotals}
+use Rattle.tally.specs.Counts.{Count, sumOver, batchOf, fileCount, position}
 use Rattle.tally.specs.Tally.{totalOf, Adds}
 
 abbrev pub Files : Type 0
@@ -45,13 +46,23 @@ pub record TallySums : Type 0 where
   pub accepts : (totals : Totals) (file : List ℕ) (files : Files) (answer : Answer) → Adds totals file answer
       → ((count : Count) → totalOf count totals + filesCount count (file ∷ files) ≤ largest)
       → (answer .refusal ≡ 0) × ((count : Count) → totalOf count (answer .totals) + filesCount count files ≤ largest)
+  -- a file of another version adds nothing, and an empty one neither
+  pub version : (version : ℕ) (bytes : List ℕ) → (version ≡ 1 → ⊥) → (version ≡ 2 → ⊥) → (count : Count) → fileCount count (version ∷ bytes) ≡ 0
+  pub empty : (count : Count) → fileCount count [] ≡ 0
   -- a file that is refused leaves the sum over the files before it
   pub refuses : (totals : Totals) (file : List ℕ) (answer : Answer) → Adds totals file answer → answer .refusal ≡ 19 → answer .totals ≡ totals
   -- whatever order they come in
   pub order : (totals after after′ : Totals) (files files′ : Files) → Permuted files files′ → Tallied totals files after → Tallied totals files′ after′
       → (count : Count) → totalOf count after ≡ totalOf count after′
-  -- two lots, tallied apart and added
+  -- two lots
   pub lots : (files files′ : Files) (count : Count) → filesCount count (files ++ files′) ≡ filesCount count files + filesCount count files′
+  -- the totals of a lot, counted from zero and then added, add what its files do
+  pub lot : (fresh part totals : Totals) (files : Files) (answer : Answer) → ((count : Count) → totalOf count fresh ≡ 0) → Tallied fresh files part → AddsTotals totals part answer
+      → Added Count position totals (λ count. filesCount count files) answer
+  -- so two lots that are tallied apart and added are the lots together
+  pub apart : (fresh one two all : Totals) (files files′ : Files) (answer : Answer) → ((count : Count) → totalOf count fresh ≡ 0)
+      → Tallied fresh files one → Tallied fresh files′ two → Tallied fresh (files ++ files′) all → AddsTotals one two answer
+      → (answer .refusal ≡ 0) × ((count : Count) → totalOf count (answer .totals) ≡ totalOf count all)
   -- the batches that count are those that the engine runs: a record that is submitted and not refused is completed, with the number of drawn tasks
   -- and the fault that are counted
   pub runs : (edition : Edition) (ring memory : List ℕ) → length ring ≡ 32768 → length memory ≡ 65536 → (before : List Entry) (entry : Entry) → eqb (recordRefusal entry) 0 ≡ true

@@ -1,33 +1,33 @@
 -- A file added to the totals, a piece at a time (02, request 14: "19, count too large, totals as before that file").
 use mathlib.Core.Path.{_≡_}
-use mathlib.Core.Logic.{_⊎_}
 use mathlib.Core.List.{List, [], _++_}
 use mathlib.Core.Bool.{Bool, true, false, cond}
 use Prim.Native.Nat.{ℕ, _+_, _≤_, _<_}
+use lib.Dec.{eqb}
 use lib.ListN.{length, getD, take}
 use Rattle.records.specs.declared.Edition.{Edition}
-use Rattle.records.specs.Reading.{fileAt, Ready}
-use Rattle.tally.specs.declared.Totals.{Totals}
+use Rattle.records.specs.declared.Edition.the-variants.{First}
+use Rattle.records.specs.declared.Stage.the-variants.{Version}
+use Rattle.records.specs.declared.Taken.{Taken}
+use Rattle.records.specs.Reading.{fileAt, Ready, takenBy, heldAfter}
+use Rattle.totals.specs.declared.Totals.{Totals}
+use Rattle.totals.specs.declared.Answer.{Answer}
+use Rattle.totals.specs.Totals.{largest, countAt, Added}
 use Rattle.tally.specs.declared.Running.{Running}
 use Rattle.tally.specs.declared.Tally.{Tally}
 use Rattle.tally.specs.declared.Fed.{Fed}
-use Rattle.tally.specs.declared.Answer.{Answer}
-use Rattle.tally.specs.Counts.{Count, sumOver, recordCount, editionOf, fileCount, largest, position}
+use Rattle.tally.specs.Counts.{Count, sumOver, recordCount, editionOf, fileCount, position}
+use Rattle.tally.specs.Running.{foundPlus}
 
 -- a count of the totals
 abbrev pub totalOf : Count → Totals → ℕ
-totalOf count totals = getD (totals .counts) (position count) 0
+totalOf count totals = countAt (position count) totals
 
 -- ---- the promise of a whole file
 
-pub record Adds (totals : Totals) (file : List ℕ) (answer : Answer) : Type 0 where
-  -- where none grows too large, each count is what it was and what the file's records add to it
-  pub adds : ((count : Count) → totalOf count totals + fileCount count file ≤ largest)
-      → (answer .refusal ≡ 0) × ((count : Count) → totalOf count (answer .totals) ≡ totalOf count totals + fileCount count file)
-  -- where one does, it is refused, and the totals are as before
-  pub refuses : (count : Count) → largest < totalOf count totals + fileCount count file → (answer .refusal ≡ 19) × (answer .totals ≡ totals)
-  -- and nothing else is answered
-  pub only : (answer .refusal ≡ 0) ⊎ ((answer .refusal ≡ 19) × (answer .totals ≡ totals))
+-- each count grows by what the file's records add to it; or 19, and the totals are as before
+abbrev pub Adds : Totals → (file : List ℕ) → Answer → Type 0
+Adds totals file answer = Added Count position totals (λ count. fileCount count file) answer
 
 -- ---- a piece at a time
 
@@ -51,8 +51,50 @@ editionFor t rest = cond (t .begun) (t .edition) (editionOf rest)
 abbrev pub restCount : Count → Tally → (held rest : List ℕ) → ℕ
 restCount count t held rest = sumOver (recordCount count (editionFor t rest)) (fileAt (editionFor t rest) (t .reader) held rest .entries)
 
+-- ---- the calls by themselves, of any tally, buffer and input
+
+-- before the version byte
+abbrev pub begun : Totals → Tally
+begun totals = record {
+  before = totals;
+  edition = First;
+  begun = false;
+  reader = record { stage = Version; held = 0 };
+  running = record { fits = true; counts = totals .counts };
+}
+
+-- a step of the reading (crate records), and what it found counted
+unfoldable pub fedIn : Edition → Tally → (held input : List ℕ) → Fed
+fedIn edition t held input =
+    let taken : Taken = takenBy edition (t .reader) held input in
+    record {
+      tally = record {
+        before = t .before;
+        edition = edition;
+        begun = true;
+        reader = taken .reader;
+        running = foundPlus edition (taken .found) (heldAfter edition (t .reader) held input) (t .running);
+      };
+      used = taken .used;
+    }
+
+-- of no input nothing is used, and nothing changes
+abbrev pub fedBy : Tally → (held input : List ℕ) → Fed
+fedBy t held input = cond (eqb (length input) 0) (record { tally = t; used = 0 }) (fedIn (editionFor t input) t held input)
+
+-- and the buffer after it
+abbrev pub heldBy : Tally → (held input : List ℕ) → List ℕ
+heldBy t held input = cond (eqb (length input) 0) held (heldAfter (editionFor t input) (t .reader) held input)
+
+-- at the end of the file
+abbrev pub finished : Tally → Answer
+finished t = cond (t .running .fits) (record { refusal = 0; totals = record { counts = t .running .counts } }) (record { refusal = 19; totals = t .before })
+
+-- ---- what they come to
+
 -- after these bytes of a file, which is added to these totals: whatever follows them
 pub record Stands (totals : Totals) (seen : List ℕ) (t : Tally) (held : List ℕ) : Type 0 where
+  pub before : t .before ≡ totals
   pub room : 32777 ≤ length held
   pub ready : (rest : List ℕ) → Ready (editionFor t rest) (t .reader) held
   pub so-far : Count → ℕ

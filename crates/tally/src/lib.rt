@@ -12,10 +12,10 @@ ghost use Rattle.rules.specs.Faults.{faultNumber};
 ghost use Rattle.batch.specs.Batch.{decodeBatch};
 ghost use Rattle.records.specs.declared.Found.the-variants.{Record as OneRecord};
 ghost use Rattle.records.specs.Reading.{entryIn, Lies};
-ghost use Rattle.tally.specs.declared.Totals.{Totals};
-ghost use Rattle.tally.specs.Counts.{editionOf, largest};
+ghost use Rattle.totals.specs.declared.Totals.{Totals};
+ghost use Rattle.tally.specs.Counts.{editionOf};
 ghost use Rattle.tally.specs.Running.{plus, taskPlus, ranPlus, unscoredPlus, submittedPlus, recordPlus, foundPlus};
-ghost use Rattle.tally.specs.Tally.{Adds, Stands, Feeds};
+ghost use Rattle.tally.specs.Tally.{Adds, begun, fedBy, heldBy, finished, Stands, Feeds};
 use acceptance::Submitted;
 use batch::Step;
 use batch::next_task;
@@ -27,11 +27,8 @@ use register::Task;
 use reset::ResetRule;
 use rules::Bounds;
 use rules::Fault;
-
-// The counts: batches, tasks, output pixels, blended pixels, batches with fault 20 to 28, records without a score.
-pub struct Totals {
-    pub counts: [u64; 14],
-}
+use totals::Answer;
+use totals::Totals;
 
 // The counts while a file is added, and whether none has grown too large.
 pub struct Running {
@@ -39,8 +36,9 @@ pub struct Running {
     pub counts: [u64; 14],
 }
 
-// A file that is being added: its edition, once the version byte has come, the reading of it, and the counts.
+// A file that is being added: the totals before it, its edition, once the version byte has come, the reading of it, and the counts.
 pub struct Tally {
+    pub before: Totals,
     pub edition: Edition,
     pub begun: bool,
     pub reader: Reader,
@@ -53,20 +51,7 @@ pub struct Fed {
     pub used: usize,
 }
 
-// What is answered of a whole file: the new totals; or refusal 19, that a count would grow too large, and the totals as before that file.
-pub struct Answer {
-    pub refusal: u32,
-    pub totals: Totals,
-}
-
 // ---- counting
-
-// Whether a count may grow so.
-fn has_room(have: u64, n: u64) -> bool
-    ensures { λ r. ⌜ r ≡ leb (have + n) largest ⌝ }
-{
-    n <= 18446744073709551615 - have
-}
 
 // Adds to the count at a position.
 fn add(running: Running, k: usize, n: u64) -> Running
@@ -75,7 +60,7 @@ fn add(running: Running, k: usize, n: u64) -> Running
 {
     let mut counts = running.counts;
     let have = counts[k];
-    if !has_room(have, n) {
+    if !totals::has_room(have, n) {
         return Running {
             fits: false,
             counts: counts,
@@ -218,11 +203,12 @@ fn edition_for(begun: bool, edition: Edition, input: &[u8]) -> Edition
     edition_at(input)
 }
 
-// Before the version byte, with these counts.
-fn start_with(counts: [u64; 14]) -> Tally
-    ensures { λ r. ⌜ ((totals : Totals) (held : List ℕ) → totals .counts ≡ counts → 32777 ≤ length held → Stands totals [] r held) ⌝ }
+// Before the version byte, with these counts, which are those of the totals.
+fn start_with(before: Totals, counts: [u64; 14]) -> Tally
+    ensures { λ r. ⌜ (before .counts ≡ counts → (r ≡ begun before) × ((held : List ℕ) → 32777 ≤ length held → Stands before [] r held)) ⌝ }
 {
     Tally {
+        before: before,
         edition: Edition::First,
         begun: false,
         reader: records::start(),
@@ -235,15 +221,16 @@ fn start_with(counts: [u64; 14]) -> Tally
 
 // Before the version byte of a file that is to be added to these totals.
 pub fn start(totals: Totals) -> Tally
-    ensures { λ r. ⌜ ((held : List ℕ) → 32777 ≤ length held → Stands totals [] r held) ⌝ }
+    ensures { λ r. ⌜ (r ≡ begun totals) × ((held : List ℕ) → 32777 ≤ length held → Stands totals [] r held) ⌝ }
 {
     let counts = totals.counts;
-    start_with(counts)
+    start_with(totals, counts)
 }
 
-// Takes some bytes of the input, at most those of one record. `held` is to be 32,777 bytes long.
+// Takes some bytes of the input, at most those of one record. `held` is to be 32,777 bytes long: where it does not suffice for the edition, nothing is used.
 pub fn feed(tally: Tally, held: &mut [u8], input: &[u8]) -> Fed
     ensures { λ r. ⌜ (r .used ≤ length (now (input .entry)))
+        × (r ≡ fedBy tally (now (held .entry)) (now (input .entry))) × (now (held .exit) ≡ heldBy tally (now (held .entry)) (now (input .entry)))
         × ((totals : Totals) (seen : List ℕ) → Stands totals seen tally (now (held .entry)) → Feeds totals seen (now (input .entry)) r (now (held .exit))) ⌝ }
 {
     if input.len() == 0 {
@@ -252,6 +239,7 @@ pub fn feed(tally: Tally, held: &mut [u8], input: &[u8]) -> Fed
             used: 0,
         };
     }
+    let before = tally.before;
     let known = tally.edition;
     let edition = edition_for(tally.begun, known, input);
     let reader = tally.reader;
@@ -262,6 +250,7 @@ pub fn feed(tally: Tally, held: &mut [u8], input: &[u8]) -> Fed
     let next = add_found(running, edition, found, held);
     Fed {
         tally: Tally {
+            before: before,
             edition: edition,
             begun: true,
             reader: after,
@@ -291,16 +280,17 @@ pub fn feed_piece(tally: Tally, held: &mut [u8], piece: &[u8]) -> Tally
     current
 }
 
-// What is answered at the end of a file that was added to these totals.
-pub fn finish(totals: Totals, tally: Tally) -> Answer
-    ensures { λ r. ⌜ ((seen held : List ℕ) → Stands totals seen tally held → Adds totals seen r) ⌝ }
+// What is answered at the end of a file: the new totals; or refusal 19, that a count would grow too large, and the totals as before that file.
+pub fn finish(tally: Tally) -> Answer
+    ensures { λ r. ⌜ (r ≡ finished tally) × ((totals : Totals) (seen held : List ℕ) → Stands totals seen tally held → Adds totals seen r) ⌝ }
 {
+    let before = tally.before;
     let running = tally.running;
     let counts = running.counts;
     if !running.fits {
         return Answer {
             refusal: 19,
-            totals: totals,
+            totals: before,
         };
     }
     Answer {

@@ -12,6 +12,7 @@
 //! compare replays2 COUNT SEED PROGRAM [WORD ..]  random replay files of edition 2, likewise
 //! compare cuts2 FILE PROGRAM [WORD ..]           one of edition 2 cut at every byte
 //! compare tally COUNT SEED PROGRAM               lots of random files of both editions, counted by PROGRAM
+//! compare lots COUNT SEED PROGRAM                printed totals added by PROGRAM --add, and lots in two
 //! compare provenance COUNT SEED SAMPLES TOUCHED FAULT
 //!                                                who drew a byte and why a batch faulted, asked of two programs
 mod bench;
@@ -50,13 +51,14 @@ fn compared(words: &[&str]) -> Result<bool> {
         ["replays2", count, seed, program @ ..] => month::replays2(number(count)?, number(seed)?, program),
         ["cuts2", file, program @ ..] => replays::cuts_of(file, program, independent::second::played),
         ["tally", count, seed, program] => month::compare(number(count)?, number(seed)?, program),
+        ["lots", count, seed, program] => month::lots(number(count)?, number(seed)?, program),
         ["provenance", count, seed, samples, touched, fault] => {
             provenance::compare(number(count)?, number(seed)?, samples, [touched, fault])
         }
         _ => Err(Error::other(
             "usage: calls | lists COUNT SEED | orders COUNT SEED | pages | settings | tints COUNT SEED | fuzz SECONDS SEED \
              | replays COUNT SEED PROGRAM | cuts FILE PROGRAM | replays2 .. | cuts2 .. | tally COUNT SEED PROGRAM \
-             | provenance COUNT SEED SAMPLES TOUCHED FAULT",
+             | lots COUNT SEED PROGRAM | provenance COUNT SEED SAMPLES TOUCHED FAULT",
         )),
     }
 }

@@ -95,6 +95,41 @@ pub fn tallied<'a>(start: [u64; COUNTS], files: impl IntoIterator<Item = &'a [u8
     printed(&totals, false)
 }
 
+/// The counts that a text prints, if it is nothing else: fourteen lines, each with its own name, one space and a number as it is printed.
+pub fn parsed(text: &str) -> Option<[u64; COUNTS]> {
+    let mut totals = [0; COUNTS];
+    let mut rest = text;
+    for (name, total) in names().iter().zip(&mut totals) {
+        let (line, after) = rest.split_once('\n')?;
+        let digits = line.strip_prefix(name.as_str())?.strip_prefix(' ')?;
+        let plain = digits == "0" || !digits.starts_with('0');
+        if !plain || digits.is_empty() || !digits.bytes().all(|byte| byte.is_ascii_digit()) {
+            return None;
+        }
+        *total = digits.parse().ok()?;
+        rest = after;
+    }
+    rest.is_empty().then_some(totals)
+}
+
+/// What is printed of the texts of some lots, added from zero on, and which of them are no totals: these add nothing.
+pub fn added(lots: &[Vec<u8>]) -> (String, Vec<usize>) {
+    let mut totals = [0; COUNTS];
+    let mut bad = vec![];
+    for (k, lot) in lots.iter().enumerate() {
+        let Some(other) = std::str::from_utf8(lot).ok().and_then(parsed) else {
+            bad.push(k);
+            continue;
+        };
+        let (after, refused) = add(totals, &other.map(u128::from));
+        totals = after;
+        if refused {
+            return (printed(&totals, true), bad);
+        }
+    }
+    (printed(&totals, false), bad)
+}
+
 #[cfg(test)]
 mod tests {
     use super::*;
@@ -111,6 +146,20 @@ mod tests {
         assert_eq!([before[0], before[1]], [3, 5]);
         assert_eq!(of_file(&[]), [0; COUNTS]);
         assert_eq!(of_file(&[3, 0, 0, 0, 1, 0]), [0; COUNTS]);
+    }
+
+    #[test]
+    fn lots() {
+        let mut totals = [7; COUNTS];
+        totals[3] = u64::MAX;
+        let text = printed(&totals, false);
+        assert_eq!(parsed(&text), Some(totals));
+        assert_eq!(parsed(&printed(&totals, true)), None);
+        assert_eq!(parsed(&text.replace("tasks 7", "tasks 07")), None);
+        assert_eq!(parsed(&text.replace("18446744073709551615", "18446744073709551616")), None);
+        let twice = added(&[text.clone().into_bytes(), text.clone().into_bytes()]);
+        assert_eq!(twice, (printed(&totals, true), vec![]));
+        assert_eq!(added(&[b"x".to_vec(), text.clone().into_bytes()]), (text, vec![0]));
     }
 
     #[test]

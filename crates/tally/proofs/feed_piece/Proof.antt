@@ -5,7 +5,7 @@ use mathlib.Core.List.{List, _++_}
 use native.Mathlib.Omega.{arith}
 use lib.ListN.{length, take, drop, length-take, length-drop}
 use denote.Ref.{now}
-use Rattle.tally.specs.declared.Totals.{Totals}
+use Rattle.totals.specs.declared.Totals.{Totals}
 use Rattle.tally.specs.Tally.{Stands, Feeds}
 use Rattle.tally.proofs.Files.{piece-again, piece-some, piece-none, piece-all}
 use Rattle.tally.proofs.feed_piece.Statement.{statement}
@@ -58,7 +58,7 @@ returns c =
     let d = c .before .before .before .before in
     let l = d .before .before .before .before .loop in
     let a = d .before .before .before .before .before .before .before .args in
-    λ totals seen S. absurd (piece-some totals seen (a .piece .now) (l .used) (d .feed .result) _ (d .before .before .before .loop-test .taken) (d .feed .ensures .1 totals (seen ++ take (l .used) (a .piece .now)) (l .inv .2 totals seen S)) (c .if1 .taken))
+    λ totals seen S. absurd (piece-some totals seen (a .piece .now) (l .used) (d .feed .result) _ (d .before .before .before .loop-test .taken) (d .feed .ensures .3 totals (seen ++ take (l .used) (a .piece .now)) (l .inv .2 totals seen S)) (c .if1 .taken))
 
 loop-less : tie.Need-loop-less Inv-loop μ-loop
 loop-less c = omega (arith, within (c .before .before .before .before), c .if1 .left)
@@ -70,7 +70,7 @@ loop-again c =
     let a = d .before .before .before .before .before .before .before .args in (
       within d,
       search needs,
-      λ totals seen S. piece-again totals seen (a .piece .now) (l .used) (d .feed .result) _ (d .feed .ensures .1 totals (seen ++ take (l .used) (a .piece .now)) (l .inv .2 totals seen S)),
+      λ totals seen S. piece-again totals seen (a .piece .now) (l .used) (d .feed .result) _ (d .feed .ensures .3 totals (seen ++ take (l .used) (a .piece .now)) (l .inv .2 totals seen S)),
     )
 
 same-length-2 : tie.Need-same-length-2 Inv-loop μ-loop

@@ -7,10 +7,16 @@ use Rattle.tally.proofs.finish.Reads as reads
 use Rattle.tally.proofs.finish.Lts as lts
 
 returns : tie.Need-returns
-returns c = λ seen held S. ends-large (c .before .before .before .before .args .totals) seen held (c .before .before .before .before .args .tally) S (not-true (c .before .before .before .before .args .tally .running .fits) (c .if1 .taken))
+returns c =
+    let a = c .before .before .before .before .before .args in
+    let over = not-true (a .tally .running .fits) (c .if1 .taken) in
+    (rw over, λ totals seen held S. ends-large totals seen held (a .tally) S over)
 
 returns-2 : tie.Need-returns-2
-returns-2 c = λ seen held S. ends-small (c .before .before .before .before .args .totals) seen held (c .before .before .before .before .args .tally) S _ refl (not-false (c .before .before .before .before .args .tally .running .fits) (c .if1 .left))
+returns-2 c =
+    let a = c .before .before .before .before .before .args in
+    let fits = not-false (a .tally .running .fits) (c .if1 .left) in
+    (rw fits, λ totals seen held S. ends-small totals seen held (a .tally) S _ refl fits)
 
 pub finish-spec : {M : Type 1} → statement M
 finish-spec = tie.close (tie.spec returns returns-2)

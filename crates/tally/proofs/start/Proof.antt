@@ -10,7 +10,7 @@ start-with-requires : tie.Need-start-with-requires
 start-with-requires c κs = search needs
 
 returns : tie.Need-returns
-returns c = λ held room. c .start-with .ensures _ held refl room
+returns c = c .start-with .ensures refl
 
 pub start-spec : {M : Type 1} → statement M
 start-spec = tie.close (tie.spec start-with-requires returns)

@@ -1,14 +1,14 @@
-use mathlib.Core.Path.{_≡_, refl}
+use mathlib.Core.Path.{_≡_, refl, sym, ap, _∙_}
 use mathlib.Core.List.{List}
 use Prim.Native.Nat.{ℕ, _≤_}
 use native.Mathlib.Omega.{arith}
 use lib.ListN.{getD}
 use mir.Syntax.{w64}
 use mir.Val.{Fits}
-use borrow.Author.Needs.{elem-fits}
-use Rattle.tally.specs.Counts.{largest, position}
+use borrow.Author.Needs.{needs, elem-fits}
+use Rattle.totals.specs.Totals.{largest}
+use Rattle.tally.specs.Counts.{position}
 use Rattle.tally.proofs.Files.{starts-by}
-use borrow.Author.Needs.{needs}
 use Rattle.tally.proofs.start_with.Statement.{statement}
 use Rattle.tally.proofs.start_with.Tie as tie
 use Rattle.tally.proofs.start_with.Reads as reads
@@ -23,7 +23,9 @@ start-requires : tie.Need-start-requires
 start-requires c κs = search needs
 
 returns : tie.Need-returns
-returns c = λ totals held is room. starts-by totals _ held (rw is (c .before .good .0 .1 .0 .1)) (λ count. small (c .before .args .counts) (totals .counts) (position count) is (elem-fits w64 w64 (c .before .args .counts) (c .before .good .0 .0) (position count) (c .before .good .0 .1 .1) tt)) refl (c .start .ensures) (rw is) room
+returns c = λ is.
+    let s = c .before in
+    (rw (c .start .ensures, is), λ held room. starts-by _ _ held (rw is (s .good .1 .0 .1 .0 .1)) (λ count. small (s .args .counts) _ (position count) is (elem-fits w64 w64 (s .args .counts) (s .good .1 .0 .0) (position count) (s .good .1 .0 .1 .1) tt)) (rw (c .start .ensures, is)) room)
 
 pub start-with-spec : {M : Type 1} → statement M
 start-with-spec = tie.close (tie.spec start-requires returns)

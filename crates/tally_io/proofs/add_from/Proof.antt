@@ -1,4 +1,5 @@
 use mathlib.Core.List.{[]}
+use Rattle.tally_io.proofs.Files.{file-none, file-some}
 use borrow.Author.Needs.{needs}
 use Rattle.tally_io.proofs.add_from.Statement.{statement}
 use Rattle.tally_io.proofs.add_from.Tie as tie
@@ -6,26 +7,48 @@ use Rattle.tally_io.proofs.add_from.Reads as reads
 use Rattle.tally_io.proofs.add_from.Lts as lts
 use Rattle.tally.proofs.finish.Reads as finish-reads
 use Rattle.tally.proofs.start.Reads as start-reads
+use Rattle.tally_io.proofs.nothing.Reads as nothing-reads
 use Rattle.tally_io.proofs.read_all.Reads as read-all-reads
 
+-- src/lib.rt:86:9
 start-requires : tie.Need-start-requires
 start-requires c κs = search needs
 
+-- src/lib.rt:87:42
 slice-aggregate-read-all : tie.Need-slice-aggregate-read-all
 slice-aggregate-read-all c = search needs
 
+-- src/lib.rt:87:9
 read-all-requires : tie.Need-read-all-requires
 read-all-requires c κs = search needs
 
+-- src/lib.rt:89:9
+nothing-requires : tie.Need-nothing-requires
+nothing-requires c κs = search needs
+
+-- src/lib.rt:89:9
+returns : tie.Need-returns
+returns c = file-none _ _ (c .nothing .ensures)
+
+-- src/lib.rt:93:17
 finish-requires : tie.Need-finish-requires
 finish-requires c κs = search needs
 
-returns : tie.Need-returns
-returns c =
-    let r = c .before .before .before .read-all .ensures (c .before .before .before .before .before .before .before .args .totals) (record { seen = []; stands = c .before .before .before .before .before .start .ensures _ (search needs) }) in
-    record { seen = r .seen; adds = c .finish .ensures (r .seen) _ (r .stands) }
+-- src/lib.rt:81:1
+returns-2 : tie.Need-returns-2
+returns-2 c =
+    let totals = c .before .before .before .before .before .before .before .before .before .args .totals in
+    let r = c .before .before .before .before .before .read-all .ensures totals (record { seen = []; stands = c .before .before .before .before .before .before .before .start .ensures .1 _ (search needs) }) in
+    file-some totals (r .seen) _ (c .finish .ensures .1 totals (r .seen) _ (r .stands))
 
 pub add-from-spec : {M : Type 1} → statement M
 add-from-spec =
     tie.close
-    (tie.spec start-requires slice-aggregate-read-all read-all-requires finish-requires returns)
+    (tie.spec
+    start-requires
+    slice-aggregate-read-all
+    read-all-requires
+    nothing-requires
+    returns
+    finish-requires
+    returns-2)

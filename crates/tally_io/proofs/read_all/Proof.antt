@@ -1,7 +1,7 @@
 use mathlib.Core.Path.{_≡_}
 use lib.ListN.{length}
 use borrow.Author.Needs.{needs}
-use Rattle.tally.specs.declared.Totals.{Totals}
+use Rattle.totals.specs.declared.Totals.{Totals}
 use Rattle.tally_io.specs.Reached.{Reached}
 use Rattle.tally_io.proofs.read_all.Statement.{statement}
 use Rattle.tally_io.proofs.read_all.Tie as tie

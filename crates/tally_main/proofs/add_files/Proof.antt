@@ -4,52 +4,55 @@ use Rattle.tally_main.proofs.add_files.Statement.{statement}
 use Rattle.tally_main.proofs.add_files.Tie as tie
 use Rattle.tally_main.proofs.add_files.Reads as reads
 use Rattle.tally_main.proofs.add_files.Lts as lts
-use Rattle.command.proofs.print.Reads as print-reads
-use Rattle.tally_io.proofs.add_argument.Reads as add-argument-reads
-use Rattle.tally_io.proofs.print_totals.Reads as print-totals-reads
-use Rattle.tally_io.proofs.show_progress.Reads as show-progress-reads
+use Rattle.tally_main.proofs.add_one.Reads as add-one-reads
+use Rattle.totals_io.proofs.print_answer.Reads as print-answer-reads
+use Rattle.totals_io.proofs.show_progress.Reads as show-progress-reads
 
 abbrev Inv-loop : tie.InvT-loop
-Inv-loop count totals₀ index₀ refusal₀ t7 totals index refusal = 1 ≤ index
+Inv-loop lots first count totals₀ refusal₀ index₀ totals refusal index = first ≤ index
 
 abbrev μ-loop : tie.MeasureT-loop
-μ-loop count totals₀ index₀ refusal₀ t7 totals index refusal = count - index
+μ-loop lots first count totals₀ refusal₀ index₀ totals refusal index = count - index
 
+-- src/main.rt:27:5
 loop-holds : tie.Need-loop-holds Inv-loop μ-loop
 loop-holds c = search needs
 
-add-argument-requires : tie.Need-add-argument-requires Inv-loop μ-loop
-add-argument-requires c κs = search needs
+-- src/main.rt:28:13
+add-one-requires : tie.Need-add-one-requires Inv-loop μ-loop
+add-one-requires c κs = search needs
 
-sub-show-progress : tie.Need-sub-show-progress Inv-loop μ-loop
-sub-show-progress c = search needs
-
-show-progress-requires : tie.Need-show-progress-requires Inv-loop μ-loop
-show-progress-requires c κs = search needs
-
+-- src/main.rt:32:9
 add-index : tie.Need-add-index Inv-loop μ-loop
 add-index c = search needs
 
+-- src/main.rt:33:44
+sub-show-progress : tie.Need-sub-show-progress Inv-loop μ-loop
+sub-show-progress c = search needs
+
+-- src/main.rt:33:59
+sub-show-progress-2 : tie.Need-sub-show-progress-2 Inv-loop μ-loop
+sub-show-progress-2 c = search needs
+
+-- src/main.rt:33:9
+show-progress-requires : tie.Need-show-progress-requires Inv-loop μ-loop
+show-progress-requires c κs = search needs
+
+-- src/main.rt:27:5
 loop-less : tie.Need-loop-less Inv-loop μ-loop
 loop-less c = search needs
 
+-- src/main.rt:27:5
 loop-again : tie.Need-loop-again Inv-loop μ-loop
 loop-again c = search needs
 
-print-totals-requires : tie.Need-print-totals-requires Inv-loop μ-loop
-print-totals-requires c κs = search needs
+-- src/main.rt:35:5
+print-answer-requires : tie.Need-print-answer-requires Inv-loop μ-loop
+print-answer-requires c κs = search needs
 
-slice-aggregate-print : tie.Need-slice-aggregate-print Inv-loop μ-loop
-slice-aggregate-print c = search needs
-
-print-requires : tie.Need-print-requires Inv-loop μ-loop
-print-requires c κs = search needs
-
+-- src/main.rt:23:1
 returns : tie.Need-returns Inv-loop μ-loop
 returns c = search needs
-
-returns-2 : tie.Need-returns-2 Inv-loop μ-loop
-returns-2 c = search needs
 
 pub add-files-spec : {M : Type 1} → statement M
 add-files-spec =
@@ -58,14 +61,12 @@ add-files-spec =
     Inv-loop
     μ-loop
     loop-holds
-    add-argument-requires
-    sub-show-progress
-    show-progress-requires
+    add-one-requires
     add-index
+    sub-show-progress
+    sub-show-progress-2
+    show-progress-requires
     loop-less
     loop-again
-    print-totals-requires
-    slice-aggregate-print
-    print-requires
-    returns
-    returns-2)
+    print-answer-requires
+    returns)

@@ -1,10 +1,10 @@
 use native.Mathlib.Omega.{arith}
-use Rattle.tally.proofs.Adding.{room-is}
+use Rattle.totals.proofs.Adding.{room-is}
 use borrow.Author.Needs.{needs}
-use Rattle.tally.proofs.has_room.Statement.{statement}
-use Rattle.tally.proofs.has_room.Tie as tie
-use Rattle.tally.proofs.has_room.Reads as reads
-use Rattle.tally.proofs.has_room.Lts as lts
+use Rattle.totals.proofs.has_room.Statement.{statement}
+use Rattle.totals.proofs.has_room.Tie as tie
+use Rattle.totals.proofs.has_room.Reads as reads
+use Rattle.totals.proofs.has_room.Lts as lts
 
 sub-result : tie.Need-sub-result
 sub-result c = search needs

@@ -1,0 +1,3 @@
+-- Laws of numbers in decimal digits.
+pub mod Reading
+pub mod Printed

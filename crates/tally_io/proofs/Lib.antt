@@ -1,0 +1,2 @@
+-- Laws of a file that is added.
+pub mod Files

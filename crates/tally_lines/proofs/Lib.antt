@@ -1,0 +1,3 @@
+-- Laws of the lines of totals.
+pub mod Lines
+pub mod Finding

@@ -1,0 +1,17 @@
+use Rattle.tally_lines.proofs.Lines.{typed-three}
+use borrow.Author.Needs.{needs}
+use Rattle.tally_lines.proofs.count_line.Statement.{statement}
+use Rattle.tally_lines.proofs.count_line.Tie as tie
+
+returns : tie.Need-returns
+returns c = typed-three _ _ _ _ _ _ 10 (c .before .before .before .before .before .before .before .before .before .before .label .ensures) (c .before .before .before .before .before .before .decimal .ensures .0) (c .before .before .push .ensures)
+
+pub count-line-spec : {M : Type 1} → statement M
+count-line-spec =
+    tie.close
+    (tie.spec
+    (λ c κs. search needs)
+    (λ c κs. search needs)
+    (λ c κs. search needs)
+    (λ c. search needs)
+    returns)

@@ -1,0 +1,68 @@
+use mathlib.Core.Path.{_≡_, refl, sym, ap, _∙_}
+use native.Mathlib.Omega.{arith}
+use lib.ListN.{length}
+use lib.Seq.{length-take-le}
+use Rattle.tally_lines.proofs.Lines.{lines-size, lines-typed}
+use Rattle.tally_lines.proofs.Finding.{reads-by, reads-none}
+use borrow.Author.Needs.{needs}
+use Rattle.tally_lines.proofs.read.Statement.{statement}
+use Rattle.tally_lines.proofs.read.Tie as tie
+use Rattle.tally_lines.proofs.read.Reads as reads
+use Rattle.tally_lines.proofs.read.Lts as lts
+use Rattle.check.proofs.same.Reads as same-reads
+use Rattle.tally_lines.proofs.find_totals.Reads as find-totals-reads
+use Rattle.tally_lines.proofs.write.Reads as write-reads
+
+-- src/lib.rt:109:9
+returns : tie.Need-returns
+returns c = reads-none _ _ (λ own O e. omega (arith, lines-size (own .counts) O, ap length e, c .if1 .taken))
+
+-- src/lib.rt:114:9
+find-totals-requires : tie.Need-find-totals-requires
+find-totals-requires c κs = search needs
+
+-- src/lib.rt:116:19
+slice-aggregate-write : tie.Need-slice-aggregate-write
+slice-aggregate-write c = search needs
+
+-- src/lib.rt:116:9
+write-requires : tie.Need-write-requires
+write-requires c κs = search needs
+
+-- src/lib.rt:117:28
+array-share-prefix-line : tie.Need-array-share-prefix-line
+array-share-prefix-line c =
+    let w = c .before .write in
+    let typed = lines-typed _ _ _ _ (w .ensures .1) refl (w .ensures .0) in
+    omega (arith, typed .0)
+
+-- src/lib.rt:117:28
+slice-aggregate-same : tie.Need-slice-aggregate-same
+slice-aggregate-same c =
+    let w = c .before .before .write in
+    let typed = lines-typed _ _ _ _ (w .ensures .1) refl (w .ensures .0) in
+    sym (length-take-le (w .result) _ (omega (arith, typed .0)))
+
+-- src/lib.rt:117:9
+same-requires : tie.Need-same-requires
+same-requires c κs = search needs
+
+-- src/lib.rt:105:1
+returns-2 : tie.Need-returns-2
+returns-2 c =
+    let w = c .before .before .before .write in
+    let typed = lines-typed _ _ _ _ (w .ensures .1) refl (w .ensures .0) in
+    reads-by _ _ (c .before .before .before .before .before .find-totals .ensures) _ (c .same .result) (typed .1) (c .same .ensures .0) (c .same .ensures .1)
+
+pub read-spec : {M : Type 1} → statement M
+read-spec =
+    tie.close
+    (tie.spec
+    returns
+    find-totals-requires
+    slice-aggregate-write
+    write-requires
+    array-share-prefix-line
+    slice-aggregate-same
+    same-requires
+    returns-2)

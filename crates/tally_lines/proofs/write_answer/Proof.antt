@@ -1,0 +1,71 @@
+use Rattle.tally_lines.proofs.Lines.{typed-three, answer-added, answer-refused}
+use borrow.Author.Needs.{needs}
+use Rattle.tally_lines.proofs.write_answer.Statement.{statement}
+use Rattle.tally_lines.proofs.write_answer.Tie as tie
+use Rattle.tally_lines.proofs.write_answer.Reads as reads
+use Rattle.tally_lines.proofs.write_answer.Lts as lts
+use Rattle.tally_lines.proofs.write.Reads as write-reads
+use Rattle.text.proofs.line.append.Reads as append-reads
+use Rattle.text.proofs.line.decimal.Reads as decimal-reads
+use Rattle.text.proofs.line.push.Reads as push-reads
+
+-- src/lib.rt:76:9
+write-requires : tie.Need-write-requires
+write-requires c κs = search needs
+
+-- src/lib.rt:78:9
+same-length : tie.Need-same-length
+same-length c = search needs
+
+-- src/lib.rt:78:9
+returns : tie.Need-returns
+returns c =
+    let w = c .before .before .before .before .write in
+    answer-added _ _ (c .before .before .before .before .before .before .before .before .args .answer) (w .ensures .0) (w .ensures .1) (c .if1 .taken)
+
+-- src/lib.rt:80:35
+slice-aggregate-append : tie.Need-slice-aggregate-append
+slice-aggregate-append c = search needs
+
+-- src/lib.rt:80:9
+append-requires : tie.Need-append-requires
+append-requires c κs = search needs
+
+-- src/lib.rt:81:36
+cast-decimal : tie.Need-cast-decimal
+cast-decimal c = search needs
+
+-- src/lib.rt:81:9
+decimal-requires : tie.Need-decimal-requires
+decimal-requires c κs = search needs
+
+-- src/lib.rt:82:5
+push-requires : tie.Need-push-requires
+push-requires c κs = search needs
+
+-- src/lib.rt:72:1
+same-length-2 : tie.Need-same-length-2
+same-length-2 c = search needs
+
+-- src/lib.rt:72:1
+returns-2 : tie.Need-returns-2
+returns-2 c =
+    let w = c .before .before .before .before .before .before .before .before .before .before .before .before .before .before .before .before .before .before .write in
+    let d = c .before .before .before .before .before .before .decimal in
+    answer-refused _ _ (c .before .before .before .before .before .before .before .before .before .before .before .before .before .before .before .before .before .before .before .before .before .before .args .answer) (w .ensures .0) (w .ensures .1) (c .before .before .before .before .before .before .before .before .before .before .before .before .before .before .if1 .left) (d .ensures .1) _
+    (typed-three _ _ _ _ _ _ 10 (c .before .before .before .before .before .before .before .before .before .before .before .append .ensures) (d .ensures .0) (c .before .before .push .ensures))
+
+pub write-answer-spec : {M : Type 1} → statement M
+write-answer-spec =
+    tie.close
+    (tie.spec
+    write-requires
+    same-length
+    returns
+    slice-aggregate-append
+    append-requires
+    cast-decimal
+    decimal-requires
+    push-requires
+    same-length-2
+    returns-2)

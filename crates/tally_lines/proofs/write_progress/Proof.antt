@@ -1,0 +1,71 @@
+use Rattle.tally_lines.specs.Lines.{progressText}
+use Rattle.tally_lines.proofs.Lines.{typed-three, typed-then, progress-size}
+use borrow.Author.Needs.{needs}
+use Rattle.tally_lines.proofs.write_progress.Statement.{statement}
+use Rattle.tally_lines.proofs.write_progress.Tie as tie
+use Rattle.tally_lines.proofs.write_progress.Reads as reads
+use Rattle.tally_lines.proofs.write_progress.Lts as lts
+use Rattle.tally_lines.proofs.last_byte.Reads as last-byte-reads
+use Rattle.text.proofs.line.append.Reads as append-reads
+use Rattle.text.proofs.line.decimal.Reads as decimal-reads
+use Rattle.text.proofs.line.push.Reads as push-reads
+
+-- src/lib.rt:97:9
+decimal-requires : tie.Need-decimal-requires
+decimal-requires c κs = search needs
+
+-- src/lib.rt:98:35
+slice-aggregate-append : tie.Need-slice-aggregate-append
+slice-aggregate-append c = search needs
+
+-- src/lib.rt:98:9
+append-requires : tie.Need-append-requires
+append-requires c κs = search needs
+
+-- src/lib.rt:99:9
+decimal-requires-2 : tie.Need-decimal-requires-2
+decimal-requires-2 c κs = search needs
+
+-- src/lib.rt:100:35
+slice-aggregate-append-2 : tie.Need-slice-aggregate-append-2
+slice-aggregate-append-2 c = search needs
+
+-- src/lib.rt:100:9
+append-requires-2 : tie.Need-append-requires-2
+append-requires-2 c κs = search needs
+
+-- src/lib.rt:101:25
+last-byte-requires : tie.Need-last-byte-requires
+last-byte-requires c κs = search needs
+
+-- src/lib.rt:101:5
+push-requires : tie.Need-push-requires
+push-requires c κs = search needs
+
+-- src/lib.rt:94:1
+same-length : tie.Need-same-length
+same-length c = search needs
+
+-- src/lib.rt:94:1
+returns : tie.Need-returns
+unfolding progressText
+returns c =
+    let files = c .before .before .before .before .before .before .before .before .before .before .before .before .before .before .before .before .before .before .before .before .before .decimal .ensures in
+    let of = c .before .before .before .before .before .before .before .before .before .before .before .before .decimal2 .ensures in
+    let pushed = rw (c .before .before .before .last-byte .ensures) at (c .before .before .push .ensures) in
+    (typed-then _ _ _ _ _ (files .0) (typed-then _ _ _ _ _ (c .before .before .before .before .before .before .before .before .before .before .before .before .before .before .before .before .append .ensures) (typed-three _ _ _ _ _ _ _ (of .0) (c .before .before .before .before .before .before .before .append2 .ensures) pushed)), progress-size _ _ (files .1) (of .1))
+
+pub write-progress-spec : {M : Type 1} → statement M
+write-progress-spec =
+    tie.close
+    (tie.spec
+    decimal-requires
+    slice-aggregate-append
+    append-requires
+    decimal-requires-2
+    slice-aggregate-append-2
+    append-requires-2
+    last-byte-requires
+    push-requires
+    same-length
+    returns)

@@ -1,0 +1,25 @@
+-- Totals read from a text: those whose lines it is.
+use mathlib.Core.Path.{_≡_}
+use mathlib.Core.Bool.{true}
+use mathlib.Core.List.{List}
+use Prim.Native.Nat.{ℕ, _≤_}
+use lib.ListN.{length, getD}
+use Rattle.totals.specs.declared.Totals.{Totals}
+use Rattle.totals.specs.Totals.{largest}
+use Rattle.tally_lines.specs.declared.Reading.{Reading}
+use Rattle.tally_lines.specs.Lines.{countLines, totalsText}
+
+-- fourteen numbers of 64 bits, as all totals of the code are
+pub record Counts (counts : List ℕ) : Type 0 where
+  pub size : length counts ≡ 14
+  pub small : (k : ℕ) → getD counts k 0 ≤ largest
+
+pub record Reads (text : List ℕ) (r : Reading) : Type 0 where
+  -- the text is what the totals that were read print: any other one is refused
+  pub exact : r .well ≡ true → text ≡ totalsText (r .totals)
+  -- and what totals print reads back as them
+  pub back : (totals : Totals) → Counts (totals .counts) → text ≡ totalsText totals → (r .well ≡ true) × (r .totals ≡ totals)
+
+-- Internal: numbers found in a text: those of the counts whose lines it is, if it is that of counts
+abbrev pub Finds : (text counts : List ℕ) → Type 0
+Finds text counts = (own : List ℕ) → Counts own → text ≡ countLines 0 own → counts ≡ own

@@ -1,0 +1,2 @@
+-- Laws of counts that are added.
+pub mod Adding

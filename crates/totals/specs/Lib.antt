@@ -1,0 +1,3 @@
+-- What adding to totals promises.
+pub mod Totals
+pub mod Sums

@@ -1,0 +1,2 @@
+-- Laws of what is printed, and of lots.
+pub mod Lots

@@ -1,0 +1,2 @@
+-- What a lot adds.
+pub mod Lots
