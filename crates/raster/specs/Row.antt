@@ -94,15 +94,15 @@ pub record RowDrawable (window : Range) (memory : List ℕ) (t : Task) (y : ℕ)
   pub drawable : Drawable window (length memory) t
   pub row : y < t .output .height
 
--- two buffers, each for a row as wide as any
-pub record RowBuffers (s d : List ℕ) : Type 0 where
-  pub source : 16384 ≤ length s
-  pub destination : 16384 ≤ length d
+-- two buffers, each for a row of so many pixels
+pub record RowBuffers (width : ℕ) (s d : List ℕ) : Type 0 where
+  pub source : width * 4 ≤ length s
+  pub destination : width * 4 ≤ length d
 
 -- what is asked where row y of a task is drawn with buffers
 pub record RowBuffered (window : Range) (memory s d : List ℕ) (t : Task) (y : ℕ) : Type 0 where
   pub ask : RowDrawable window memory t y
-  pub buffers : RowBuffers s d
+  pub buffers : RowBuffers (t .output .width) s d
 
 -- and the source's colours are in a buffer
 pub record RowFetched (window : Range) (memory s d : List ℕ) (t : Task) (y : ℕ) : Type 0 where
