@@ -23,7 +23,7 @@ fn draw_task(memory: &mut [u8], window: Range, task: Task, slow: bool)
         plain::draw_task(memory, task);
         return;
     }
-    raster::draw_task(memory, window, task);
+    tasks::draw_task(memory, window, task);
 }
 
 // Judges and draws the batch of `size` bytes at an offset of the ring, read from a bank on. The tasks before a fault stand (02, request 5). Judging
