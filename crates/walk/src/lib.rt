@@ -31,7 +31,7 @@ fn draw_task(
         plain::draw_task(memory, task);
         return;
     }
-    raster::draw_task(memory, window, task, source, destination);
+    tasks::draw_task(memory, window, task, source, destination);
 }
 
 // Judges and draws the batch of `size` bytes at an offset of the ring, read from a bank on. The tasks before a fault stand (02, request 5). Judging

@@ -1,0 +1,140 @@
+// A task drawn a row at a time in the client's window, out of the memory before it. What kind its rows are is decided once.
+ghost use mathlib.Core.Path.{_≡_};
+ghost use mathlib.Core.Bool.{true, false};
+ghost use lib.ListN.{length};
+ghost use Rattle.range.specs.Range.{containedIn};
+ghost use Rattle.surface.specs.Surface.{span};
+ghost use Rattle.plan.specs.Plan.{planOf};
+ghost use Rattle.raster.specs.Task.{drawTask};
+ghost use Rattle.raster.specs.Preconditions.{Drawable};
+ghost use Rattle.raster.specs.Row.{RowBuffers};
+ghost use Rattle.unblended_rows.specs.Row.{RowMovable, TaskFillable};
+ghost use Rattle.buffered_rows.specs.Row.{FinishFits};
+use buffered_rows::Finish;
+use buffered_rows::buffered_row;
+use buffered_rows::finish_of;
+use plan::Plan;
+use plan::plan_of;
+use range::Range;
+use register::Task;
+use unblended_rows::carried_row;
+use unblended_rows::filled_row;
+use unblended_rows::is_moved;
+use unblended_rows::is_uniform;
+use unblended_rows::moved_row;
+
+// Draws a task whose rows have one colour each.
+fn filled_rows(memory: &mut [u8], window: Range, task: Task)
+    requires { ⌜ Drawable window (length (now memory)) task × TaskFillable task ⌝ }
+    ensures { λ _. ⌜ now (memory .exit) ≡ drawTask task (now (memory .entry)) ⌝ }
+{
+    let output = task.output;
+    let height = output.height;
+    let mut y: u16 = 0;
+    while y < height {
+        filled_row(memory, window, task, y);
+        y += 1;
+    }
+}
+
+// Draws a task whose rows are rows of its source, in the window.
+fn moved_rows(memory: &mut [u8], window: Range, task: Task)
+    requires { ⌜ Drawable window (length (now memory)) task × RowMovable task × (containedIn (span (task .source .surface)) window ≡ true) ⌝ }
+    ensures { λ _. ⌜ now (memory .exit) ≡ drawTask task (now (memory .entry)) ⌝ }
+{
+    let output = task.output;
+    let height = output.height;
+    let mut y: u16 = 0;
+    while y < height {
+        moved_row(memory, window, task, y);
+        y += 1;
+    }
+}
+
+// Draws a task whose rows are rows of its source, wherever that lies.
+fn carried_rows(memory: &mut [u8], window: Range, task: Task, source: &mut [u8])
+    requires { ⌜ Drawable window (length (now memory)) task × RowBuffers (now source) (now source) × RowMovable task ⌝ }
+    ensures { λ _. ⌜ now (memory .exit) ≡ drawTask task (now (memory .entry)) ⌝ }
+{
+    let output = task.output;
+    let height = output.height;
+    let mut y: u16 = 0;
+    while y < height {
+        carried_row(memory, window, task, y, source);
+        y += 1;
+    }
+}
+
+// Draws a task without blending whose rows are rows of its source.
+fn unblended_rows(memory: &mut [u8], window: Range, task: Task, source: &mut [u8])
+    requires { ⌜ Drawable window (length (now memory)) task × RowBuffers (now source) (now source) × RowMovable task ⌝ }
+    ensures { λ _. ⌜ now (memory .exit) ≡ drawTask task (now (memory .entry)) ⌝ }
+{
+    let s = task.source;
+    let surface = s.surface;
+    let span = surface.span();
+    if span.is_inside(window) {
+        moved_rows(memory, window, task);
+        return;
+    }
+    carried_rows(memory, window, task, source);
+}
+
+// Draws any task. The rows are fetched at one place and finished at one place, so that both are compiled into the loop and no
+// record is handed on in it.
+fn buffered_rows(
+    memory: &mut [u8],
+    window: Range,
+    task: Task,
+    plan: Plan,
+    finish: Finish,
+    source: &mut [u8],
+    destination: &mut [u8],
+)
+    requires { ⌜ Drawable window (length (now memory)) task × RowBuffers (now source) (now destination) × FinishFits finish task × (plan ≡ planOf (task .blending .rule)) ⌝ }
+    ensures { λ _. ⌜ now (memory .exit) ≡ drawTask task (now (memory .entry)) ⌝ }
+{
+    let output = task.output;
+    let rows = output.height;
+    let mut y: u16 = 0;
+    while y < rows {
+        buffered_row(memory, window, task, plan, finish, y, source, destination);
+        y += 1;
+    }
+}
+
+// Draws a task in the window. Each buffer is lent to hold a row while that is drawn; what it holds afterwards is free.
+pub fn draw_task(
+    memory: &mut [u8],
+    window: Range,
+    task: Task,
+    source: &mut [u8],
+    destination: &mut [u8],
+)
+    requires { ⌜ Drawable window (length (now memory)) task × RowBuffers (now source) (now destination) ⌝ }
+    ensures { λ _. ⌜ now (memory .exit) ≡ drawTask task (now (memory .entry)) ⌝ }
+{
+    let blending = task.blending;
+    let rule = blending.rule;
+    if !blending.on {
+        let s = task.source;
+        let mode = s.mode;
+        if is_moved(task) {
+            unblended_rows(memory, window, task, source);
+            return;
+        }
+        if is_uniform(mode) {
+            filled_rows(memory, window, task);
+            return;
+        }
+    }
+    buffered_rows(
+        memory,
+        window,
+        task,
+        plan_of(rule),
+        finish_of(task),
+        source,
+        destination,
+    );
+}
