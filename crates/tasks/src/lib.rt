@@ -10,6 +10,7 @@ ghost use Rattle.raster.specs.Preconditions.{Drawable};
 ghost use Rattle.raster.specs.Row.{RowBuffers};
 ghost use Rattle.unblended_rows.specs.Row.{RowMovable, TaskFillable};
 ghost use Rattle.buffered_rows.specs.Row.{FinishFits};
+ghost use Rattle.tinted_rows.specs.Row.{isTinted};
 use buffered_rows::Finish;
 use buffered_rows::buffered_row;
 use buffered_rows::finish_of;
@@ -17,6 +18,9 @@ use plan::Plan;
 use plan::plan_of;
 use range::Range;
 use register::Task;
+use tinted_rows::is_tinted;
+use tinted_rows::tint_of;
+use tinted_rows::tinted_row;
 use unblended_rows::carried_row;
 use unblended_rows::filled_row;
 use unblended_rows::is_moved;
@@ -80,6 +84,21 @@ fn unblended_rows(memory: &mut [u8], window: Range, task: Task, source: &mut [u8
     carried_rows(memory, window, task, source);
 }
 
+// Draws a task that lays one colour over its output.
+fn tinted_rows(memory: &mut [u8], window: Range, task: Task)
+    requires { ⌜ Drawable window (length (now memory)) task × (isTinted task ≡ true) ⌝ }
+    ensures { λ _. ⌜ now (memory .exit) ≡ drawTask task (now (memory .entry)) ⌝ }
+{
+    let tint = tint_of(task);
+    let output = task.output;
+    let height = output.height;
+    let mut y: u16 = 0;
+    while y < height {
+        tinted_row(memory, window, task, tint, y);
+        y += 1;
+    }
+}
+
 // Draws any task. The rows are fetched at one place and finished at one place, so that both are compiled into the loop and no
 // record is handed on in it.
 fn buffered_rows(
@@ -128,11 +147,16 @@ pub fn draw_task(
             return;
         }
     }
+    let plan = plan_of(rule);
+    if is_tinted(task, plan) {
+        tinted_rows(memory, window, task);
+        return;
+    }
     buffered_rows(
         memory,
         window,
         task,
-        plan_of(rule),
+        plan,
         finish_of(task),
         source,
         destination,
