@@ -72,15 +72,20 @@ mixed-lent t bytes s last at k e n l h =
     (λ x u. ap (composite (t .blending) (t .source .alpha) (t .destination .alpha) (colourIn s x))
     (loaded-shift Argb8888 at k (x * 4) bytes (omega (arith, argb-length (t .output) e))))
 
--- blended in a window of n bytes from `start` on, it is the task's
+-- a pixel of the output, in a window of n bytes from `start` on, is the destination's
+pub own-pixel : (t : Task) (memory : List ℕ) (start n at x y : ℕ) → Placed t → start + at ≡ rowStart (t .output) y → at + rowLength (t .output) ≤ n → x < t .output .width →
+    loadPixel Argb8888 (midOf start n memory) (at + x * 4) ≡ destinationColour (t .destination) memory x y
+unfolding destinationColour colourAt
+own-pixel t memory start n at x y p here fits u =
+    let d = t .destination .surface in
+    let same : start + (at + x * 4) ≡ rowStart d y + x * 4 = rw (p .address, p .stride) (omega (arith, here)) in
+    loaded-shift Argb8888 start n (at + x * 4) memory (omega (arith, argb-length (t .output) (p .to)))
+    ∙ (ap (loadPixel Argb8888 memory) same ∙ rw (p .from))
+
+-- blended there, it is the task's
 pub mixed-pixel : (t : Task) (memory s : List ℕ) (start n at x y : ℕ) → t .blending .on ≡ true → Placed t → start + at ≡ rowStart (t .output) y →
     at + rowLength (t .output) ≤ n → x < t .output .width → colourIn s x ≡ sourceColour (t .source) memory x y →
     mixedFrom t s (midOf start n memory) at x ≡ pixelColour t memory x y
-unfolding destinationColour colourAt
 mixed-pixel t memory s start n at x y on p here fits u held =
-    let d = t .destination .surface in
-    let same : start + (at + x * 4) ≡ rowStart d y + x * 4 = rw (p .address, p .stride) (omega (arith, here)) in
-    let own : loadPixel Argb8888 (midOf start n memory) (at + x * 4) ≡ destinationColour (t .destination) memory x y =
-    loaded-shift Argb8888 start n (at + x * 4) memory (omega (arith, argb-length (t .output) (p .to)))
-    ∙ (ap (loadPixel Argb8888 memory) same ∙ rw (p .from)) in
-    ap₂ (composite (t .blending) (t .source .alpha) (t .destination .alpha)) held own ∙ sym (pixel-blended t memory x y on)
+    ap₂ (composite (t .blending) (t .source .alpha) (t .destination .alpha)) held (own-pixel t memory start n at x y p here fits u)
+    ∙ sym (pixel-blended t memory x y on)

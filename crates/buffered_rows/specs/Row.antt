@@ -9,8 +9,8 @@ use Rattle.pixel.specs.declared.format.Format.the-variants.{Argb8888}
 use Rattle.register.specs.declared.task.Task.{Task}
 use Rattle.rules.specs.Rules.{sameFormat}
 use Rattle.rows.specs.Row.{HoldsColours}
-use Rattle.combine.specs.Plan.{planOf}
-use Rattle.combine.specs.declared.plans.Plan.{Plan}
+use Rattle.plan.specs.Plan.{planOf}
+use Rattle.plan.specs.declared.Plan.{Plan}
 use Rattle.raster.specs.Task.{sourceColour}
 use Rattle.raster.specs.Row.{RowFits, RowBuffered}
 use Rattle.buffered_rows.specs.declared.Finish.{Finish}

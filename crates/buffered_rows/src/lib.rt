@@ -5,13 +5,13 @@ ghost use Prim.Native.Nat.{_+_, _*_};
 ghost use Rattle.surface.specs.Drawn.{loadPixel};
 ghost use Rattle.rows.specs.Row.{colourIn, HoldsColours};
 ghost use Rattle.rows.specs.Mixed.{composite};
-ghost use Rattle.combine.specs.Plan.{planOf};
+ghost use Rattle.plan.specs.Plan.{planOf};
 ghost use Rattle.raster.specs.Task.{sourceColour};
 ghost use Rattle.raster.specs.Row.{rowDrawn, drawRow, SourceRowInBounds, RowFits, RowBuffered};
 ghost use Rattle.buffered_rows.specs.Row.{RowMixes, RowFetched, isInPlace, FinishFits};
-use combine::Plan;
 use composite::mix_row;
 use pixel::Format;
+use plan::Plan;
 use range::Range;
 use register::Source;
 use register::SourceMode;
@@ -97,7 +97,7 @@ pub enum Finish {
 }
 
 // Whether the output is its own destination, in the format of the buffers.
-fn is_in_place(task: Task) -> bool
+pub fn is_in_place(task: Task) -> bool
     ensures { λ r. ⌜ r ≡ isInPlace task ⌝ }
 {
     let d = task.destination;

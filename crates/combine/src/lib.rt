@@ -1,9 +1,6 @@
 // Rows of ARGB8888 pixels blended in place, under any rule.
 mod lane;
-mod plans;
 mod row;
 
-pub use plans::Masks;
-pub use plans::Plan;
-pub use plans::plan_of;
+pub use lane::pair;
 pub use row::blend_row;

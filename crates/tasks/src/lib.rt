@@ -5,19 +5,23 @@ ghost use Prim.Native.Nat.{_≤_};
 ghost use lib.ListN.{length};
 ghost use Rattle.range.specs.Range.{containedIn};
 ghost use Rattle.surface.specs.Surface.{span};
-ghost use Rattle.combine.specs.Plan.{planOf};
+ghost use Rattle.plan.specs.Plan.{planOf};
 ghost use Rattle.raster.specs.Task.{drawTask};
 ghost use Rattle.raster.specs.Preconditions.{Drawable};
 ghost use Rattle.raster.specs.Row.{RowBuffers};
 ghost use Rattle.unblended_rows.specs.Row.{RowMovable, TaskFillable};
 ghost use Rattle.buffered_rows.specs.Row.{FinishFits};
+ghost use Rattle.tinted_rows.specs.Row.{isTinted};
 use buffered_rows::Finish;
 use buffered_rows::buffered_row;
 use buffered_rows::finish_of;
-use combine::Plan;
-use combine::plan_of;
+use plan::Plan;
+use plan::plan_of;
 use range::Range;
 use register::Task;
+use tinted_rows::is_tinted;
+use tinted_rows::tint_of;
+use tinted_rows::tinted_row;
 use unblended_rows::carried_row;
 use unblended_rows::filled_row;
 use unblended_rows::is_moved;
@@ -66,6 +70,21 @@ fn carried_rows(memory: &mut [u8], window: Range, task: Task, source: &mut [u8])
     }
 }
 
+// Draws a task that lays one colour over its output.
+fn tinted_rows(memory: &mut [u8], window: Range, task: Task)
+    requires { ⌜ Drawable window (length (now memory)) task × (isTinted task ≡ true) ⌝ }
+    ensures { λ _. ⌜ now (memory .exit) ≡ drawTask task (now (memory .entry)) ⌝ }
+{
+    let tint = tint_of(task);
+    let output = task.output;
+    let height = output.height;
+    let mut y: u16 = 0;
+    while y < height {
+        tinted_row(memory, window, task, tint, y);
+        y += 1;
+    }
+}
+
 // Draws any task. The rows are fetched at one place and finished at one place, so that both are compiled into the loop and no
 // record is handed on in it.
 fn buffered_rows(
@@ -94,41 +113,40 @@ fn lent_rows(
     memory: &mut [u8],
     window: Range,
     task: Task,
+    plan: Plan,
     source: &mut [u8],
     destination: &mut [u8],
 )
-    requires { ⌜ Drawable window (length (now memory)) task × RowBuffers (task .output .width) (now source) (now destination) ⌝ }
+    requires { ⌜ Drawable window (length (now memory)) task × RowBuffers (task .output .width) (now source) (now destination) × (plan ≡ planOf (task .blending .rule)) ⌝ }
     ensures { λ _. ⌜ now (memory .exit) ≡ drawTask task (now (memory .entry)) ⌝ }
 {
     let blending = task.blending;
-    let rule = blending.rule;
     if !blending.on & is_moved(task) {
         carried_rows(memory, window, task, source);
         return;
     }
-    let plan = plan_of(rule);
     let finish = finish_of(task);
     buffered_rows(memory, window, task, plan, finish, source, destination);
 }
 
 // With buffers for rows of at most 256 pixels: larger ones take longer to clear than most small tasks to draw.
-fn narrow_rows(memory: &mut [u8], window: Range, task: Task)
-    requires { ⌜ Drawable window (length (now memory)) task × (task .output .width ≤ 256) ⌝ }
+fn narrow_rows(memory: &mut [u8], window: Range, task: Task, plan: Plan)
+    requires { ⌜ Drawable window (length (now memory)) task × (task .output .width ≤ 256) × (plan ≡ planOf (task .blending .rule)) ⌝ }
     ensures { λ _. ⌜ now (memory .exit) ≡ drawTask task (now (memory .entry)) ⌝ }
 {
     let mut source = [0u8; 1024];
     let mut destination = [0u8; 1024];
-    lent_rows(memory, window, task, &mut source, &mut destination);
+    lent_rows(memory, window, task, plan, &mut source, &mut destination);
 }
 
 // With buffers for rows as wide as any.
-fn wide_rows(memory: &mut [u8], window: Range, task: Task)
-    requires { ⌜ Drawable window (length (now memory)) task ⌝ }
+fn wide_rows(memory: &mut [u8], window: Range, task: Task, plan: Plan)
+    requires { ⌜ Drawable window (length (now memory)) task × (plan ≡ planOf (task .blending .rule)) ⌝ }
     ensures { λ _. ⌜ now (memory .exit) ≡ drawTask task (now (memory .entry)) ⌝ }
 {
     let mut source = [0u8; 16384];
     let mut destination = [0u8; 16384];
-    lent_rows(memory, window, task, &mut source, &mut destination);
+    lent_rows(memory, window, task, plan, &mut source, &mut destination);
 }
 
 // Whether the source of a task lies in the window.
@@ -147,6 +165,7 @@ pub fn draw_task(memory: &mut [u8], window: Range, task: Task)
     ensures { λ _. ⌜ now (memory .exit) ≡ drawTask task (now (memory .entry)) ⌝ }
 {
     let blending = task.blending;
+    let rule = blending.rule;
     let output = task.output;
     if !blending.on {
         let s = task.source;
@@ -160,9 +179,14 @@ pub fn draw_task(memory: &mut [u8], window: Range, task: Task)
             return;
         }
     }
-    if output.width <= 256 {
-        narrow_rows(memory, window, task);
+    let plan = plan_of(rule);
+    if is_tinted(task, plan) {
+        tinted_rows(memory, window, task);
         return;
     }
-    wide_rows(memory, window, task);
+    if output.width <= 256 {
+        narrow_rows(memory, window, task, plan);
+        return;
+    }
+    wide_rows(memory, window, task, plan);
 }

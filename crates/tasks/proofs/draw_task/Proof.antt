@@ -16,7 +16,7 @@ moved-rows-requires c κs =
     let t = c .before in
     let n = t .before .before .before .before in
     let b = and-true _ _ (t .if2 .taken) in (
-      n .before .before .before .before .before .pre,
+      n .before .before .before .before .before .before .pre,
       record { plain = not-true _ (n .if1 .taken); moved = sym (t .before .before .is-moved .ensures) ∙ b .0 },
       sym (t .before .is-near .ensures) ∙ b .1,
     )
@@ -34,7 +34,7 @@ filled-rows-requires : tie.Need-filled-rows-requires
 filled-rows-requires c κs =
     let t = c .before in
     let n = t .before .before .before .before .before .before in
-    (n .before .before .before .before .before .pre, record { plain = not-true _ (n .if1 .taken); uniform = sym (t .before .is-uniform .ensures) ∙ t .if3 .taken })
+    (n .before .before .before .before .before .before .pre, record { plain = not-true _ (n .if1 .taken); uniform = sym (t .before .is-uniform .ensures) ∙ t .if3 .taken })
 
 same-length-2 : tie.Need-same-length-2
 same-length-2 c = search needs
@@ -42,8 +42,17 @@ same-length-2 c = search needs
 returns-2 : tie.Need-returns-2
 returns-2 c = search needs
 
-narrow-rows-requires : tie.Need-narrow-rows-requires
-narrow-rows-requires c κs = search needs
+plan-of-requires : tie.Need-plan-of-requires
+plan-of-requires c κs = search needs
+
+is-tinted-requires : tie.Need-is-tinted-requires
+is-tinted-requires c κs = search needs
+
+tinted-rows-requires : tie.Need-tinted-rows-requires
+tinted-rows-requires c κs =
+    let t = c .before in
+    let p = t .before .before .before .before .before .before .before .before .before .pre in
+    (p, sym (t .before .is-tinted .ensures) ∙ t .if4 .taken)
 
 same-length-3 : tie.Need-same-length-3
 same-length-3 c = search needs
@@ -51,14 +60,23 @@ same-length-3 c = search needs
 returns-3 : tie.Need-returns-3
 returns-3 c = search needs
 
-wide-rows-requires : tie.Need-wide-rows-requires
-wide-rows-requires c κs = search needs
+narrow-rows-requires : tie.Need-narrow-rows-requires
+narrow-rows-requires c κs = search needs
 
 same-length-4 : tie.Need-same-length-4
 same-length-4 c = search needs
 
 returns-4 : tie.Need-returns-4
 returns-4 c = search needs
+
+wide-rows-requires : tie.Need-wide-rows-requires
+wide-rows-requires c κs = search needs
+
+same-length-5 : tie.Need-same-length-5
+same-length-5 c = search needs
+
+returns-5 : tie.Need-returns-5
+returns-5 c = search needs
 
 pub draw-task-spec : {M : Type 1} → statement M
 draw-task-spec =
@@ -73,9 +91,14 @@ draw-task-spec =
     filled-rows-requires
     same-length-2
     returns-2
-    narrow-rows-requires
+    plan-of-requires
+    is-tinted-requires
+    tinted-rows-requires
     same-length-3
     returns-3
-    wide-rows-requires
+    narrow-rows-requires
     same-length-4
-    returns-4)
+    returns-4
+    wide-rows-requires
+    same-length-5
+    returns-5)

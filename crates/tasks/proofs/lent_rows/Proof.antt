@@ -12,7 +12,7 @@ carried-rows-requires : tie.Need-carried-rows-requires
 carried-rows-requires c κs =
     let t = c .before .before in
     let b = and-true _ _ (t .if1 .taken) in
-    let p = t .before .before .before .before .before .before .before .before .pre in (
+    let p = t .before .before .before .before .before .before .before .pre in (
       p .0,
       record { source = p .1 .source; destination = p .1 .source },
       record { plain = not-true _ (b .0); moved = sym (t .before .is-moved .ensures) ∙ b .1 },
@@ -26,9 +26,6 @@ same-length-2 c = search needs
 
 returns : tie.Need-returns
 returns c = search needs
-
-plan-of-requires : tie.Need-plan-of-requires
-plan-of-requires c κs = search needs
 
 finish-of-requires : tie.Need-finish-of-requires
 finish-of-requires c κs = search needs
@@ -57,7 +54,6 @@ lent-rows-spec =
     same-length
     same-length-2
     returns
-    plan-of-requires
     finish-of-requires
     buffered-rows-requires
     same-length-3

@@ -12,7 +12,7 @@ slice-aggregate-lent-rows-2 c = search needs
 lent-rows-requires : tie.Need-lent-rows-requires
 lent-rows-requires c κs =
     let p = c .before .before .before .before .pre in
-    (p, record { source = omega (arith, p .clear .output .narrow); destination = omega (arith, p .clear .output .narrow) })
+    (p .0, record { source = omega (arith, p .0 .clear .output .narrow); destination = omega (arith, p .0 .clear .output .narrow) }, p .1)
 
 same-length : tie.Need-same-length
 same-length c = search needs
