@@ -97,7 +97,7 @@ pub enum Finish {
 }
 
 // Whether the output is its own destination, in the format of the buffers.
-fn is_in_place(task: Task) -> bool
+pub fn is_in_place(task: Task) -> bool
     ensures { λ r. ⌜ r ≡ isInPlace task ⌝ }
 {
     let d = task.destination;

@@ -1,5 +1,5 @@
 // Rows of ARGB8888 pixels blended in place, under any rule.
-mod lane;
+pub mod lane;
 mod plans;
 mod row;
 
@@ -7,3 +7,5 @@ pub use plans::Masks;
 pub use plans::Plan;
 pub use plans::plan_of;
 pub use row::blend_row;
+pub use row::byte;
+pub use row::held_sum;

@@ -18,7 +18,7 @@ use lanes::two_products;
 use lanes::wide;
 use lanes::words;
 
-fn held_sum(a: u8, b: u8) -> u8
+pub fn held_sum(a: u8, b: u8) -> u8
     ensures { λ r. ⌜ r ≡ blendedChannel a 255 b 255 ⌝ }
 {
     if 255 - a < b { 255 } else { a + b }
@@ -36,7 +36,7 @@ fn add_bytes(d: &mut [u8], s: &[u8], a: usize, n: usize)
 }
 
 // One channel under any rule; x and y are the alphas of the two pixels.
-fn byte(p: Plan, s: u8, d: u8, x: u8, y: u8) -> u8
+pub fn byte(p: Plan, s: u8, d: u8, x: u8, y: u8) -> u8
     requires { ⌜ Planned p ⌝ }
     ensures { λ r. ⌜ r ≡ blendedChannel s (factorValue (p .rule .source) x y) d (factorValue (p .rule .destination) x y) ⌝ }
 {

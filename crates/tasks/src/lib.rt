@@ -10,6 +10,7 @@ ghost use Rattle.raster.specs.Preconditions.{Drawable};
 ghost use Rattle.raster.specs.Row.{RowBuffers};
 ghost use Rattle.unblended_rows.specs.Row.{RowMovable, TaskFillable};
 ghost use Rattle.buffered_rows.specs.Row.{FinishFits};
+ghost use Rattle.window_rows.specs.Row.{isBlendedWithin};
 use buffered_rows::Finish;
 use buffered_rows::buffered_row;
 use buffered_rows::finish_of;
@@ -22,6 +23,8 @@ use unblended_rows::filled_row;
 use unblended_rows::is_moved;
 use unblended_rows::is_uniform;
 use unblended_rows::moved_row;
+use window_rows::is_blended_within;
+use window_rows::within_row;
 
 // Draws a task whose rows have one colour each.
 fn filled_rows(memory: &mut [u8], window: Range, task: Task)
@@ -80,6 +83,20 @@ fn unblended_rows(memory: &mut [u8], window: Range, task: Task, source: &mut [u8
     carried_rows(memory, window, task, source);
 }
 
+// Draws a task whose rows are blended with rows of its source inside the window.
+fn within_rows(memory: &mut [u8], window: Range, task: Task, plan: Plan)
+    requires { ⌜ Drawable window (length (now memory)) task × (isBlendedWithin window task ≡ true) × (plan ≡ planOf (task .blending .rule)) ⌝ }
+    ensures { λ _. ⌜ now (memory .exit) ≡ drawTask task (now (memory .entry)) ⌝ }
+{
+    let output = task.output;
+    let height = output.height;
+    let mut y: u16 = 0;
+    while y < height {
+        within_row(memory, window, task, plan, y);
+        y += 1;
+    }
+}
+
 // Draws any task. The rows are fetched at one place and finished at one place, so that both are compiled into the loop and no
 // record is handed on in it.
 fn buffered_rows(
@@ -128,11 +145,16 @@ pub fn draw_task(
             return;
         }
     }
+    let plan = plan_of(rule);
+    if is_blended_within(task, window) {
+        within_rows(memory, window, task, plan);
+        return;
+    }
     buffered_rows(
         memory,
         window,
         task,
-        plan_of(rule),
+        plan,
         finish_of(task),
         source,
         destination,

@@ -45,14 +45,27 @@ returns-2 c = search needs
 plan-of-requires : tie.Need-plan-of-requires
 plan-of-requires c κs = search needs
 
+is-blended-within-requires : tie.Need-is-blended-within-requires
+is-blended-within-requires c κs = search needs
+
+within-rows-requires : tie.Need-within-rows-requires
+within-rows-requires c κs =
+    let t = c .before in
+    let f = t .before in
+    let s = f .before .before .before .before .before .before .before .before .before in
+    (s .pre .0, sym (f .is-blended-within .ensures) ∙ t .if4 .taken, f .before .plan-of .ensures)
+
+same-length-4 : tie.Need-same-length-4
+same-length-4 c = search needs
+
+returns-3 : tie.Need-returns-3
+returns-3 c = search needs
+
 finish-of-requires : tie.Need-finish-of-requires
 finish-of-requires c κs = search needs
 
 buffered-rows-requires : tie.Need-buffered-rows-requires
 buffered-rows-requires c κs = search needs
-
-same-length-4 : tie.Need-same-length-4
-same-length-4 c = search needs
 
 same-length-5 : tie.Need-same-length-5
 same-length-5 c = search needs
@@ -60,8 +73,11 @@ same-length-5 c = search needs
 same-length-6 : tie.Need-same-length-6
 same-length-6 c = search needs
 
-returns-3 : tie.Need-returns-3
-returns-3 c = search needs
+same-length-7 : tie.Need-same-length-7
+same-length-7 c = search needs
+
+returns-4 : tie.Need-returns-4
+returns-4 c = search needs
 
 pub draw-task-spec : {M : Type 1} → statement M
 draw-task-spec =
@@ -77,9 +93,13 @@ draw-task-spec =
     same-length-3
     returns-2
     plan-of-requires
+    is-blended-within-requires
+    within-rows-requires
+    same-length-4
+    returns-3
     finish-of-requires
     buffered-rows-requires
-    same-length-4
     same-length-5
     same-length-6
-    returns-3)
+    same-length-7
+    returns-4)

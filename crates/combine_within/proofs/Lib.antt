@@ -1,0 +1,2 @@
+-- rows blended inside one slice
+pub mod Within
