@@ -17,12 +17,12 @@ pub fn copy(d: &mut [u8], s: &[u8])
     }
 }
 
-// Zeros.
-pub fn clear(d: &mut [u8])
-    ensures { λ _. ⌜ Done (λ j. 0) (now (d .entry)) (now (d .exit)) 0 (length (now (d .entry))) ⌝ }
+// Zeros, from byte a to byte n.
+pub fn clear(d: &mut [u8], a: usize, n: usize)
+    requires { ⌜ (a ≤ n) × (n ≤ length (now d)) ⌝ }
+    ensures { λ _. ⌜ Done (λ j. 0) (now (d .entry)) (now (d .exit)) a n ⌝ }
 {
-    let n = d.len();
-    let mut j = 0;
+    let mut j = a;
     while j < n {
         d[j] = 0;
         j += 1;

@@ -33,7 +33,7 @@ pub fn pair(c: u16, d: u16, f: u16) -> u16
 }
 
 // Two channels under any rule; x and y are the alphas of the two pixels.
-fn lane(p: Plan, s: u16, d: u16, x: u16, y: u16) -> u16
+pub fn lane(p: Plan, s: u16, d: u16, x: u16, y: u16) -> u16
     requires { ⌜ Planned p × ((x ≤ 255) × (y ≤ 255)) ⌝ }
     ensures { λ r. ⌜ r ≡ duo s (factorValue (p .rule .source) x y) d (factorValue (p .rule .destination) x y) ⌝ }
 {

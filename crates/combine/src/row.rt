@@ -21,7 +21,7 @@ use plan::Plan;
 use plan::factor;
 
 // One channel under any rule; x and y are the alphas of the two pixels.
-fn byte(p: Plan, s: u8, d: u8, x: u8, y: u8) -> u8
+pub fn byte(p: Plan, s: u8, d: u8, x: u8, y: u8) -> u8
     requires { ⌜ Planned p ⌝ }
     ensures { λ r. ⌜ r ≡ blendedChannel s (factorValue (p .rule .source) x y) d (factorValue (p .rule .destination) x y) ⌝ }
 {

@@ -13,7 +13,7 @@ use byte_rows::clear;
 use byte_rows::copy;
 use plan::Plan;
 
-fn held_sum(a: u8, b: u8) -> u8
+pub fn held_sum(a: u8, b: u8) -> u8
     ensures { λ r. ⌜ r ≡ blendedChannel a 255 b 255 ⌝ }
 {
     if 255 - a < b { 255 } else { a + b }
@@ -35,11 +35,11 @@ pub fn constant_row(d: &mut [u8], s: &[u8], p: Plan)
     requires { ⌜ (length (now d) ≤ length (now s)) × (Planned p × (p .constant ≡ true)) ⌝ }
     ensures { λ _. ⌜ Done (blendAt (p .rule) (now (s .entry)) (now (d .entry))) (now (d .entry)) (now (d .exit)) 0 (length (now (d .entry))) ⌝ }
 {
+    let n = d.len();
     let fs = p.source;
     let fd = p.destination;
     if fs.flip == 255 {
         if fd.flip == 255 {
-            let n = d.len();
             add_bytes(d, s, 0, n);
             return;
         }
@@ -49,5 +49,5 @@ pub fn constant_row(d: &mut [u8], s: &[u8], p: Plan)
     if fd.flip == 255 {
         return;
     }
-    clear(d);
+    clear(d, 0, n);
 }

@@ -12,6 +12,7 @@ ghost use Rattle.raster.specs.Row.{RowBuffers};
 ghost use Rattle.unblended_rows.specs.Row.{RowMovable, TaskFillable};
 ghost use Rattle.buffered_rows.specs.Row.{FinishFits};
 ghost use Rattle.tinted_rows.specs.Row.{isTinted};
+ghost use Rattle.window_rows.specs.Row.{isBlendedWithin};
 use buffered_rows::Finish;
 use buffered_rows::buffered_row;
 use buffered_rows::finish_of;
@@ -27,6 +28,8 @@ use unblended_rows::filled_row;
 use unblended_rows::is_moved;
 use unblended_rows::is_uniform;
 use unblended_rows::moved_row;
+use window_rows::is_blended_within;
+use window_rows::within_row;
 
 // Draws a task whose rows have one colour each.
 fn filled_rows(memory: &mut [u8], window: Range, task: Task)
@@ -81,6 +84,20 @@ fn tinted_rows(memory: &mut [u8], window: Range, task: Task)
     let mut y: u16 = 0;
     while y < height {
         tinted_row(memory, window, task, tint, y);
+        y += 1;
+    }
+}
+
+// Draws a task whose rows are blended with rows of its source inside the window.
+fn within_rows(memory: &mut [u8], window: Range, task: Task, plan: Plan)
+    requires { ⌜ Drawable window (length (now memory)) task × (isBlendedWithin window task ≡ true) × (plan ≡ planOf (task .blending .rule)) ⌝ }
+    ensures { λ _. ⌜ now (memory .exit) ≡ drawTask task (now (memory .entry)) ⌝ }
+{
+    let output = task.output;
+    let height = output.height;
+    let mut y: u16 = 0;
+    while y < height {
+        within_row(memory, window, task, plan, y);
         y += 1;
     }
 }
@@ -182,6 +199,10 @@ pub fn draw_task(memory: &mut [u8], window: Range, task: Task)
     let plan = plan_of(rule);
     if is_tinted(task, plan) {
         tinted_rows(memory, window, task);
+        return;
+    }
+    if is_blended_within(task, window) {
+        within_rows(memory, window, task, plan);
         return;
     }
     if output.width <= 256 {

@@ -152,13 +152,13 @@ unfolding rowDrawn
 moved-drawn o bytes e to from k is-k small room same did =
     row-moved (o .format) bytes e to from (o .width) small (rw is-k at room) same (rw is-k at did)
 
--- which are the task's
-pub moved-pixel : (t : Task) (memory : List ℕ) (start n from at x y : ℕ) → Moved t → t .blending .on ≡ false →
+-- which are the source's
+pub moved-source : (t : Task) (memory : List ℕ) (start n from at x y : ℕ) → Moved t →
     at ≡ pixelStart (t .source .surface) (sourcePixelOf (t .source .surface) (t .source .transform) 0 y .x) (sourcePixelOf (t .source .surface) (t .source .transform) 0 y .y) →
     start + from ≡ at → from + rowLength (t .output) ≤ n → x < t .output .width →
-    loadPixel (t .output .format) (midOf start n memory) (from + x * bytesPerPixel (t .output .format)) ≡ pixelColour t memory x y
+    loadPixel (t .output .format) (midOf start n memory) (from + x * bytesPerPixel (t .output .format)) ≡ sourceColour (t .source) memory x y
 unfolding colourAt
-moved-pixel t memory start n from at x y m off is-at here fits u =
+moved-source t memory start n from at x y m is-at here fits u =
     let s = t .source .surface in
     let f = t .output .format in
     let place : start + (from + x * bytesPerPixel f) ≡ at + x * bytesPerPixel f = omega (arith, here) in
@@ -167,4 +167,12 @@ moved-pixel t memory start n from at x y m off is-at here fits u =
     ∙ (ap (λ (g : Format). loadPixel g memory (at + x * bytesPerPixel g)) (sym (m .format))
     ∙ (ap (λ (i : ℕ). loadPixel (s .format) memory (i + x * bytesPerPixel (s .format))) is-at
     ∙ (ap (loadPixel (s .format) memory) (sym (side-by-side s (t .source .transform) (m .upright) (m .kept) x y))
-    ∙ sym (pixel-plain t memory x y off ∙ source-buffer (t .source) memory x y (m .buffer))))))
+    ∙ sym (source-buffer (t .source) memory x y (m .buffer))))))
+
+-- and the task's, without blending
+pub moved-pixel : (t : Task) (memory : List ℕ) (start n from at x y : ℕ) → Moved t → t .blending .on ≡ false →
+    at ≡ pixelStart (t .source .surface) (sourcePixelOf (t .source .surface) (t .source .transform) 0 y .x) (sourcePixelOf (t .source .surface) (t .source .transform) 0 y .y) →
+    start + from ≡ at → from + rowLength (t .output) ≤ n → x < t .output .width →
+    loadPixel (t .output .format) (midOf start n memory) (from + x * bytesPerPixel (t .output .format)) ≡ pixelColour t memory x y
+moved-pixel t memory start n from at x y m off is-at here fits u =
+    moved-source t memory start n from at x y m is-at here fits u ∙ sym (pixel-plain t memory x y off)

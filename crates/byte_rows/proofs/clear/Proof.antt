@@ -9,10 +9,10 @@ use Rattle.byte_rows.proofs.clear.Statement.{statement}
 use Rattle.byte_rows.proofs.clear.Tie as tie
 
 abbrev Inv-loop : tie.InvT-loop
-Inv-loop d₀ n j₀ d j = ((j ≤ n) × ((n ≡ length d₀) × (length d ≡ length d₀))) × Done (λ k. 0) d₀ d 0 j
+Inv-loop d₀ a n j₀ d j = (((a ≤ j) × (j ≤ n)) × (length d ≡ length d₀)) × Done (λ k. 0) d₀ d a j
 
 abbrev μ-loop : tie.MeasureT-loop
-μ-loop d₀ n j₀ d j = n - j
+μ-loop d₀ a n j₀ d j = n - j
 
 loop-holds : tie.Need-loop-holds Inv-loop μ-loop
 loop-holds c = (search needs, none-done _ _ _)
@@ -29,7 +29,7 @@ loop-less c = search needs
 loop-again : tie.Need-loop-again Inv-loop μ-loop
 loop-again c =
     let b = c .before in
-    (search needs, more-done (λ l k. 0) (λ l m k same. refl) _ (b .loop .d) _ 0 (b .loop .j) _ (omega arith) (omega arith) (b .loop .inv .1) (one-done _ (b .loop .d) (b .loop .j) _ (omega arith) refl))
+    (search needs, more-done (λ l k. 0) (λ l m k same. refl) _ (b .loop .d) _ _ (b .loop .j) _ (omega arith) (omega arith) (b .loop .inv .1) (one-done _ (b .loop .d) (b .loop .j) _ (omega arith) refl))
 
 same-length : tie.Need-same-length Inv-loop μ-loop
 same-length c = search needs

@@ -51,8 +51,7 @@ is-tinted-requires c κs = search needs
 tinted-rows-requires : tie.Need-tinted-rows-requires
 tinted-rows-requires c κs =
     let t = c .before in
-    let p = t .before .before .before .before .before .before .before .before .before .pre in
-    (p, sym (t .before .is-tinted .ensures) ∙ t .if4 .taken)
+    (t .before .before .before .before .before .before .before .before .before .pre, sym (t .before .is-tinted .ensures) ∙ t .if4 .taken)
 
 same-length-3 : tie.Need-same-length-3
 same-length-3 c = search needs
@@ -60,8 +59,14 @@ same-length-3 c = search needs
 returns-3 : tie.Need-returns-3
 returns-3 c = search needs
 
-narrow-rows-requires : tie.Need-narrow-rows-requires
-narrow-rows-requires c κs = search needs
+is-blended-within-requires : tie.Need-is-blended-within-requires
+is-blended-within-requires c κs = search needs
+
+within-rows-requires : tie.Need-within-rows-requires
+within-rows-requires c κs =
+    let t = c .before in
+    let n = t .before .before .before .before in
+    (n .before .before .before .before .before .before .before .pre, sym (t .before .is-blended-within .ensures) ∙ t .if5 .taken, n .plan-of .ensures)
 
 same-length-4 : tie.Need-same-length-4
 same-length-4 c = search needs
@@ -69,14 +74,23 @@ same-length-4 c = search needs
 returns-4 : tie.Need-returns-4
 returns-4 c = search needs
 
-wide-rows-requires : tie.Need-wide-rows-requires
-wide-rows-requires c κs = search needs
+narrow-rows-requires : tie.Need-narrow-rows-requires
+narrow-rows-requires c κs = search needs
 
 same-length-5 : tie.Need-same-length-5
 same-length-5 c = search needs
 
 returns-5 : tie.Need-returns-5
 returns-5 c = search needs
+
+wide-rows-requires : tie.Need-wide-rows-requires
+wide-rows-requires c κs = search needs
+
+same-length-6 : tie.Need-same-length-6
+same-length-6 c = search needs
+
+returns-6 : tie.Need-returns-6
+returns-6 c = search needs
 
 pub draw-task-spec : {M : Type 1} → statement M
 draw-task-spec =
@@ -96,9 +110,13 @@ draw-task-spec =
     tinted-rows-requires
     same-length-3
     returns-3
-    narrow-rows-requires
+    is-blended-within-requires
+    within-rows-requires
     same-length-4
     returns-4
-    wide-rows-requires
+    narrow-rows-requires
     same-length-5
-    returns-5)
+    returns-5
+    wide-rows-requires
+    same-length-6
+    returns-6)
