@@ -2,6 +2,7 @@
 pub mod colours;
 pub mod source;
 
+pub use colours::blending_colour;
 pub use colours::mix;
 pub use source::is_back;
 pub use source::is_straight;

@@ -9,7 +9,7 @@ ghost use Rattle.rows.specs.Row.{HoldsColours, colourAt, sourcePixelOf, FetchIn
 use crate::argb::fill_words;
 use crate::argb::word_of;
 use crate::steps::fetch_steps;
-use convert::copy;
+use byte_rows::copy;
 use convert::from_565;
 use convert::from_888;
 use pixel::Colour;
