@@ -1,90 +1,50 @@
--- Laws of words: a number read digit by digit, and a text compared character by character.
-use mathlib.Core.Path.{_≡_, refl, ap, _∙_}
-use mathlib.Core.Bool.{Bool, true, false, _&&_}
-use mathlib.Core.List.{List, [], _∷_}
+-- Laws of words: a number that is digits and nothing else, and a text compared character by character.
+use mathlib.Core.Path.{_≡_, refl, sym, ap, _∙_}
+use mathlib.Core.Bool.{Bool, true, false, cond, _&&_, false≢true}
+use mathlib.Core.List.{List, [], _∷_, append-nil}
 use Prim.Native.Nat.{ℕ, suc, _+_, _-_, _*_, _≤_, _<_}
 use native.Mathlib.Omega.{arith}
 use lib.ListN.{length, getD, drop, drop-of-length-le}
 use lib.Dec.{eqb, ltb}
-use borrow.Author.Tests.{lt-ltb, le-ltb, ltb-false, eq-eqb, ne-eqb}
-use Rattle.word.proofs.Tests.{and-false}
+use borrow.Author.Tests.{lt-ltb, ltb-true, eq-eqb, ne-eqb}
+use Rattle.word.proofs.Tests.{and-true}
 use Rattle.text.proofs.Typing.{rest-next}
+use Rattle.numerals.specs.declared.Numeral.{Numeral}
+use Rattle.numerals.specs.Numerals.{allDigits, decimalValue, numeralFrom}
+use Rattle.numerals.proofs.Reading.{numeral-whole, numeral-part}
 use Rattle.ppm.specs.declared.words.Number.the-variants.{Value, Invalid}
-use Rattle.ppm.specs.Words.{isDigit, allDigits, decimalValue, parseNumber, toLower, equalsIgnoringCase}
+use Rattle.ppm.specs.Words.{parseNumber, toLower, equalsIgnoringCase}
 
 -- ---- numbers
 
--- digits only make a number larger
-grows : (high : ℕ) (bytes : List ℕ) → high ≤ decimalValue high bytes
-unfolding decimalValue
-grows high [] = omega arith
-grows high (byte ∷ bytes) = omega (arith, grows (high * 10 + (byte - 48)) bytes)
+module _ (text : List ℕ) (n : Numeral) (n-is : n ≡ numeralFrom 4294967295 0 0 text) where
+  end-is : n .end ≡ length text → numeralFrom 4294967295 0 0 text .end ≡ 0 + length text
+  end-is e = sym (ap (λ (m : Numeral). m .end) n-is) ∙ e ∙ omega arith
 
--- the first i characters are digits that spell `value`
-pub record Read (text : List ℕ) (value i : ℕ) : Type 0 where
-  pub digits : allDigits text ≡ allDigits (drop i text)
-  pub number : decimalValue 0 text ≡ decimalValue value (drop i text)
+  -- digits up to the end
+  pub number-whole : 0 < length text → n .end ≡ length text → (Value (n .value) ≡ parseNumber text) × (n .value ≤ 4294967295)
+  unfolding parseNumber
+  number-whole some e =
+      let w = numeral-part 4294967295 0 0 text (omega arith) (end-is e) in
+      let value : n .value ≡ decimalValue 0 text = ap (λ (m : Numeral). m .value) n-is ∙ w .spelt in
+      let small : ltb (decimalValue 0 text) 4294967296 ≡ true = lt-ltb (decimalValue 0 text) 4294967296 (omega (arith, w .small)) in
+      (rw (lt-ltb 0 (length text) some, w .digits, small, value), omega (arith, value, w .small))
 
-pub read-none : (text : List ℕ) → Read text 0 0
-read-none text = record { digits = refl; number = refl }
-
-no-second : (a c : Bool) → a && false && c ≡ false
-no-second true c = refl
-no-second false c = refl
-
-no-third : (a b : Bool) → a && b && false ≡ false
-no-third true true = refl
-no-third true false = refl
-no-third false true = refl
-no-third false false = refl
-
-pub number-empty : (text : List ℕ) → length text ≡ 0 → parseNumber text ≡ Invalid
-unfolding parseNumber
-number-empty text none = rw (le-ltb 0 (length text) (omega arith))
-
-module _ (text : List ℕ) (value i : ℕ) (so : Read text value i) where
-  module _ (h : i < length text) where
-    abbrev byte : ℕ
-    byte = getD text i 0
-
-    abbrev more : ℕ
-    more = value * 10 + (byte - 48)
-
-    number-on : decimalValue 0 text ≡ decimalValue more (drop (i + 1) text)
-    unfolding decimalValue
-    number-on = so .number ∙ rw (rest-next text i h)
-
-    pub read-more : isDigit byte ≡ true → Read text more (i + 1)
-    unfolding allDigits
-    read-more d = record { digits = so .digits ∙ rw (rest-next text i h, d); number = number-on }
-
-    not-digit : isDigit byte ≡ false → parseNumber text ≡ Invalid
-    unfolding parseNumber allDigits
-    not-digit d =
-        let e : allDigits text ≡ false = so .digits ∙ rw (rest-next text i h, d) in
-        rw (e, no-second (ltb 0 (length text)) (ltb (decimalValue 0 text) 4294967296))
-
-    too-large : 4294967296 ≤ more → parseNumber text ≡ Invalid
-    unfolding parseNumber
-    too-large l =
-        let e : ltb (decimalValue 0 text) 4294967296 ≡ false = le-ltb (decimalValue 0 text) 4294967296 (omega (arith, number-on, grows more (drop (i + 1) text))) in
-        rw (e, no-third (ltb 0 (length text)) (allDigits text))
-
-    pub read-wrong : isDigit byte && ltb more 4294967296 ≡ false → parseNumber text ≡ Invalid
-    read-wrong e = go (isDigit byte) refl
-      where
-        go : (t : Bool) → isDigit byte ≡ t → parseNumber text ≡ Invalid
-        go true d = too-large (ltb-false _ _ (and-false _ _ d e))
-        go false d = not-digit d
-
-  -- no character is left
-  pub read-all : 0 < length text → length text ≤ i → value < 4294967296 → parseNumber text ≡ Value value
-  unfolding parseNumber decimalValue allDigits
-  read-all some past l =
-      let d : allDigits text ≡ true = so .digits ∙ rw (drop-of-length-le text past) in
-      let n : decimalValue 0 text ≡ value = so .number ∙ rw (drop-of-length-le text past) in
-      let toLower : ltb (decimalValue 0 text) 4294967296 ≡ true = lt-ltb (decimalValue 0 text) 4294967296 (omega arith) in
-      rw (lt-ltb 0 (length text) some, d, toLower, n)
+  -- no digit, or something else behind them
+  pub number-part : ltb 0 (length text) && eqb (n .end) (length text) ≡ false → Invalid ≡ parseNumber text
+  unfolding parseNumber
+  number-part e = go (ltb 0 (length text) && allDigits text && ltb (decimalValue 0 text) 4294967296) refl
+    where
+      go : (b : Bool) → ltb 0 (length text) && allDigits text && ltb (decimalValue 0 text) 4294967296 ≡ b
+          → Invalid ≡ cond (ltb 0 (length text) && allDigits text && ltb (decimalValue 0 text) 4294967296) (Value (decimalValue 0 text)) Invalid
+      go false f = rw f
+      go true f =
+          let one = and-true (ltb 0 (length text) && allDigits text) (ltb (decimalValue 0 text) 4294967296) f in
+          let two = and-true (ltb 0 (length text)) (allDigits text) (one .0) in
+          let less : decimalValue 0 text < 4294967296 = ltb-true (decimalValue 0 text) 4294967296 (one .1) in
+          let whole = numeral-whole 4294967295 0 0 text [] (two .1) (omega arith) tt in
+          let end : n .end ≡ length text = ap (λ (m : Numeral). m .end) (n-is ∙ ap (numeralFrom 4294967295 0 0) (sym (append-nil text)) ∙ whole) ∙ omega arith in
+          absurd (false≢true (sym e ∙ rw (two .0, eq-eqb (n .end) (length text) end)))
 
 -- ---- names
 

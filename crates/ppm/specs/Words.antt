@@ -1,9 +1,10 @@
 -- Words of a command line: numbers in decimal digits, and pixel formats by their names (01, "Pixels").
-use Prim.Native.Nat.{ℕ, _+_, _-_, _*_}
+use Prim.Native.Nat.{ℕ, _+_}
 use mathlib.Core.Bool.{Bool, true, false, cond, _&&_}
 use mathlib.Core.List.{List, [], _∷_}
 use lib.ListN.{length}
 use lib.Dec.{eqb, leb, ltb}
+use Rattle.numerals.specs.Numerals.{allDigits, decimalValue}
 use Rattle.pixel.specs.declared.format.Format.{Format}
 use Rattle.pixel.specs.declared.format.Format.the-variants.{Argb8888, Rgb888, Rgb565}
 use Rattle.ppm.specs.declared.words.Number.{Number}
@@ -12,19 +13,6 @@ use Rattle.ppm.specs.declared.words.Named.{Named}
 use Rattle.ppm.specs.declared.words.Named.the-variants.{Known, Unknown}
 
 -- ---- numbers
-
--- a character is a decimal digit
-abbrev pub isDigit : ℕ → Bool
-isDigit byte = leb 48 byte && leb byte 57
-
-unfoldable pub allDigits : List ℕ → Bool
-allDigits [] = true
-allDigits (byte ∷ bytes) = isDigit byte && allDigits bytes
-
--- the number that digits spell, the highest first, after digits that spell `high`
-unfoldable pub decimalValue : (high : ℕ) → List ℕ → ℕ
-decimalValue high [] = high
-decimalValue high (byte ∷ bytes) = decimalValue (high * 10 + (byte - 48)) bytes
 
 -- one digit at least, nothing but digits, and a number of 32 bits
 unfoldable pub parseNumber : List ℕ → Number

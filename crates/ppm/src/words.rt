@@ -1,7 +1,6 @@
 // What words of a command line mean: numbers, and names of formats.
 ghost use mathlib.Core.Path.{_≡_};
-ghost use Prim.Native.Nat.{_-_};
-ghost use Rattle.ppm.specs.Words.{isDigit, parseNumber, toLower as smallOf, equalsIgnoringCase, formatNamed};
+ghost use Rattle.ppm.specs.Words.{parseNumber, toLower as smallOf, equalsIgnoringCase, formatNamed};
 use pixel::Format;
 
 pub enum Number {
@@ -14,40 +13,16 @@ pub enum Named {
     Unknown,
 }
 
-fn is_digit(byte: u8) -> bool
-    ensures { λ r. ⌜ r ≡ isDigit byte ⌝ }
-{
-    (b'0' <= byte) & (byte <= b'9')
-}
-
-// The value of a digit. What is below `0` counts as 0.
-fn digit_value(byte: u8) -> u64
-    ensures { λ r. ⌜ r ≡ byte - 48 ⌝ }
-{
-    if byte < b'0' { 0 } else { (byte - b'0') as u64 }
-}
-
-// A number in decimal digits. It stops at the first character that is no digit, or as soon as the number is too large, so
-// that no sum wraps, however long the text is.
+// A number in decimal digits, and nothing else. The reading stops as soon as the number is too large, so that no sum wraps, however long the text is.
 pub fn number_of(text: &[u8]) -> Number
     ensures { λ r. ⌜ r ≡ parseNumber (now (text .entry)) ⌝ }
 {
-    if text.len() == 0 {
+    let numeral = numerals::read(text, 0, 4294967295);
+    let whole = (0 < text.len()) & (numeral.end == text.len());
+    if !whole {
         return Number::Invalid;
     }
-    let mut value: u64 = 0;
-    let mut i = 0;
-    while i < text.len() {
-        let byte = text[i];
-        let next = value * 10 + digit_value(byte);
-        let good = is_digit(byte) & (next < 4294967296);
-        if !good {
-            return Number::Invalid;
-        }
-        value = next;
-        i += 1;
-    }
-    Number::Value(value as u32)
+    Number::Value(numeral.value as u32)
 }
 
 fn small(byte: u8) -> u8

@@ -8,6 +8,7 @@ use Rattle.tally.specs.declared.Tally.{Tally}
 use Rattle.tally.specs.Tally.{Stands, Adds}
 use Rattle.tally_io.specs.declared.Done.{Done}
 
+-- Internal: after some of them
 pub record Reached (totals : Totals) (t : Tally) (held : List ℕ) : Type 0 where
   pub seen : List ℕ
   pub stands : Stands totals seen t held

@@ -1,70 +1,48 @@
-use mathlib.Core.Path.{sym, _∙_}
+use mathlib.Core.Path.{_≡_, sym}
+use Prim.Native.Nat.{_≤_}
 use mathlib.Core.Bool.{_&&_}
 use native.Mathlib.Omega.{arith}
-use lib.Dec.{ltb}
-use borrow.Author.Tests.{ltb-true, not-true, not-false}
-use Rattle.word.proofs.Tests.{and-true}
-use Prim.Native.Nat.{ℕ, _+_, _-_, _*_, _≤_, _<_}
+use lib.Dec.{eqb, ltb}
 use lib.ListN.{length}
-use Rattle.ppm.proofs.Texts.{Read, read-none, number-empty, read-more, read-wrong, read-all}
+use denote.Ref.{now}
+use borrow.Author.Tests.{ltb-true, eqb-true, not-true, not-false}
+use Rattle.word.proofs.Tests.{and-true}
+use Rattle.ppm.specs.declared.words.Number.the-variants.{Value}
+use Rattle.ppm.specs.Words.{parseNumber}
+use Rattle.ppm.proofs.Texts.{number-whole, number-part}
 use borrow.Author.Needs.{needs}
 use Rattle.ppm.proofs.words.number_of.Statement.{statement}
 use Rattle.ppm.proofs.words.number_of.Tie as tie
+use Rattle.ppm.proofs.words.number_of.Reads as reads
+use Rattle.ppm.proofs.words.number_of.Lts as lts
+use Rattle.numerals.proofs.read.Reads as read-reads
 
-abbrev Inv-loop : tie.InvT-loop
-Inv-loop text value₀ i₀ value i = (0 < length text) × (i ≤ length text) × (value < 4294967296) × Read text value i
+-- src/words.rt:20:9
+read-requires : tie.Need-read-requires
+read-requires c κs = search needs
 
-abbrev μ-loop : tie.MeasureT-loop
-μ-loop text value₀ i₀ value i = length text - i
+-- src/words.rt:23:9
+returns : tie.Need-returns
+returns c =
+    let read = c .before .before .read in
+    let size = length (now (c .before .before .before .before .args .text)) in
+    number-part _ (read .result) (read .ensures .0) (not-true (ltb 0 size && eqb (read .result .end) size) (c .if1 .taken))
 
-returns : tie.Need-returns Inv-loop μ-loop
-returns c = sym (number-empty _ (c .if1 .taken))
+-- the number that was read
+whole : (c : tie.Else1) → (Value (c .before .before .read .result .value) ≡ parseNumber (now (c .before .before .before .before .args .text))) × (c .before .before .read .result .value ≤ 4294967295)
+whole c =
+    let read = c .before .before .read in
+    let size = length (now (c .before .before .before .before .args .text)) in
+    let good = and-true (ltb 0 size) (eqb (read .result .end) size) (not-false (ltb 0 size && eqb (read .result .end) size) (c .if1 .left)) in
+    number-whole _ (read .result) (read .ensures .0) (ltb-true 0 size (good .0)) (eqb-true (read .result .end) size (good .1))
 
-loop-holds : tie.Need-loop-holds Inv-loop μ-loop
-loop-holds c = (search needs, search needs, search needs, read-none _)
+-- src/words.rt:25:19
+cast-t8 : tie.Need-cast-t8
+cast-t8 c = omega (arith, whole (c .before) .1)
 
-add-next : tie.Need-add-next Inv-loop μ-loop
-add-next c = omega (arith, c .before .shared-slice-known2 .given (c .before .before .before .loop .i))
-
-returns-2 : tie.Need-returns-2 Inv-loop μ-loop
-returns-2 c =
-    let l = c .before .before .before .before .before .loop in
-    let d = c .before .before in
-    let sum : ℕ = l .value * 10 + d .digit-value .result in
-    let bad = not-true (c .before .is-digit .result && ltb sum 4294967296) (c .if2 .taken) in
-    sym (read-wrong _ (l .value) (l .i) (l .inv .3) (c .before .before .before .before .loop-test .taken) (rw (c .before .is-digit .ensures, d .digit-value .ensures) at bad))
-
-loop-again : tie.Need-loop-again Inv-loop μ-loop
-loop-again c =
-    let l = c .before .before .before .before .before .loop in
-    let d = c .before .before in
-    let sum : ℕ = l .value * 10 + d .digit-value .result in
-    let good = and-true (c .before .is-digit .result) (ltb sum 4294967296) (not-false (c .before .is-digit .result && ltb sum 4294967296) (c .if2 .left)) in (
-      search needs,
-      search needs,
-      ltb-true sum 4294967296 (good .1),
-      rw (d .digit-value .ensures) (read-more _ (l .value) (l .i) (l .inv .3) (c .before .before .before .before .loop-test .taken) (sym (c .before .is-digit .ensures) ∙ good .0)),
-    )
-
-returns-3 : tie.Need-returns-3 Inv-loop μ-loop
-returns-3 c = let l = c .before .loop in sym (read-all _ (l .value) (l .i) (l .inv .3) (l .inv .0) (c .loop-test .left) (l .inv .2))
+-- src/words.rt:17:1
+returns-2 : tie.Need-returns-2
+returns-2 c = whole (c .before) .0
 
 pub number-of-spec : {M : Type 1} → statement M
-number-of-spec =
-    tie.close
-    (tie.spec
-    Inv-loop
-    μ-loop
-    returns
-    loop-holds
-    (λ c. search needs)
-    (λ c. search needs)
-    (λ c κs. search needs)
-    add-next
-    (λ c κs. search needs)
-    returns-2
-    (λ c. search needs)
-    (λ c. search needs)
-    loop-again
-    (λ c. search needs)
-    returns-3)
+number-of-spec = tie.close (tie.spec read-requires returns cast-t8 returns-2)
