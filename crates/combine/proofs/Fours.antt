@@ -5,39 +5,29 @@ use mathlib.Core.List.{List}
 use Prim.Native.Nat.{ℕ, _+_, _-_, _*_, _/_, _%_, _≤_, _<_}
 use native.Mathlib.Omega.{arith}
 use native.Mathlib.Nat.{eq-zero-or-pos}
-use lib.ListN.{length, getD, set}
+use lib.ListN.{getD}
 use Rattle.pixel.specs.Blending.{factorValue, blendedChannel}
 use Rattle.pixel.specs.Rules.{blendModeFactors}
 use Rattle.pixel.specs.declared.blend.Rule.{Rule}
 use Rattle.pixel.specs.declared.blend.RuleName.the-variants.{SrcOver, Add}
 use Rattle.lanes.specs.Lanes.{two, Done}
 use Rattle.lanes.proofs.Laws.{under-or}
-use Rattle.lanes.proofs.Passes.{Ahead, one-done, more-done, same-done}
-use Rattle.combine.specs.Blend.{alphaAt, blendAt, duo, topAt, laneAt}
-use Rattle.combine.proofs.Channels.{duo-low, duo-high, copied, stayed, cleared}
+use Rattle.lanes.proofs.Passes.{same-done}
+use Rattle.plan.specs.Blend.{alphaAt, blendAt, duo, topAt, laneAt}
+use Rattle.plan.proofs.Blends.{Bytes}
+use Rattle.plan.proofs.Channels.{duo-low, duo-high, copied, stayed, cleared}
 
--- a row of bytes
-abbrev pub Bytes : List ℕ → Type 0
-Bytes s = (j : ℕ) → getD s j 0 < 256
-
-two-low : (s : List ℕ) (o : ℕ) → Bytes s → two s o % 256 ≡ getD s o 0
+pub two-low : (s : List ℕ) (o : ℕ) → Bytes s → two s o % 256 ≡ getD s o 0
 unfolding two
 two-low s o b = omega (arith, b o, b (o + 1))
 
-two-high : (s : List ℕ) (o : ℕ) → Bytes s → two s o / 256 ≡ getD s (o + 1) 0
+pub two-high : (s : List ℕ) (o : ℕ) → Bytes s → two s o / 256 ≡ getD s (o + 1) 0
 unfolding two
 two-high s o b = omega (arith, b o, b (o + 1))
 
 pub two-small : (s : List ℕ) (o : ℕ) → Bytes s → two s o ≤ 65535
 unfolding two
 two-small s o b = omega (arith, b o, b (o + 1))
-
-pub blend-ahead : (rule : Rule) (s : List ℕ) → Ahead (blendAt rule s)
-unfolding blendAt
-blend-ahead rule s d e j same =
-    let a = same j (omega arith) in
-    let b = same (j / 4 * 4 + 3) (omega arith) in
-    cc
 
 pub lane-by : (rule : Rule) (a b : List ℕ) (k x y : ℕ) → x ≡ topAt a k → y ≡ topAt b k →
     duo (getD a k 0) (factorValue (rule .source) x y) (getD b k 0) (factorValue (rule .destination) x y) ≡ laneAt rule a b k
@@ -114,19 +104,6 @@ module _ (s : List ℕ) (o : ℕ) (four : o % 4 ≡ 0) (in-s : Bytes s) where
 
   pub all-empty : getD s (o + 3) 0 + getD s (o + 7) 0 + getD s (o + 11) 0 + getD s (o + 15) 0 ≡ 0 → (j : ℕ) → o ≤ j → j < o + 16 → alphaAt s j ≡ 0
   all-empty z = alphas-at s o 0 four (omega arith) (omega arith) (omega arith) (omega arith)
-
--- ---- one byte more, and four pixels more
-
-pub byte-more : (rule : Rule) (s d₀ d : List ℕ) (a j v : ℕ) → a ≤ j → j < length d → v ≡ blendAt rule s d j →
-    Done (blendAt rule s d₀) d₀ d a j → Done (blendAt rule s d₀) d₀ (set d j v) a (j + 1)
-byte-more rule s d₀ d a j v h l e was =
-    more-done (blendAt rule s) (blend-ahead rule s) d₀ d (set d j v) a j (j + 1) h (omega arith) was (one-done (blendAt rule s d) d j v l e)
-
-pub part-more : (rule : Rule) (s d₀ d d′ : List ℕ) (a o n : ℕ) → a ≤ o → o ≤ n → Done (blendAt rule s d₀) d₀ d a o → Done (blendAt rule s d) d d′ o n → Done (blendAt rule s d₀) d₀ d′ a n
-part-more rule s d₀ d d′ a o n h k was did = more-done (blendAt rule s) (blend-ahead rule s) d₀ d d′ a o n h k was did
-
-pub by-rule : (q r : Rule) (s d e : List ℕ) (a n : ℕ) → q ≡ r → Done (blendAt r s d) d e a n → Done (blendAt q s d) d e a n
-by-rule q r s d e a n h did = rw h did
 
 -- ---- four pixels whose alphas are all 255, or all 0
 

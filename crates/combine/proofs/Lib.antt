@@ -1,4 +1,2 @@
 -- Laws of blended rows.
-pub mod Factors
-pub mod Channels
 pub mod Fours

@@ -6,16 +6,16 @@ ghost use Rattle.pixel.specs.Blending.{factorValue};
 ghost use Rattle.pixel.specs.Rules.{blendModeFactors};
 ghost use Rattle.pixel.specs.declared.blend.RuleName.the-variants.{SrcOver};
 ghost use Rattle.lanes.specs.Lanes.{Done};
-ghost use Rattle.combine.specs.Blend.{blendAt, duo, laneAt};
-ghost use Rattle.combine.specs.Plan.{Planned};
-use crate::plans::Plan;
-use crate::plans::factor;
+ghost use Rattle.plan.specs.Blend.{blendAt, duo, laneAt};
+ghost use Rattle.plan.specs.Plan.{Planned};
 use lanes::left;
 use lanes::load8;
 use lanes::load8c;
 use lanes::store8;
 use lanes::top;
 use lanes::two_products;
+use plan::Plan;
+use plan::factor;
 
 fn pair2(s: u16, fs: u16, d: u16, fd: u16) -> u16
     requires { ⌜ (fs ≤ 255) × (fd ≤ 255) ⌝ }
@@ -33,7 +33,7 @@ pub fn pair(c: u16, d: u16, f: u16) -> u16
 }
 
 // Two channels under any rule; x and y are the alphas of the two pixels.
-fn lane(p: Plan, s: u16, d: u16, x: u16, y: u16) -> u16
+pub fn lane(p: Plan, s: u16, d: u16, x: u16, y: u16) -> u16
     requires { ⌜ Planned p × ((x ≤ 255) × (y ≤ 255)) ⌝ }
     ensures { λ r. ⌜ r ≡ duo s (factorValue (p .rule .source) x y) d (factorValue (p .rule .destination) x y) ⌝ }
 {

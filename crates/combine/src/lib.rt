@@ -1,9 +1,7 @@
 // Rows of ARGB8888 pixels blended in place, under any rule.
-mod lane;
-mod plans;
+pub mod lane;
 mod row;
 
-pub use plans::Masks;
-pub use plans::Plan;
-pub use plans::plan_of;
+pub use lane::pair;
 pub use row::blend_row;
+pub use row::byte;

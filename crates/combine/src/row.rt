@@ -4,39 +4,24 @@ ghost use Prim.Native.Nat.{ℕ, _+_, _%_, _≤_, _<_};
 ghost use lib.ListN.{length, getD};
 ghost use Rattle.pixel.specs.Rules.{blendModeFactors};
 ghost use Rattle.pixel.specs.Blending.{factorValue, blendedChannel};
-ghost use Rattle.pixel.specs.declared.blend.RuleName.the-variants.{SrcOver, Add};
+ghost use Rattle.pixel.specs.declared.blend.RuleName.the-variants.{SrcOver};
 ghost use Rattle.lanes.specs.Lanes.{Done};
-ghost use Rattle.combine.specs.Blend.{blendAt};
-ghost use Rattle.combine.specs.Plan.{Planned};
+ghost use Rattle.plan.specs.Blend.{blendAt};
+ghost use Rattle.plan.specs.Plan.{Planned};
 use crate::lane::blend_four;
 use crate::lane::over_four;
-use crate::plans::Plan;
-use crate::plans::factor;
+use constant_rows::add_bytes;
+use constant_rows::constant_row;
 use lanes::alphas;
 use lanes::copy;
 use lanes::two_products;
 use lanes::wide;
 use lanes::words;
-
-fn held_sum(a: u8, b: u8) -> u8
-    ensures { λ r. ⌜ r ≡ blendedChannel a 255 b 255 ⌝ }
-{
-    if 255 - a < b { 255 } else { a + b }
-}
-
-fn add_bytes(d: &mut [u8], s: &[u8], a: usize, n: usize)
-    requires { ⌜ (a ≤ n) × ((n ≤ length (now d)) × (n ≤ length (now s))) ⌝ }
-    ensures { λ _. ⌜ Done (blendAt (blendModeFactors Add) (now (s .entry)) (now (d .entry))) (now (d .entry)) (now (d .exit)) a n ⌝ }
-{
-    let mut j = a;
-    while j < n {
-        d[j] = held_sum(s[j], d[j]);
-        j += 1;
-    }
-}
+use plan::Plan;
+use plan::factor;
 
 // One channel under any rule; x and y are the alphas of the two pixels.
-fn byte(p: Plan, s: u8, d: u8, x: u8, y: u8) -> u8
+pub fn byte(p: Plan, s: u8, d: u8, x: u8, y: u8) -> u8
     requires { ⌜ Planned p ⌝ }
     ensures { λ r. ⌜ r ≡ blendedChannel s (factorValue (p .rule .source) x y) d (factorValue (p .rule .destination) x y) ⌝ }
 {
@@ -130,8 +115,8 @@ pub fn blend_row(d: &mut [u8], s: &[u8], p: Plan)
         blend_bytes(d, s, n, e, p);
         return;
     }
-    if p.adds {
-        add_bytes(d, s, 0, e);
+    if p.constant {
+        constant_row(d, s, p);
         return;
     }
     turns(d, s, n, p);

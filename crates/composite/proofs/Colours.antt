@@ -29,7 +29,7 @@ use Rattle.lanes.proofs.Laws.{under-or}
 use Rattle.lanes.proofs.Passes.{to-end}
 use Rattle.alpha_modes.specs.Mode.{modeAt}
 use Rattle.alpha_modes.proofs.Alphas.{at-alpha, at-other}
-use Rattle.combine.specs.Blend.{alphaAt, blendAt}
+use Rattle.plan.specs.Blend.{alphaAt, blendAt}
 use Rattle.unpremultiply.specs.Unpremultiply.{unpremultiplied}
 use Rattle.unpremultiply.specs.Prepared.{dividedAt, preparedAt}
 use Rattle.unpremultiply.proofs.Pixels.{at-alpha as alpha-kept, at-colour}

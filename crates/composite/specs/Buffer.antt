@@ -6,8 +6,8 @@ use lib.ListN.{length}
 use Rattle.pixel.specs.declared.format.Format.the-variants.{Argb8888}
 use Rattle.register.specs.declared.task.Blending.{Blending}
 use Rattle.rows.specs.Row.{RowIsWide}
-use Rattle.combine.specs.Plan.{Planned}
-use Rattle.combine.specs.declared.plans.Plan.{Plan}
+use Rattle.plan.specs.Plan.{Planned}
+use Rattle.plan.specs.declared.Plan.{Plan}
 
 -- what is asked where a row is blended in place
 pub record Mixes (d s : List ℕ) (width : ℕ) (blending : Blending) (p : Plan) : Type 0 where

@@ -1,27 +1,13 @@
 // Rows of one format made of rows of another. Each loop is over pixels, and makes one of vectors.
 ghost use mathlib.Core.Path.{_≡_};
 ghost use Prim.Native.Nat.{ℕ, _+_, _*_, _/_, _%_, _≤_, _<_};
-ghost use lib.ListN.{length, getD};
+ghost use lib.ListN.{length};
 ghost use Rattle.pixel.specs.declared.format.Format.the-variants.{Argb8888, Rgb888, Rgb565};
 ghost use Rattle.surface.specs.Drawn.{loadPixel};
-ghost use Rattle.lanes.specs.Lanes.{Done};
 ghost use Rattle.rows.specs.Row.{colourIn, rowStored, RowIsWide};
 ghost use Rattle.convert.specs.Line.{four, Three};
 use lanes::get2;
 use lanes::put2;
-
-// Bytes as they are.
-pub fn copy(d: &mut [u8], s: &[u8])
-    requires { ⌜ length (now d) ≤ length (now s) ⌝ }
-    ensures { λ _. ⌜ Done (λ j. getD (now (s .entry)) j 0) (now (d .entry)) (now (d .exit)) 0 (length (now (d .entry))) ⌝ }
-{
-    let n = d.len();
-    let mut j = 0;
-    while j < n {
-        d[j] = s[j];
-        j += 1;
-    }
-}
 
 fn wide(x: u8) -> u32
     ensures { λ r. ⌜ (r ≡ x) × (r ≤ 255) ⌝ }

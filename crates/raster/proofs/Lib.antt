@@ -13,7 +13,3 @@ pub mod Outside
 pub mod Judged
 -- a batch drawn a step of the walk at a time
 pub mod Fold
--- a task whose output rows are rows of its source
-pub mod Moved
--- a task whose output is its own destination
-pub mod Mixed

@@ -32,14 +32,14 @@ module _ {window : Range} {memory : List ℕ} {t : Task} {y : ℕ} (r : RowDrawa
   pub ordered : window .start ≤ window .end
   ordered = omega (arith, starts, ends)
 
-  -- the source row, which a buffer of 16,384 bytes holds
-  pub fetches : (buffer : List ℕ) → 16384 ≤ length buffer → SourceRowInBounds memory buffer (t .source) y (t .output .width)
+  -- the source row, which a buffer of so many pixels holds
+  pub fetches : (buffer : List ℕ) → t .output .width * 4 ≤ length buffer → SourceRowInBounds memory buffer (t .source) y (t .output .width)
   fetches buffer l =
       let s = r .drawable .clear in
       let w = ap (λ (z : Size). z .width) (s .size) in
       let h = ap (λ (z : Size). z .height) (s .size) in
       record {
-        room = omega (arith, s .output .narrow);
+        room = l;
         across = omega (arith, w);
         down = omega (arith, h, r .row);
         upright = s .upright;

@@ -9,7 +9,7 @@ ghost use Rattle.rows.specs.Row.{colourAt, sourcePixelOf, FetchInBounds, rowSto
 ghost use Rattle.lanes.specs.Lanes.{Done};
 ghost use Rattle.row_copy.specs.Held.{HoldsPixels};
 ghost use Rattle.row_copy.specs.Apart.{Apart, movedByte};
-use convert::copy;
+use byte_rows::copy;
 use pixel::Format;
 use rows::origin;
 use surface::Surface;

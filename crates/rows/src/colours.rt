@@ -25,13 +25,20 @@ fn with_alpha(a: Alpha, c: Colour) -> Colour
     mode.apply(a.global, c)
 }
 
+// The same with its alpha by the source's alpha mode: what is blended.
+pub fn blending_colour(blending: Blending, source: Alpha, s: Colour) -> Colour
+    ensures { λ r. ⌜ r ≡ withSurfaceAlpha source (sourceForBlending blending s) ⌝ }
+{
+    with_alpha(source, prepare(blending, s))
+}
+
 // A source colour blended with a destination colour.
 pub fn mix(blending: Blending, source: Alpha, destination: Alpha, s: Colour, d: Colour) -> Colour
     ensures { λ r. ⌜ r ≡ composite blending source destination s d ⌝ }
 {
     let rule = blending.rule;
     rule.blend(
-        with_alpha(source, prepare(blending, s)),
+        blending_colour(blending, source, s),
         with_alpha(destination, d),
     )
 }

@@ -2,8 +2,9 @@
 pub mod colours;
 pub mod source;
 
+pub use colours::blending_colour;
 pub use colours::mix;
-pub use source::is_back;
+pub use source::is_reversed;
 pub use source::is_straight;
 pub use source::origin;
 pub use source::place;

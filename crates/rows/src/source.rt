@@ -49,7 +49,7 @@ pub fn is_straight(transform: Transform) -> bool
 }
 
 // Whether the source pixels of an output row go back from its first one.
-pub fn is_back(transform: Transform) -> bool
+pub fn is_reversed(transform: Transform) -> bool
     ensures { λ r. ⌜ r ≡ isReversed (transform .rotation) (transform .flip) ⌝ }
 {
     let flip = transform.flip;

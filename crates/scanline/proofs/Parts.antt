@@ -29,8 +29,8 @@ use Rattle.rows.specs.Row.{colourIn, HoldsColours, rowStored}
 use Rattle.rows.specs.Mixed.{composite}
 use Rattle.pixel.proofs.Kept.{word-colour}
 use Rattle.lanes.specs.Lanes.{Done}
-use Rattle.combine.specs.Plan.{planOf, Planned}
-use Rattle.combine.specs.declared.plans.Plan.{Plan}
+use Rattle.plan.specs.Plan.{planOf, Planned}
+use Rattle.plan.specs.declared.Plan.{Plan}
 use Rattle.composite.proofs.Colours.{Row, colour-is, row-is}
 
 -- ---- a part

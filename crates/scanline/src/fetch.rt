@@ -9,12 +9,12 @@ ghost use Rattle.rows.specs.Row.{HoldsColours, colourAt, sourcePixelOf, FetchIn
 use crate::argb::fill_words;
 use crate::argb::word_of;
 use crate::steps::fetch_steps;
-use convert::copy;
+use byte_rows::copy;
 use convert::from_565;
 use convert::from_888;
 use pixel::Colour;
 use pixel::Format;
-use rows::is_back;
+use rows::is_reversed;
 use rows::is_straight;
 use rows::origin;
 use rows::step_of;
@@ -101,7 +101,7 @@ fn fetch_turned(
     let rotation = transform.rotation;
     let start = origin(s, transform, 0, y);
     let step = step_of(s, rotation);
-    let back = is_back(transform);
+    let back = is_reversed(transform);
     fetch_steps(buffer, width, memory, start, step, back, format);
 }
 

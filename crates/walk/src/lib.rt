@@ -6,7 +6,6 @@ ghost use Rattle.batch.specs.Batch.{decodeBatch, verdictOf};
 ghost use Rattle.raster.specs.Task.{drawTask};
 ghost use Rattle.raster.specs.Batch.{drawBatch};
 ghost use Rattle.raster.specs.Preconditions.{Drawable, BoundsInMemory};
-ghost use Rattle.raster.specs.Row.{RowBuffers};
 use batch::Step;
 use batch::Verdict;
 use batch::next_task;
@@ -15,23 +14,16 @@ use register::Bank;
 use register::Task;
 use rules::Bounds;
 
-// Draws a task: row by row, or by the slow engine each pixel by itself. What the buffers hold afterwards is free.
-fn draw_task(
-    memory: &mut [u8],
-    window: Range,
-    task: Task,
-    source: &mut [u8],
-    destination: &mut [u8],
-    slow: bool,
-)
-    requires { ⌜ Drawable window (length (now memory)) task × RowBuffers (now source) (now destination) ⌝ }
+// Draws a task: row by row, or by the slow engine each pixel by itself.
+fn draw_task(memory: &mut [u8], window: Range, task: Task, slow: bool)
+    requires { ⌜ Drawable window (length (now memory)) task ⌝ }
     ensures { λ _. ⌜ now (memory .exit) ≡ drawTask task (now (memory .entry)) ⌝ }
 {
     if slow {
         plain::draw_task(memory, task);
         return;
     }
-    raster::draw_task(memory, window, task, source, destination);
+    tasks::draw_task(memory, window, task);
 }
 
 // Judges and draws the batch of `size` bytes at an offset of the ring, read from a bank on. The tasks before a fault stand (02, request 5). Judging
@@ -48,9 +40,6 @@ pub fn run_batch(
     requires { ⌜ BoundsInMemory bounds (length (now memory)) ⌝ }
     ensures { λ r. ⌜ (r ≡ verdictOf (decodeBatch bounds bank (batchWords (now (ring .entry)) offset size))) × (now (memory .exit) ≡ drawBatch bounds bank (batchWords (now (ring .entry)) offset size) (now (memory .entry))) ⌝ }
 {
-    // once a batch: most tasks are small, and clearing these would be most of their time
-    let mut source = [0u8; 16384];
-    let mut destination = [0u8; 16384];
     let window = bounds.window;
     let mut current = bank;
     let mut at = 0;
@@ -58,7 +47,7 @@ pub fn run_batch(
     loop {
         match next_task(ring, offset, size, bounds, current, at) {
             Step::Task(task, b, next) => {
-                draw_task(memory, window, task, &mut source, &mut destination, slow);
+                draw_task(memory, window, task, slow);
                 current = b;
                 at = next;
                 count = count + 1;

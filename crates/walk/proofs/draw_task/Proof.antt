@@ -18,24 +18,10 @@ draw-task-requires-2 c κs = search needs
 same-length-2 : tie.Need-same-length-2
 same-length-2 c = search needs
 
-same-length-3 : tie.Need-same-length-3
-same-length-3 c = search needs
-
-same-length-4 : tie.Need-same-length-4
-same-length-4 c = search needs
-
 returns-2 : tie.Need-returns-2
 returns-2 c = search needs
 
 pub draw-task-spec : {M : Type 1} → statement M
 draw-task-spec =
     tie.close
-    (tie.spec
-    draw-task-requires
-    same-length
-    returns
-    draw-task-requires-2
-    same-length-2
-    same-length-3
-    same-length-4
-    returns-2)
+    (tie.spec draw-task-requires same-length returns draw-task-requires-2 same-length-2 returns-2)

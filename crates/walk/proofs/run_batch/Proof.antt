@@ -20,18 +20,16 @@ use Rattle.walk.proofs.run_batch.Statement.{statement}
 use Rattle.walk.proofs.run_batch.Tie as tie
 
 abbrev Inv-loop : tie.InvT-loop
-Inv-loop memory₀ ring offset size bounds slow source₀ destination₀ window current₀ at₀ count₀ memory source destination current at count =
+Inv-loop memory₀ ring offset size bounds slow window current₀ at₀ count₀ memory current at count =
     let ws = batchWords ring offset size in
     (drawTasks (decodeBatch bounds current₀ ws .tasks) memory₀ ≡ drawTasks (decodeRest bounds ws current at .tasks) memory)
     × (validationOf (decodeBatch bounds current₀ ws) ≡ counted count (decodeRest bounds ws current at))
     × (at ≤ length ws)
     × (length memory ≡ length memory₀)
-    × (length source ≡ 16384)
-    × (length destination ≡ 16384)
     × (count ≤ at)
 
 abbrev μ-loop : tie.MeasureT-loop
-μ-loop memory₀ ring offset size bounds slow source₀ destination₀ window current₀ at₀ count₀ memory source destination current at count = length (batchWords ring offset size) - at
+μ-loop memory₀ ring offset size bounds slow window current₀ at₀ count₀ memory current at count = length (batchWords ring offset size) - at
 
 -- the words of the batch
 abbrev Ws : tie.Start Inv-loop μ-loop → List ℕ
@@ -50,7 +48,7 @@ onward c =
 loop-holds : tie.Need-loop-holds Inv-loop μ-loop
 loop-holds c =
     let s = c .before .before .before in
-    (refl, counted-none (decodeBatch (s .args .bounds) (s .args .bank) (Ws s)), omega arith, refl, refl, refl, omega arith)
+    (refl, counted-none (decodeBatch (s .args .bounds) (s .args .bank) (Ws s)), omega arith, refl, omega arith)
 
 next-task-requires : tie.Need-next-task-requires Inv-loop μ-loop
 next-task-requires c κs = search needs
@@ -58,53 +56,43 @@ next-task-requires c κs = search needs
 enum-known-task : tie.Need-enum-known-task Inv-loop μ-loop
 enum-known-task c = search needs
 
-slice-aggregate-draw-task : tie.Need-slice-aggregate-draw-task Inv-loop μ-loop
-slice-aggregate-draw-task c = search needs
-
-slice-aggregate-draw-task-2 : tie.Need-slice-aggregate-draw-task-2 Inv-loop μ-loop
-slice-aggregate-draw-task-2 c = search needs
-
 draw-task-requires : tie.Need-draw-task-requires Inv-loop μ-loop
 draw-task-requires c κs =
-    let t = c .before .before .before .before in
+    let t = c .before .before in
     let s = t .before .before .before .before .before .before .before in
     let l = t .before .before .before .loop in
-    let n = t .before .before .next-task in (
-      drawable (s .args .bounds) (t .task .given .0 .0)
-          (step-sound (s .args .bounds) (Ws s) (l .current) (l .at) (n .result) (n .ensures) _ _ _ (t .task .given .1))
-          (length (l .memory)) (omega (arith, s .pre .window, l .inv .3)) (omega (arith, s .pre .common, l .inv .3)),
-      record { source = omega (arith, l .inv .4); destination = omega (arith, l .inv .5) },
-    )
+    let n = t .before .before .next-task in
+    drawable (s .args .bounds) (t .task .given .0 .0)
+    (step-sound (s .args .bounds) (Ws s) (l .current) (l .at) (n .result) (n .ensures) _ _ _ (t .task .given .1))
+    (length (l .memory)) (omega (arith, s .pre .window, l .inv .3)) (omega (arith, s .pre .common, l .inv .3))
 
 add-count : tie.Need-add-count Inv-loop μ-loop
 add-count c =
-    let t = c .before .before .before .before .before .before .before .before .before in
+    let t = c .before .before .before .before .before in
     let s = t .before .before .before .before .before .before .before in
     let l = t .before .before .before .loop in
-    omega (arith, onward t, l .inv .6, words-fit (now (s .args .ring)) (s .args .offset) (s .args .size), s .fits .size)
+    omega (arith, onward t, l .inv .4, words-fit (now (s .args .ring)) (s .args .offset) (s .args .size), s .fits .size)
 
 loop-less : tie.Need-loop-less Inv-loop μ-loop
 loop-less c =
-    let t = c .before .before .before .before .before .before .before .before .before in
+    let t = c .before .before .before .before .before in
     let s = t .before .before .before .before .before .before .before in
     omega (arith, onward t, words-fit (now (s .args .ring)) (s .args .offset) (s .args .size))
 
 loop-again : tie.Need-loop-again Inv-loop μ-loop
 loop-again c =
-    let t = c .before .before .before .before .before .before .before .before .before in
+    let t = c .before .before .before .before .before in
     let s = t .before .before .before .before .before .before .before in
     let l = t .before .before .before .loop in
     let n = t .before .before .next-task in
-    let d = c .before .before .before .before .draw-task in (
+    let d = c .before .before .draw-task in (
       l .inv .0
           ∙ step-draws (s .args .bounds) (Ws s) (l .current) (l .at) (n .result) (n .ensures) (l .memory) _ _ _ (t .task .given .1)
           ∙ ap (drawTasks (decodeRest (s .args .bounds) (Ws s) (t .task .given .0 .1 .0) (t .task .given .0 .1 .1 .0) .tasks)) (sym (d .ensures)),
       l .inv .1 ∙ step-task (s .args .bounds) (Ws s) (l .current) (l .at) (n .result) (n .ensures) (l .count) _ _ _ (t .task .given .1),
       onward t .1,
       d .kept .0 ∙ l .inv .3,
-      d .kept .1 .1 .1 .0 ∙ l .inv .4,
-      d .kept .1 .1 .1 .1 .0 ∙ l .inv .5,
-      omega (arith, onward t, l .inv .6),
+      omega (arith, onward t, l .inv .4),
     )
 
 enum-known-fault : tie.Need-enum-known-fault Inv-loop μ-loop
@@ -152,8 +140,6 @@ run-batch-spec =
     loop-holds
     next-task-requires
     enum-known-task
-    slice-aggregate-draw-task
-    slice-aggregate-draw-task-2
     draw-task-requires
     add-count
     loop-less

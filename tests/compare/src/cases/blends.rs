@@ -1,4 +1,4 @@
-//! Every pair of factors on a grid of channels, every rule by name, every sum that a blend can come to, every mix of formats.
+//! Every pair of factors on a grid of channels, every rule by name, every sum that a blend can come to, rows blended inside the window, every mix of formats.
 use crate::bench::bench;
 use crate::trials::{Agreed, Trials};
 use independent::engine::Numbers;
@@ -20,6 +20,7 @@ pub fn compare(trials: &mut Trials) -> Agreed {
     pairs(trials)?;
     all_channels(trials)?;
     all_sums(trials)?;
+    within_window(trials)?;
     formats(trials)
 }
 
@@ -104,6 +105,32 @@ fn all_sums(trials: &mut Trials) -> Agreed {
     }
     println!("{:>12}  sums of two products of bytes, each blended to", source.len());
     blend_pixels(trials, &source, &destination, |fields| by_factors(fields, SOURCE_ALPHA, DESTINATION_ALPHA))
+}
+
+/// What four pixels of a source are made: left as they look random, without alpha, empty, opaque.
+const FOURS: [fn([u8; 4]) -> [u8; 4]; 4] = [|pixel| pixel, |[b, g, r, _]| [b, g, r, 0], |_| [0; 4], |[b, g, r, _]| [b, g, r, 255]];
+
+/// Source and output in the window, rows of every width up to 70 under every rule: the source before the output and after it, upside down and not, all of
+/// its pixels of one kind, and each four of another.
+fn within_window(trials: &mut Trials) -> Agreed {
+    for number in 0..70 * 2 * 2 * 5 {
+        let (width, flip, kind) = (1 + number % 70, number / 70 % 2, number / 280);
+        let address = [1001, 3001][number / 140 % 2];
+        let stride = (4 * width).next_multiple_of(8) + 8;
+        let mut buffers = bench(Numbers { ring: 128, memory: 4000, common: 1000 }, 0);
+        for i in 0..3 * width {
+            let at = address + i / width * stride + 4 * (i % width);
+            let four = if kind < 4 { kind } else { (i % width / 4 + i / width) % 4 };
+            let pixel = FOURS[four](buffers.memory[at..at + 4].try_into().expect("four bytes"));
+            buffers.memory[at..at + 4].copy_from_slice(&pixel);
+        }
+        let place = |address| Place { address, stride: stride as u32, width: width as u32, height: 3, format: ARGB8888 };
+        let task = copy(place(address as u32), place(2001), 0, 0, flip as u32);
+        for (name, _, _) in RULES {
+            trials.task(&buffers, &blended(task, name))?;
+        }
+    }
+    Ok(())
 }
 
 /// Every pair of factors in every mix of formats of source, destination and output, turned; the destination is the output,

@@ -15,6 +15,7 @@ mod records;
 mod registers;
 mod resets;
 mod rules;
+mod solids;
 mod spans;
 mod transforms;
 mod walks;
@@ -29,7 +30,7 @@ use crate::trials::{Agreed, Trials};
 /// A subject's name, and what tries its cases.
 type Subject = (&'static str, fn(&mut Trials) -> Agreed);
 
-const SUBJECTS: [Subject; 19] = [
+const SUBJECTS: [Subject; 20] = [
     ("examples of the scope paper", examples::compare),
     ("registers", registers::compare),
     ("headers and groups", headers::compare),
@@ -41,6 +42,7 @@ const SUBJECTS: [Subject; 19] = [
     ("alphas", alphas::compare),
     ("blends", blends::compare),
     ("premultiplied sources", premultiplied::compare),
+    ("rows of one colour and of constant factors", solids::compare),
     ("transforms", transforms::compare),
     ("gradients", gradients::compare),
     ("batches of several tasks", batches::compare),

@@ -1,5 +1,5 @@
 use Rattle.lanes.proofs.Laws.{grown}
-use Rattle.combine.specs.Blend.{laneAt}
+use Rattle.plan.specs.Blend.{laneAt}
 use Rattle.combine.proofs.Fours.{lane-by}
 use borrow.Author.Count.{below-none}
 use Prim.Native.Nat.{ℕ, _-_, _≤_, _<_}

@@ -1,4 +1,4 @@
-use Rattle.combine.proofs.Factors.{source-is, destination-is, source-small, destination-small}
+use Rattle.plan.proofs.Factors.{source-is, destination-is, source-small, destination-small}
 use mathlib.Core.Path.{_∙_}
 use native.Mathlib.Omega.{arith}
 use borrow.Author.Needs.{needs}

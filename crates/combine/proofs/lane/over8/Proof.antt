@@ -1,5 +1,5 @@
 use Rattle.lanes.proofs.Laws.{grown}
-use Rattle.combine.specs.Blend.{duo}
+use Rattle.plan.specs.Blend.{duo}
 use borrow.Author.Count.{below-none}
 use Prim.Native.Nat.{ℕ, _+_, _*_, _-_, _/_, _≤_, _<_}
 use mathlib.Core.Path.{_≡_, ap, _∙_}

@@ -1,6 +1,7 @@
 use Rattle.pixel.specs.Rules.{blendModeFactors}
 use Rattle.pixel.specs.declared.blend.RuleName.the-variants.{SrcOver}
-use Rattle.combine.proofs.Fours.{Bytes, over-two, four-done}
+use Rattle.plan.proofs.Blends.{Bytes}
+use Rattle.combine.proofs.Fours.{over-two, four-done}
 use mathlib.Core.Path.{_∙_}
 use native.Mathlib.Omega.{arith}
 use borrow.Author.Needs.{needs}

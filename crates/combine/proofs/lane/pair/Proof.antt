@@ -1,4 +1,4 @@
-use Rattle.combine.proofs.Channels.{over-duo}
+use Rattle.plan.proofs.Channels.{over-duo}
 use borrow.Author.Needs.{needs}
 use Rattle.combine.proofs.lane.pair.Statement.{statement}
 use Rattle.combine.proofs.lane.pair.Tie as tie

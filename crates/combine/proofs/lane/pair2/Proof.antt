@@ -1,6 +1,6 @@
 use Rattle.pixel.specs.Alpha.{div255}
 use Rattle.pixel.specs.Blending.{blendedChannel}
-use Rattle.combine.specs.Blend.{duo}
+use Rattle.plan.specs.Blend.{duo}
 use borrow.Author.Needs.{needs}
 use Rattle.combine.proofs.lane.pair2.Statement.{statement}
 use Rattle.combine.proofs.lane.pair2.Tie as tie

@@ -1,5 +1,5 @@
-use Rattle.combine.proofs.Fours.{by-rule, part-more}
-use Rattle.combine.proofs.Factors.{over-is, adds-is}
+use Rattle.plan.proofs.Blends.{by-rule, part-more}
+use Rattle.plan.proofs.Factors.{over-is}
 use Prim.Native.Nat.{_*_, _/_}
 use native.Mathlib.Omega.{arith}
 use borrow.Author.Needs.{needs}
@@ -7,56 +7,42 @@ use lib.ListN.{length}
 use Rattle.combine.proofs.row.blend_row.Statement.{statement}
 use Rattle.combine.proofs.row.blend_row.Tie as tie
 
--- src/row.rt:126:13
 mul-n : tie.Need-mul-n
 mul-n c = search needs
 
--- src/row.rt:129:9
 over-turns-requires : tie.Need-over-turns-requires
 over-turns-requires c κs = search needs
 
--- src/row.rt:130:9
 blend-bytes-requires : tie.Need-blend-bytes-requires
 blend-bytes-requires c κs = search needs
 
--- src/row.rt:131:9
 same-length : tie.Need-same-length
 same-length c = search needs
 
--- src/row.rt:131:9
 returns : tie.Need-returns
 returns c =
     let a = c .before .before .before .before .before .before .before .before .before .before .before in
     part-more (a .args .p .rule) (a .args .s .now) (a .args .d .now) (c .before .before .before .before .before .before .over-turns .last .0) _ 0 (length (a .args .d .now) / 16 * 16) (length (a .args .d .now)) (omega arith) (omega arith)
     (by-rule _ _ _ _ _ _ _ (over-is (a .args .p) (a .pre .1) (c .before .before .before .before .before .before .before .before .if1 .taken)) (c .before .before .before .before .before .before .over-turns .ensures)) (c .before .before .blend-bytes .ensures)
 
--- src/row.rt:134:9
-add-bytes-requires : tie.Need-add-bytes-requires
-add-bytes-requires c κs = search needs
+constant-row-requires : tie.Need-constant-row-requires
+constant-row-requires c κs = search needs
 
--- src/row.rt:135:9
 same-length-2 : tie.Need-same-length-2
 same-length-2 c = search needs
 
--- src/row.rt:135:9
 returns-2 : tie.Need-returns-2
-returns-2 c =
-    let a = c .before .before .before .before .before .before .before .before in
-    by-rule _ _ _ _ _ _ _ (adds-is (a .args .p) (a .pre .1) (c .before .before .before .before .if2 .taken)) (c .before .before .add-bytes .ensures)
+returns-2 c = c .before .before .constant-row .ensures
 
--- src/row.rt:137:5
 turns-requires : tie.Need-turns-requires
 turns-requires c κs = search needs
 
--- src/row.rt:138:5
 blend-bytes-requires-2 : tie.Need-blend-bytes-requires-2
 blend-bytes-requires-2 c κs = search needs
 
--- src/row.rt:122:1
 same-length-3 : tie.Need-same-length-3
 same-length-3 c = search needs
 
--- src/row.rt:122:1
 returns-3 : tie.Need-returns-3
 returns-3 c =
     let a = c .before .before .before .before .before .before .before .before .before .before .before .before in
@@ -71,7 +57,7 @@ blend-row-spec =
     blend-bytes-requires
     same-length
     returns
-    add-bytes-requires
+    constant-row-requires
     same-length-2
     returns-2
     turns-requires

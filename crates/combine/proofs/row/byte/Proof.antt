@@ -1,4 +1,4 @@
-use Rattle.combine.proofs.Factors.{source-is, destination-is, source-small, destination-small}
+use Rattle.plan.proofs.Factors.{source-is, destination-is, source-small, destination-small}
 use Rattle.pixel.specs.Alpha.{div255}
 use Rattle.pixel.specs.Blending.{blendedChannel}
 use mathlib.Core.Path.{_∙_}

@@ -1,5 +1,5 @@
 use Rattle.combine.proofs.Fours.{copy-done, leave-done}
-use Rattle.combine.proofs.Factors.{copies-is, leaves-is, both}
+use Rattle.plan.proofs.Factors.{copies-is, leaves-is, both}
 use borrow.Author.Tests.{eqb-true}
 use mathlib.Core.Path.{sym, _∙_}
 use native.Mathlib.Omega.{arith}

@@ -1,7 +1,7 @@
 use Rattle.lanes.specs.Lanes.{Done}
 use Rattle.lanes.proofs.Passes.{none-done, to-end}
-use Rattle.combine.specs.Blend.{blendAt}
-use Rattle.combine.proofs.Fours.{part-more}
+use Rattle.plan.specs.Blend.{blendAt}
+use Rattle.plan.proofs.Blends.{part-more}
 use Prim.Native.Nat.{_-_, _%_, _≤_}
 use mathlib.Core.Path.{_≡_}
 use native.Mathlib.Omega.{arith}

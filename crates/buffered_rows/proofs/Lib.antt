@@ -1,0 +1,2 @@
+-- a task whose output is its own destination
+pub mod Mixed

@@ -1,0 +1,123 @@
+use mathlib.Core.Path.{sym, ap, _∙_}
+use denote.Ref.{now}
+use Rattle.register.specs.Task.{isBuffer}
+use Rattle.register.specs.declared.task.SourceMode.{SourceMode}
+use Rattle.rows.specs.Row.{sourcePixelOf}
+use Rattle.raster.specs.Task.{sourceModeColour, sourceColour}
+use Rattle.raster.specs.Row.{isUniform}
+use Rattle.raster.proofs.Pixel.{upright-across, upright-down, source-across, source-uniform}
+use borrow.Author.Needs.{needs}
+use Rattle.buffered_rows.proofs.fetch_source.Statement.{statement}
+use Rattle.buffered_rows.proofs.fetch_source.Tie as tie
+
+enum-told : tie.Need-enum-told
+enum-told c = search needs
+
+fetch-along-requires : tie.Need-fetch-along-requires
+fetch-along-requires c κs =
+    let p = c .before .before .before .before .before .pre in
+    record { inside = p .inside (ap isBuffer (c .before .enum-told .given .1)); across = p .across; down = p .down; room = p .room }
+
+same-length : tie.Need-same-length
+same-length c = search needs
+
+returns : tie.Need-returns
+unfolding sourceColour
+returns c =
+    let t = c .before .before .before .before in
+    let a = t .before .before .before .before .args in
+    λ x z.
+    c .before .before .fetch-along .ensures x z
+    ∙ sym (ap (λ (m : SourceMode). sourceModeColour m (a .source) (now (a .memory)) (sourcePixelOf (a .source .surface) (a .source .transform) x (a .y))) (t .enum-told .given .1))
+
+enum-told-2 : tie.Need-enum-told-2
+enum-told-2 c = search needs
+
+uniform-colour-requires : tie.Need-uniform-colour-requires
+uniform-colour-requires c κs =
+    let s = c .before .before .before .before .before in
+    upright-down (s .args .source) (s .pre .upright (ap isBuffer (c .before .enum-told2 .given .1))) (s .args .y) (s .pre .down)
+
+spread-requires : tie.Need-spread-requires
+spread-requires c κs = search needs
+
+same-length-2 : tie.Need-same-length-2
+same-length-2 c = search needs
+
+returns-2 : tie.Need-returns-2
+returns-2 c =
+    let t = c .before .before .before .before .before in
+    let s = t .before .before .before .before in
+    let a = s .args in
+    λ x z.
+    c .before .before .spread .ensures x z
+    ∙ (c .before .before .before .uniform-colour .ensures
+    ∙ source-uniform (a .source) (now (a .memory)) x (a .y) (ap isUniform (t .enum-told2 .given .1)) (s .pre .upright))
+
+enum-told-3 : tie.Need-enum-told-3
+enum-told-3 c = search needs
+
+fetch-gradient-requires : tie.Need-fetch-gradient-requires
+fetch-gradient-requires c κs =
+    let s = c .before .before .before .before .before in
+    (s .pre .room, upright-across (s .args .source) (s .pre .upright (ap isBuffer (c .before .enum-told3 .given .1))) (s .args .width) (s .pre .across))
+
+same-length-3 : tie.Need-same-length-3
+same-length-3 c = search needs
+
+returns-3 : tie.Need-returns-3
+returns-3 c =
+    let t = c .before .before .before .before in
+    let s = t .before .before .before .before in
+    let a = s .args in
+    let is = t .enum-told3 .given .1 in
+    λ x z.
+    c .before .before .fetch-gradient .ensures x z
+    ∙ source-across (a .source) (now (a .memory)) x (a .y) is (s .pre .upright (ap isBuffer is))
+
+enum-told-4 : tie.Need-enum-told-4
+enum-told-4 c = search needs
+
+uniform-colour-requires-2 : tie.Need-uniform-colour-requires-2
+uniform-colour-requires-2 c κs =
+    let s = c .before .before .before .before .before in
+    upright-down (s .args .source) (s .pre .upright (ap isBuffer (c .before .enum-told4 .given .1))) (s .args .y) (s .pre .down)
+
+spread-requires-2 : tie.Need-spread-requires-2
+spread-requires-2 c κs = search needs
+
+same-length-4 : tie.Need-same-length-4
+same-length-4 c = search needs
+
+returns-4 : tie.Need-returns-4
+returns-4 c =
+    let t = c .before .before .before .before .before in
+    let s = t .before .before .before .before in
+    let a = s .args in
+    λ x z.
+    c .before .before .spread2 .ensures x z
+    ∙ (c .before .before .before .uniform-colour2 .ensures
+    ∙ source-uniform (a .source) (now (a .memory)) x (a .y) (ap isUniform (t .enum-told4 .given .1)) (s .pre .upright))
+
+pub fetch-source-spec : {M : Type 1} → statement M
+fetch-source-spec =
+    tie.close
+    (tie.spec
+    enum-told
+    fetch-along-requires
+    same-length
+    returns
+    enum-told-2
+    uniform-colour-requires
+    spread-requires
+    same-length-2
+    returns-2
+    enum-told-3
+    fetch-gradient-requires
+    same-length-3
+    returns-3
+    enum-told-4
+    uniform-colour-requires-2
+    spread-requires-2
+    same-length-4
+    returns-4)

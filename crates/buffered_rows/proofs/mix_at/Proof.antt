@@ -1,0 +1,74 @@
+use mathlib.Core.Path.{_≡_}
+use Prim.Native.Nat.{ℕ, _+_, _-_}
+use native.Mathlib.Omega.{arith}
+use denote.Ref.{now}
+use Rattle.surface.specs.Surface.{rowLength}
+use Rattle.surface.proofs.Parts.{length-mid}
+use Rattle.scanline.proofs.Parts.{planned-is}
+use Rattle.buffered_rows.proofs.Mixed.{argb-length, mixed-lent}
+use borrow.Author.Needs.{needs}
+use Rattle.buffered_rows.proofs.mix_at.Statement.{statement}
+use Rattle.buffered_rows.proofs.mix_at.Tie as tie
+
+row-length-requires : tie.Need-row-length-requires
+row-length-requires c κs = search needs
+
+add-end : tie.Need-add-end
+add-end c = search needs
+
+cast-width : tie.Need-cast-width
+cast-width c = search needs
+
+sub-mix-row : tie.Need-sub-mix-row
+sub-mix-row c = search needs
+
+part-mix-row-start : tie.Need-part-mix-row-start
+part-mix-row-start c = search needs
+
+part-mix-row-end : tie.Need-part-mix-row-end
+part-mix-row-end c = search needs
+
+mix-row-requires : tie.Need-mix-row-requires
+mix-row-requires c κs =
+    let r = c .before .before .before in
+    let s = r .before .before .before .before .before .before .before in
+    let a = s .args in
+    let p = planned-is _ _ (s .pre .plan) in
+    let k : ℕ = a .at + r .row-length .result - a .at in
+    let long = length-mid (a .at) k (now (a .window)) (omega (arith, s .pre .fits .inside, r .row-length .ensures)) in
+    record {
+      wide = omega (arith, long, r .row-length .ensures, argb-length (a .task .output) (s .pre .format));
+      room = s .pre .fits .room;
+      planned = p .0;
+      rule = p .1;
+    }
+
+same-length : tie.Need-same-length
+same-length c = search needs
+
+same-length-2 : tie.Need-same-length-2
+same-length-2 c = search needs
+
+returns : tie.Need-returns
+returns c =
+    let f = c .before .before .before .before in
+    let r = f .before .before .before .before in
+    let s = r .before .before .before .before .before .before .before in
+    let a = s .args in
+    let e : a .at + r .row-length .result - a .at ≡ rowLength (a .task .output) = omega (arith, r .row-length .ensures) in
+    mixed-lent (a .task) (now (a .window)) (now (a .source)) (f .mix-row .last .0) (a .at) _ (s .pre .format) e (s .pre .fits .inside) (f .mix-row .ensures)
+
+pub mix-at-spec : {M : Type 1} → statement M
+mix-at-spec =
+    tie.close
+    (tie.spec
+    row-length-requires
+    add-end
+    cast-width
+    sub-mix-row
+    part-mix-row-start
+    part-mix-row-end
+    mix-row-requires
+    same-length
+    same-length-2
+    returns)

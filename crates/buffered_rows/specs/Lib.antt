@@ -1,0 +1,2 @@
+-- Rows of a task by way of buffers.
+pub mod Row

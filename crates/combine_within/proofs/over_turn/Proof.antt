@@ -1,0 +1,79 @@
+use mathlib.Core.Path.{refl, sym, _∙_}
+use native.Mathlib.Omega.{arith}
+use denote.Ref.{now}
+use Rattle.pixel.specs.Rules.{blendModeFactors}
+use Rattle.pixel.specs.declared.blend.RuleName.the-variants.{SrcOver}
+use Rattle.combine_within.proofs.Within.{copy-within, clear-within, add-within}
+use borrow.Author.Needs.{needs}
+use Rattle.combine_within.proofs.over_turn.Statement.{statement}
+use Rattle.combine_within.proofs.over_turn.Tie as tie
+
+alphas-requires : tie.Need-alphas-requires
+alphas-requires c κs = search needs
+
+copy-four-requires : tie.Need-copy-four-requires
+copy-four-requires c κs = search needs
+
+same-length : tie.Need-same-length
+same-length c = search needs
+
+returns : tie.Need-returns
+returns c =
+    let t = c .before .before .before .before in
+    let k = t .before .before .before in
+    let a = k .before .args in
+    copy-within (blendModeFactors SrcOver) (now (a .m)) _ (a .to) (a .from) (λ j. omega (arith, k .slice-known .given j)) (λ y. (refl, refl))
+    (sym (t .before .alphas .ensures) ∙ t .if1 .taken) (c .before .before .copy-four .ensures)
+
+words-requires : tie.Need-words-requires
+words-requires c κs = search needs
+
+same-length-2 : tie.Need-same-length-2
+same-length-2 c = search needs
+
+returns-2 : tie.Need-returns-2
+returns-2 c =
+    let k = c .before .before .before .before .before .before .before in
+    let a = k .before .args in
+    clear-within (blendModeFactors SrcOver) (now (a .m)) (now (a .m)) (a .to) (a .from) (λ j. omega (arith, k .slice-known .given j)) (c .before .words .ensures (c .if3 .taken))
+
+add-bytes-requires : tie.Need-add-bytes-requires
+add-bytes-requires c κs = search needs
+
+same-length-3 : tie.Need-same-length-3
+same-length-3 c = search needs
+
+returns-3 : tie.Need-returns-3
+returns-3 c =
+    let t = c .before .before .before .before .before .before .before in
+    let f = t .before .before in
+    let k = f .before .before in
+    let a = k .before .args in
+    add-within (blendModeFactors SrcOver) (now (a .m)) _ (a .to) (a .from) (λ j. omega (arith, k .slice-known .given j)) (sym (f .alphas .ensures) ∙ t .if2 .taken) (c .before .before .add-bytes .ensures)
+
+over-four-requires : tie.Need-over-four-requires
+over-four-requires c κs = search needs
+
+same-length-4 : tie.Need-same-length-4
+same-length-4 c = search needs
+
+returns-4 : tie.Need-returns-4
+returns-4 c = search needs
+
+pub over-turn-spec : {M : Type 1} → statement M
+over-turn-spec =
+    tie.close
+    (tie.spec
+    alphas-requires
+    copy-four-requires
+    same-length
+    returns
+    words-requires
+    same-length-2
+    returns-2
+    add-bytes-requires
+    same-length-3
+    returns-3
+    over-four-requires
+    same-length-4
+    returns-4)

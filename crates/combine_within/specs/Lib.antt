@@ -1,0 +1,2 @@
+-- Rows blended inside one slice.
+pub mod Within

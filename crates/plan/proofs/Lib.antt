@@ -1,0 +1,4 @@
+-- Laws of plans and of blended bytes.
+pub mod Factors
+pub mod Channels
+pub mod Blends

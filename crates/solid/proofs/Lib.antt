@@ -1,0 +1,2 @@
+-- Laws of one colour over a row.
+pub mod Over

@@ -1,0 +1,2 @@
+-- One colour over a row of ARGB8888 pixels.
+pub mod Over

@@ -1,0 +1,2 @@
+-- a loop over the rows of a task
+pub mod Upto

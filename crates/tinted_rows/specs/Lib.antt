@@ -1,0 +1,2 @@
+-- Rows of a task that lays one colour over its output.
+pub mod Row

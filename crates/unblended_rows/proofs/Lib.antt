@@ -1,0 +1,2 @@
+-- a task whose output rows are rows of its source
+pub mod Moved

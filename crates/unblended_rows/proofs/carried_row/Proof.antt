@@ -1,0 +1,80 @@
+use mathlib.Core.Path.{sym, _∙_}
+use native.Mathlib.Omega.{arith}
+use denote.Ref.{now}
+use Rattle.raster.proofs.Pixel.{pixel-plain}
+use Rattle.unblended_rows.proofs.Moved.{moved-parts, source-buffer}
+use Rattle.raster.proofs.Place.{ordered, room, fetches, length-window, row-fits, row-drawn}
+use borrow.Author.Needs.{needs}
+use Rattle.unblended_rows.proofs.carried_row.Statement.{statement}
+use Rattle.unblended_rows.proofs.carried_row.Tie as tie
+
+cast-width : tie.Need-cast-width
+cast-width c = search needs
+
+row-start-requires : tie.Need-row-start-requires
+row-start-requires c κs = search needs
+
+sub-at : tie.Need-sub-at
+sub-at c = search needs
+
+fetch-bytes-requires : tie.Need-fetch-bytes-requires
+fetch-bytes-requires c κs =
+    let s = c .before .before .before .before .before .before .before .before in
+    let a = s .args in
+    let m = moved-parts (a .task) (s .pre .1 .moved) in
+    let f = fetches (s .pre .0 .ask) (now (a .source)) (s .pre .0 .buffers .source) in
+    (record { inside = f .inside (m .buffer); across = f .across; down = f .down; room = f .room }, m .upright, m .kept)
+
+sub-store-at : tie.Need-sub-store-at
+sub-store-at c = ordered (c .before .before .before .before .before .before .before .before .before .before .before .pre .0 .ask)
+
+part-store-at-start : tie.Need-part-store-at-start
+part-store-at-start c =
+    let r = c .before .before .before .before .before .before .before .before .before .before .before .pre .0 .ask in
+    omega (arith, ordered r, room r)
+
+part-store-at-end : tie.Need-part-store-at-end
+part-store-at-end c = search needs
+
+store-at-requires : tie.Need-store-at-requires
+store-at-requires c κs =
+    let f = c .before .before .before .before in
+    let t = f .before .before .before in
+    let p = t .before .before .before .before .before .before .pre .0 in
+    record {
+      inside = omega (arith, row-fits (p .ask) _ (t .row-start .ensures), length-window (p .ask));
+      room = omega (arith, f .fetch-bytes .kept .0, p .buffers .source, p .ask .drawable .clear .output .narrow);
+    }
+
+same-length : tie.Need-same-length
+same-length c = search needs
+
+same-length-2 : tie.Need-same-length-2
+same-length-2 c = search needs
+
+returns : tie.Need-returns
+returns c =
+    let f = c .before .before .before .before .before .before .before in
+    let t = f .before .before .before in
+    let s = t .before .before .before .before .before .before in
+    let a = s .args in
+    let b = c .before .before .store-at in
+    let m = moved-parts (a .task) (s .pre .1 .moved) in
+    row-drawn (s .pre .0 .ask) _ (t .row-start .result) (b .last .0) (t .row-start .ensures) (b .ensures)
+    (λ x u. rw (← m .format) (f .fetch-bytes .ensures x u) ∙ sym (pixel-plain (a .task) (now (a .memory)) x (a .y) (s .pre .1 .plain) ∙ source-buffer (a .task .source) (now (a .memory)) x (a .y) (m .buffer)))
+
+pub carried-row-spec : {M : Type 1} → statement M
+carried-row-spec =
+    tie.close
+    (tie.spec
+    cast-width
+    row-start-requires
+    sub-at
+    fetch-bytes-requires
+    sub-store-at
+    part-store-at-start
+    part-store-at-end
+    store-at-requires
+    same-length
+    same-length-2
+    returns)

@@ -1,0 +1,65 @@
+use mathlib.Core.Path.{sym, _∙_}
+use native.Mathlib.Omega.{arith}
+use denote.Ref.{now}
+use Rattle.raster.proofs.Pixel.{pixel-plain, source-uniform}
+use Rattle.raster.proofs.Place.{ordered, room, uniform-down, length-window, row-fits, row-drawn}
+use borrow.Author.Needs.{needs}
+use Rattle.unblended_rows.proofs.filled_row.Statement.{statement}
+use Rattle.unblended_rows.proofs.filled_row.Tie as tie
+
+row-start-requires : tie.Need-row-start-requires
+row-start-requires c κs = search needs
+
+sub-at : tie.Need-sub-at
+sub-at c = search needs
+
+uniform-colour-requires : tie.Need-uniform-colour-requires
+uniform-colour-requires c κs =
+    let s = c .before .before .before .before in
+    uniform-down (s .pre .ask) (s .pre .fill .uniform)
+
+sub-fill-at : tie.Need-sub-fill-at
+sub-fill-at c = ordered (c .before .before .before .before .before .pre .ask)
+
+part-fill-at-start : tie.Need-part-fill-at-start
+part-fill-at-start c =
+    let r = c .before .before .before .before .before .pre .ask in
+    omega (arith, ordered r, room r)
+
+part-fill-at-end : tie.Need-part-fill-at-end
+part-fill-at-end c = search needs
+
+fill-at-requires : tie.Need-fill-at-requires
+fill-at-requires c κs =
+    let r = c .before .before .before .before .before .before .pre .ask in
+    omega (arith, row-fits r _ (c .before .before .row-start .ensures), length-window r)
+
+same-length : tie.Need-same-length
+same-length c = search needs
+
+returns : tie.Need-returns
+returns c =
+    let u = c .before .before .before .before in
+    let t = u .before in
+    let s = t .before .before .before .before in
+    let a = s .args in
+    let f = c .before .before .fill-at in
+    row-drawn (s .pre .ask) _ (t .row-start .result) (f .last .0) (t .row-start .ensures) (f .ensures)
+    (λ x l.
+    u .uniform-colour .ensures
+    ∙ (source-uniform (a .task .source) (now (a .memory)) x (a .y) (s .pre .fill .uniform) (s .pre .ask .drawable .clear .upright)
+    ∙ sym (pixel-plain (a .task) (now (a .memory)) x (a .y) (s .pre .fill .plain))))
+
+pub filled-row-spec : {M : Type 1} → statement M
+filled-row-spec =
+    tie.close
+    (tie.spec
+    row-start-requires
+    sub-at
+    uniform-colour-requires
+    sub-fill-at
+    part-fill-at-start
+    part-fill-at-end
+    fill-at-requires
+    same-length
+    returns)

@@ -1,0 +1,2 @@
+-- Rows of a task without blending.
+pub mod Row

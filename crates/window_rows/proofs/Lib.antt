@@ -1,0 +1,2 @@
+-- a task whose rows are blended inside the window
+pub mod Within

@@ -1,0 +1,2 @@
+-- Rows of a task blended inside the window.
+pub mod Row
