@@ -61,7 +61,7 @@ fn count_lines(line: &mut [u8], counts: [u64; 14]) -> usize
     end
 }
 
-// The lines of totals, at the start of a buffer; their length.
+// The lines of totals, at the start of a buffer; their length. That the counts are fourteen numbers of 64 bits is so by their type, and said for the reader below.
 pub fn write(line: &mut [u8], totals: Totals) -> usize
     ensures { λ r. ⌜ (lineOf (now (line .exit)) r ≡ appended (lineOf (now (line .entry)) 0) (totalsText totals)) × (length (totalsText totals) ≤ 672) × Counts (totals .counts) ⌝ }
 {
