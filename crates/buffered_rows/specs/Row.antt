@@ -36,7 +36,7 @@ pub record RowMixes (t : Task) (at : ℕ) (p : Plan) (bytes buffer : List ℕ) :
   pub format : t .output .format ≡ Argb8888
   pub plan : p ≡ planOf (t .blending .rule)
 
--- and the source's colours are in a buffer
+-- what is asked where row y of a task is finished: its source colours are in a buffer
 pub record RowFetched (window : Range) (memory s d : List ℕ) (t : Task) (y : ℕ) : Type 0 where
   pub row : RowBuffered window memory s d t y
   pub held : HoldsColours s (t .output .width) (λ (x : ℕ). sourceColour (t .source) memory x y)

@@ -99,7 +99,7 @@ pub record Opened (w : Window) (s after : State) : Type 0 where
 -- memory, the ring and what waits are as they were
 pub record Closed (client : ℕ) (s after : State) : Type 0 where
   pub free : isOpen (after .engine) client ≡ false
-  -- row 4 of open does not hold of a window inside the freed one, nor any row before it
+  -- a window inside the freed one, of a byte or more, can be opened at once
   pub window-free : (w : Window) → 0 < w .length → clientAt (s .engine) client .window .start ≤ w .start →
       w .start + w .length ≤ clientAt (s .engine) client .window .start + clientAt (s .engine) client .window .length → firstRefusal (refusalTableOf (opens w) after) ≡ 0
   pub others : (k : ℕ) → ¬ (k ≡ client) → clientAt (after .engine) k ≡ clientAt (s .engine) k
@@ -121,7 +121,7 @@ withPlace engine client c = record {
   staged = engine .staged;
 }
 
--- what a closed place holds does not matter: with anything else in it, later calls answer the same and leave the same memory
+-- what a closed place holds does not matter: with any other closed client in it, later calls answer the same and leave the same memory
 abbrev pub ClosedPlaceFree : State → Type 0
 ClosedPlaceFree s = (client : ℕ) (c : Client) → clientAt (s .engine) client .opened ≡ false → c .opened ≡ false → (later : List Call) →
     let other : State = mkState (withPlace (s .engine) client c) (s .ring) (s .memory) in

@@ -1,4 +1,4 @@
--- What is asked of the rows that are mixed. A row buffer is a row of ARGB8888 pixels.
+-- Internal: what is asked of the rows that are mixed. A row buffer is a row of ARGB8888 pixels.
 use mathlib.Core.Path.{_≡_}
 use mathlib.Core.List.{List}
 use Prim.Native.Nat.{ℕ, _*_, _≤_}

@@ -1,4 +1,4 @@
--- The setting that a task has is the one that crate transform reads out of its source control word.
+-- The setting that a task has is the one that crate orientation reads out of its source control word.
 use mathlib.Core.Path.{_≡_, refl}
 use Prim.Native.Nat.{ℕ}
 use Rattle.orientation.specs.Bits.{settingOf}

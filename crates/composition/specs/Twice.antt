@@ -2,7 +2,7 @@
 -- off, gives the bytes of one drawing with the composed setting"; "equal drawing for all pictures holds exactly for the same orientation"). What to read
 -- is `TwoTasks` and `Orientations`; `TwoTurns` says the same of pictures, with less asked. proofs/Twice.antt proves `Tasks`, `TwoTurns` and `TwoTasks`,
 -- proofs/Orientation.antt `Orientations`. That composition is associative and has a neutral setting and inverses is said of the settings themselves, in
--- crate transform, specs/Laws.antt.
+-- crate orientation, specs/Laws.antt.
 use mathlib.Core.Path.{_≡_}
 use mathlib.Core.Bool.{true, false}
 use mathlib.Core.List.{List}

@@ -1,4 +1,4 @@
--- What a byte of a row of ARGB8888 pixels becomes (01, "Pixels"). Such a pixel lies in memory as B, G, R, A.
+-- Internal: what a byte of a row of ARGB8888 pixels becomes (01, "Pixels"). Such a pixel lies in memory as B, G, R, A.
 use Prim.Native.Nat.{ℕ, _+_, _*_, _/_, _%_}
 use mathlib.Core.List.{List}
 use lib.ListN.{getD}

@@ -1,4 +1,4 @@
--- How a rule is computed. The definition of a task does not speak of it: every plan makes the same row (proofs/Factors).
+-- Internal: how a rule is computed. The definition of a task does not speak of it; that a plan has the rule's factors is proofs/Factors.
 use mathlib.Core.Path.{_≡_}
 use mathlib.Core.Bool.{Bool, true, false, _&&_}
 use Prim.Native.Nat.{ℕ}

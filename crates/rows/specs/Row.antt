@@ -25,7 +25,7 @@ use Rattle.register.specs.Size.{sizeOf}
 abbrev pub wordColour : ℕ → Colour
 wordColour word = unpacked (layoutOf Argb8888) word
 
--- the colour of pixel x of a buffer, which is a row of ARGB8888 pixels
+-- Internal: the colour of pixel x of a buffer, which is a row of ARGB8888 pixels
 abbrev pub colourIn : List ℕ → ℕ → Colour
 colourIn buffer x = loadPixel Argb8888 buffer (x * 4)
 

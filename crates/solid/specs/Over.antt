@@ -1,4 +1,4 @@
--- One colour over a row of ARGB8888 pixels (01, "Pixels": SRC_OVER; 02, request 13). Such a pixel lies in memory as B, G, R, A.
+-- Internal: one colour over a row of ARGB8888 pixels (01, "Pixels": SRC_OVER; 02, request 13). Such a pixel lies in memory as B, G, R, A.
 use mathlib.Core.Path.{_≡_}
 use mathlib.Core.Bool.{cond}
 use mathlib.Core.List.{List}

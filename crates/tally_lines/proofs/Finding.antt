@@ -68,13 +68,14 @@ going-all text counts own at k all size O G = sym (take-all k counts (omega arit
 
 -- ---- what is read
 
-module _ (text : List ℕ) (totals : Totals) (F : Finds text (totals .counts)) where
+module _ (text : List ℕ) (totals : Totals) (F : Finds text (totals .counts)) (C : Counts (totals .counts)) where
   -- the lines are compared with the text
   pub reads-by : (line : List ℕ) (well : Bool) → line ≡ totalsText totals → (well ≡ true → line ≡ text) → (line ≡ text → well ≡ true) → Reads text (record { well = well; totals = totals })
   reads-by line well is then only = record {
     exact = λ e. sym (then e) ∙ is;
+    counts = λ e. C;
     back = λ own O e. let same : totals .counts ≡ own .counts = F (own .counts) O e in (only (is ∙ ap (countLines 0) same ∙ sym e), ap (λ (xs : List ℕ). record { counts = xs }) same);
   }
 
 pub reads-none : (text : List ℕ) (totals : Totals) → ((own : Totals) → Counts (own .counts) → text ≡ totalsText own → ⊥) → Reads text (record { well = false; totals = totals })
-reads-none text totals never = record { exact = λ e. absurd (false≢true e); back = λ own O e. absurd (never own O e) }
+reads-none text totals never = record { exact = λ e. absurd (false≢true e); counts = λ e. absurd (false≢true e); back = λ own O e. absurd (never own O e) }

@@ -15,8 +15,9 @@ pub record Counts (counts : List ℕ) : Type 0 where
   pub small : (k : ℕ) → getD counts k 0 ≤ largest
 
 pub record Reads (text : List ℕ) (r : Reading) : Type 0 where
-  -- the text is what the totals that were read print: any other one is refused
+  -- the text is what the totals that were read print, fourteen numbers of 64 bits: any other one is refused
   pub exact : r .well ≡ true → text ≡ totalsText (r .totals)
+  pub counts : r .well ≡ true → Counts (r .totals .counts)
   -- and what totals print reads back as them
   pub back : (totals : Totals) → Counts (totals .counts) → text ≡ totalsText totals → (r .well ≡ true) × (r .totals ≡ totals)
 

@@ -30,7 +30,10 @@ fn add_files(lots: bool, first: usize, count: usize) {
         totals = after;
         refusal = answer.refusal;
         index += 1;
-        totals_io::show_progress(PROGRESS, index - first, count - first);
+        // a file that was too much is not done
+        if refusal == 0 {
+            totals_io::show_progress(PROGRESS, index - first, count - first);
+        }
     }
     totals_io::print_answer(Answer { refusal, totals });
 }

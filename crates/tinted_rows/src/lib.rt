@@ -44,7 +44,7 @@ fn is_pixel(mode: AlphaMode) -> bool
     }
 }
 
-// Whether a task is SRC_OVER of one colour on its own output.
+// Whether a task is SRC_OVER of one colour on its own output, with the output's own alphas.
 pub fn is_tinted(task: Task, plan: Plan) -> bool
     requires { ⌜ plan ≡ planOf (task .blending .rule) ⌝ }
     ensures { λ r. ⌜ r ≡ isTinted task ⌝ }

@@ -41,7 +41,7 @@ module _ (totals : Totals) where
     pub text-some : (answer : Answer) → reading .well ≡ true → AddsTotals totals (reading .totals) answer → AddsText totals text (record { answer = answer; well = true })
     text-some answer good A = record {
       lines = λ other O e. (refl, rw (R .back other O e .1) at A);
-      only = λ e. record { other = reading .totals; printed = R .exact good; added = A };
+      only = λ e. record { other = reading .totals; counts = R .counts good; printed = R .exact good; added = A };
       nothing = λ e. absurd (false≢true (sym e));
     }
 

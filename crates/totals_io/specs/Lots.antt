@@ -9,9 +9,10 @@ use Rattle.tally_lines.specs.Lines.{totalsText}
 use Rattle.tally_lines.specs.Reading.{Counts}
 use Rattle.totals_io.specs.declared.Lot.{Lot}
 
--- the totals that print this text were added
+-- the totals that print this text were added, fourteen numbers of 64 bits
 pub record AddsPrinted (totals : Totals) (text : List ℕ) (r : Lot) : Type 0 where
   pub other : Totals
+  pub counts : Counts (other .counts)
   pub printed : text ≡ totalsText other
   pub added : AddsTotals totals other (r .answer)
 

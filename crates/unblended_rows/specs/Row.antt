@@ -15,12 +15,12 @@ pub record TaskFillable (t : Task) : Type 0 where
   pub plain : t .blending .on ≡ false
   pub uniform : isUniform (t .source .mode) ≡ true
 
--- or no buffer is needed, since it is all of one colour
+-- what is asked where a row of one colour is drawn, which needs no buffer
 pub record RowFillable (window : Range) (memory : List ℕ) (t : Task) (y : ℕ) : Type 0 where
   pub ask : RowDrawable window memory t y
   pub fill : TaskFillable t
 
--- the output rows of a task without blending are rows of its source, byte by byte: a buffer of the output's format, neither turned nor
+-- the source's rows can be taken byte by byte as they are: a buffer of the output's format, neither turned nor
 -- flipped from left to right (02, request 13)
 unfoldable pub isMoved : Task → Bool
 isMoved t = isBuffer (t .source .mode) && isStraight (t .source .transform .rotation) (t .source .transform .flip) && sameFormat (t .source .surface .format) (t .output .format)

@@ -81,7 +81,7 @@ pub fn filled_row(memory: &mut [u8], window: Range, task: Task, y: u16)
     fill_at(&mut memory[start..end], at, output, c);
 }
 
-// Whether the output rows of a task without blending are rows of its source, byte by byte.
+// Whether the rows of a task's source can be taken byte by byte as they are.
 pub fn is_moved(task: Task) -> bool
     ensures { λ r. ⌜ r ≡ isMoved task ⌝ }
 {

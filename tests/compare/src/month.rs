@@ -12,18 +12,18 @@ pub fn replays2(count: u64, seed: u64, program: &[&str]) -> Result<bool> {
 }
 
 /// What the tally prints of some files. What it says on standard error is no count.
-fn printed(program: &str, files: &[PathBuf]) -> Result<String> {
-    let output = Command::new(program).args(files).output()?;
-    Ok(String::from_utf8_lossy(&[output.stdout, output.stderr].concat()).into_owned())
-}
-
-fn agrees(program: &str, folder: &Path, lot: &[Vec<u8>], name: &str) -> Result<bool> {
+fn printed(program: &str, folder: &Path, lot: &[Vec<u8>]) -> Result<String> {
     let paths: Vec<PathBuf> = (0..lot.len()).map(|k| folder.join(format!("{k}.replay"))).collect();
     for (path, file) in paths.iter().zip(lot) {
         std::fs::write(path, file)?;
     }
+    let output = Command::new(program).args(&paths).output()?;
+    Ok(String::from_utf8_lossy(&[output.stdout, output.stderr].concat()).into_owned())
+}
+
+fn agrees(program: &str, folder: &Path, lot: &[Vec<u8>], name: &str) -> Result<bool> {
     let expected = month::tallied([0; month::COUNTS], lot.iter().map(Vec::as_slice));
-    let found = printed(program, &paths)?;
+    let found = printed(program, folder, lot)?;
     if found == expected {
         return Ok(true);
     }
@@ -97,10 +97,13 @@ fn adds(program: &str, folder: &Path, lots: &[Vec<u8>], name: &str) -> Result<bo
     Ok(false)
 }
 
-/// Whether two lots, tallied apart and added, are the lots together.
+/// Whether two lots, tallied apart by the program and added by it, are the lots together. Of one file the first half is empty, and its totals are zeros.
 fn apart(program: &str, folder: &Path, files: &[Vec<u8>], number: u64) -> Result<bool> {
     let (one, two) = files.split_at(files.len() / 2);
-    let texts = [one, two].map(|lot| month::tallied([0; month::COUNTS], lot.iter().map(Vec::as_slice)).into_bytes());
+    let mut texts = Vec::new();
+    for lot in [one, two] {
+        texts.push(if lot.is_empty() { month::printed(&[0; month::COUNTS], false).into_bytes() } else { printed(program, folder, lot)?.into_bytes() });
+    }
     let together = month::tallied([0; month::COUNTS], files.iter().map(Vec::as_slice));
     let found = added(program, folder, &texts)?;
     if found == (together.clone(), String::new()) {

@@ -41,7 +41,7 @@ returns c =
     let l = c .before .loop in
     let s = c .before .before .before in
     let counts : Counts (s .args .t2) = record { size = l .inv .2; small = λ k. small (s .args .t2) k (elem-fits w64 w64 (s .args .t2) (s .good .1 .0 .0) k (s .good .1 .0 .1 .1) tt) } in
-    (sym (l .inv .3 ∙ lines-none _ _ (l .k) (omega (arith, l .inv .2, c .loop-test .left))), lines-size _ counts)
+    (sym (l .inv .3 ∙ lines-none _ _ (l .k) (omega (arith, l .inv .2, c .loop-test .left))), lines-size _ counts, counts)
 
 pub count-lines-spec : {M : Type 1} → statement M
 count-lines-spec =

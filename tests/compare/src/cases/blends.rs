@@ -5,7 +5,7 @@ use independent::engine::Numbers;
 use independent::made_tasks::Fields;
 use independent::pixel::{FORMATS, RULES};
 use independent::sample_tasks::{blended, copy, Place, ARGB8888};
-use independent::writer::field::{DESTINATION, DESTINATION_FACTOR, SOURCE_FACTOR};
+use independent::writer::field::{ADDRESS, DESTINATION, DESTINATION_FACTOR, SOURCE_FACTOR};
 
 /// Levels of a channel at the edges and between.
 const GRID: [u8; 12] = [0, 1, 2, 63, 64, 100, 127, 128, 191, 200, 254, 255];
@@ -21,6 +21,7 @@ pub fn compare(trials: &mut Trials) -> Agreed {
     all_channels(trials)?;
     all_sums(trials)?;
     within_window(trials)?;
+    through_buffers(trials)?;
     formats(trials)
 }
 
@@ -31,22 +32,25 @@ fn by_factors(fields: Fields, source: u32, destination: u32) -> Fields {
     fields
 }
 
-/// Source pixels blended with as many destination pixels, both ARGB8888, in rows of at most 256.
+/// Source pixels blended with as many destination pixels, both ARGB8888, in rows of at most 256: the source in common, and in the window.
 pub fn blend_pixels(trials: &mut Trials, source: &[u32], destination: &[u32], blended: impl Fn(Fields) -> Fields) -> Agreed {
     let width = source.len().min(256);
     let height = source.len().div_ceil(width);
     let stride = (4 * width).next_multiple_of(8);
-    let common = stride * height;
-    let mut buffers = bench(Numbers { ring: 128, memory: 2 * common as u64, common: common as u64 }, 0);
-    for (pixels, start) in [(source, 0), (destination, common)] {
-        for (i, pixel) in pixels.iter().enumerate() {
-            let at = start + i / width * stride + 4 * (i % width);
-            buffers.memory[at..at + 4].copy_from_slice(&pixel.to_le_bytes());
+    let half = stride * height;
+    let place = |address| Place { address, stride: stride as u32, width: width as u32, height: height as u32, format: ARGB8888 };
+    let task = blended(copy(place(0), place(half as u32), 0, 0, 0));
+    for common in [half, 0] {
+        let mut buffers = bench(Numbers { ring: 128, memory: 2 * half as u64, common: common as u64 }, 0);
+        for (pixels, start) in [(source, 0), (destination, half)] {
+            for (i, pixel) in pixels.iter().enumerate() {
+                let at = start + i / width * stride + 4 * (i % width);
+                buffers.memory[at..at + 4].copy_from_slice(&pixel.to_le_bytes());
+            }
         }
+        trials.task(&buffers, &task)?;
     }
-    let (width, height, stride) = (width as u32, height as u32, stride as u32);
-    let place = |address| Place { address, stride, width, height, format: ARGB8888 };
-    trials.task(&buffers, &blended(copy(place(0), place(common as u32), 0, 0, 0))).map(|_| ())
+    Ok(())
 }
 
 fn pixel(alpha: u8, red: u8, green: u8, blue: u8) -> u32 {
@@ -128,6 +132,24 @@ fn within_window(trials: &mut Trials) -> Agreed {
         let task = copy(place(address as u32), place(2001), 0, 0, flip as u32);
         for (name, _, _) in RULES {
             trials.task(&buffers, &blended(task, name))?;
+        }
+    }
+    Ok(())
+}
+
+/// Rows about the width up to which a task makes small buffers, and as wide as any, under every rule: the source in common, blended with the output and with a
+/// destination beside it.
+fn through_buffers(trials: &mut Trials) -> Agreed {
+    for width in [255, 256, 257, 258, 4096u32] {
+        let stride = (4 * width).next_multiple_of(8);
+        let part = 2 * stride;
+        let bench = bench(Numbers { ring: 128, memory: 3 * u64::from(part), common: part.into() }, 0);
+        let place = |address| Place { address, stride, width, height: 2, format: ARGB8888 };
+        for (name, _, _) in RULES {
+            let mut task = blended(copy(place(0), place(part), 0, 0, 0), name);
+            trials.task(&bench, &task)?;
+            task[DESTINATION + ADDRESS] = 2 * part;
+            trials.task(&bench, &task)?;
         }
     }
     Ok(())
