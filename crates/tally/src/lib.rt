@@ -15,7 +15,7 @@ ghost use Rattle.records.specs.Reading.{entryIn, Lies};
 ghost use Rattle.totals.specs.declared.Totals.{Totals};
 ghost use Rattle.tally.specs.Counts.{editionOf};
 ghost use Rattle.tally.specs.Running.{plus, taskPlus, ranPlus, unscoredPlus, submittedPlus, recordPlus, foundPlus};
-ghost use Rattle.tally.specs.Tally.{Adds, begun, fedBy, heldBy, finished, Stands, Feeds};
+ghost use Rattle.tally.specs.Tally.{Adds, tallyStart, fedBy, heldBy, tallyAnswer, Stands, Feeds};
 use acceptance::Submitted;
 use batch::Step;
 use batch::next_task;
@@ -205,7 +205,7 @@ fn edition_for(begun: bool, edition: Edition, input: &[u8]) -> Edition
 
 // Before the version byte, with these counts, which are those of the totals.
 fn start_with(before: Totals, counts: [u64; 14]) -> Tally
-    ensures { λ r. ⌜ (before .counts ≡ counts → (r ≡ begun before) × ((held : List ℕ) → 32777 ≤ length held → Stands before [] r held)) ⌝ }
+    ensures { λ r. ⌜ (before .counts ≡ counts → (r ≡ tallyStart before) × ((held : List ℕ) → 32777 ≤ length held → Stands before [] r held)) ⌝ }
 {
     Tally {
         before: before,
@@ -221,7 +221,7 @@ fn start_with(before: Totals, counts: [u64; 14]) -> Tally
 
 // Before the version byte of a file that is to be added to these totals.
 pub fn start(totals: Totals) -> Tally
-    ensures { λ r. ⌜ (r ≡ begun totals) × ((held : List ℕ) → 32777 ≤ length held → Stands totals [] r held) ⌝ }
+    ensures { λ r. ⌜ (r ≡ tallyStart totals) × ((held : List ℕ) → 32777 ≤ length held → Stands totals [] r held) ⌝ }
 {
     let counts = totals.counts;
     start_with(totals, counts)
@@ -282,7 +282,7 @@ pub fn feed_piece(tally: Tally, held: &mut [u8], piece: &[u8]) -> Tally
 
 // What is answered at the end of a file: the new totals; or refusal 19, that a count would grow too large, and the totals as before that file.
 pub fn finish(tally: Tally) -> Answer
-    ensures { λ r. ⌜ (r ≡ finished tally) × ((totals : Totals) (seen held : List ℕ) → Stands totals seen tally held → Adds totals seen r) ⌝ }
+    ensures { λ r. ⌜ (r ≡ tallyAnswer tally) × ((totals : Totals) (seen held : List ℕ) → Stands totals seen tally held → Adds totals seen r) ⌝ }
 {
     let before = tally.before;
     let running = tally.running;

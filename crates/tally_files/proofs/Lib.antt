@@ -1,0 +1,2 @@
+-- Laws of files that are added one after another.
+pub mod Files

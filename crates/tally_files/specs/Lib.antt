@@ -1,0 +1,2 @@
+-- What the files that are added add.
+pub mod Kinds
