@@ -89,8 +89,8 @@ lots (file ∷ files) files′ c = omega (arith, lots files files′ c)
 grown : Totals → (file : List ℕ) → Totals
 grown totals file = record {
   counts = n batches ∷ n tasks ∷ n outputPixels ∷ n blendedPixels
-  ∷ n (faulted ReservedBits) ∷ n (faulted GroupLength) ∷ n (faulted OpenTask) ∷ n (faulted NotWritable) ∷ n (faulted Forbidden)
-  ∷ n (faulted BadSurface) ∷ n (faulted SizeMismatch) ∷ n (faulted OutOfBounds) ∷ n (faulted Overlap) ∷ n withoutScore ∷ [];
+      ∷ n (faulted ReservedBits) ∷ n (faulted GroupLength) ∷ n (faulted OpenTask) ∷ n (faulted NotWritable) ∷ n (faulted Forbidden)
+      ∷ n (faulted BadSurface) ∷ n (faulted SizeMismatch) ∷ n (faulted OutOfBounds) ∷ n (faulted Overlap) ∷ n withoutScore ∷ [];
 }
   where
     n : Count → ℕ

@@ -28,7 +28,7 @@ module _ (lots : Bool) (totals : Totals) where
   files-none number e = record { files = []; added = none; all = λ z. sym e; refused = λ n. absurd (n refl) }
 
   module _ (number : ℕ) (sum : FilesOutcome) (outcome : Outcome) (none-refused : sum .answer .refusal ≡ 0)
-    (F : AddsFiles (AddsOf lots) totals number sum) (A : AddsFile (AddsOf lots) (sum .answer .totals) outcome) where
+      (F : AddsFiles (AddsOf lots) totals number sum) (A : AddsFile (AddsOf lots) (sum .answer .totals) outcome) where
     so-many : length (F .files) + sum .unread ≡ number
     so-many = F .all none-refused
 
@@ -46,11 +46,14 @@ module _ (lots : Bool) (totals : Totals) where
           files = F .files;
           added = subst (λ (t : Totals). AddedAll (AddsOf lots) totals (F .files) t) (sym same) (F .added);
           all = λ z. absurd (omega (arith, z, large));
-          refused = λ n. (record {
-            file = A .file;
-            refusal = large;
-            refused = subst (λ (t : Totals). AddsOf lots t (A .file) (outcome .answer)) (sym same) (A .added e);
-          }, omega (arith, so-many));
+          refused = λ n. (
+            record {
+              file = A .file;
+              refusal = large;
+              refused = subst (λ (t : Totals). AddsOf lots t (A .file) (outcome .answer)) (sym same) (A .added e);
+            },
+            omega (arith, so-many),
+          );
         }
 
     pub next-unread : outcome .read ≡ false → AddsFiles (AddsOf lots) totals (number + 1) (record { answer = outcome .answer; unread = sum .unread + 1 })

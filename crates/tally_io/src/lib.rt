@@ -30,7 +30,7 @@ fn read_some(fd: i32, name: &[u8], tally: Tally, held: &mut [u8]) -> Progress
             well: got.well,
         };
     }
-    let after = tally::feed_piece(tally, held, &piece[..got.count]);
+    let after = tally_pieces::feed_piece(tally, held, &piece[..got.count]);
     Progress {
         tally: after,
         more: true,

@@ -91,9 +91,6 @@ pub fn unread(totals: Totals) -> Outcome
 {
     Outcome {
         read: false,
-        answer: Answer {
-            refusal: 0,
-            totals: totals,
-        },
+        answer: Answer { refusal: 0, totals },
     }
 }

@@ -1,12 +1,12 @@
-use Rattle.tally.proofs.Batch.{submitted-refused, submitted-within}
+use Rattle.tally_pieces.proofs.Batch.{submitted-refused, submitted-within}
 use borrow.Author.Needs.{needs}
-use Rattle.tally.proofs.add_submitted.Statement.{statement}
-use Rattle.tally.proofs.add_submitted.Tie as tie
-use Rattle.tally.proofs.add_submitted.Reads as reads
-use Rattle.tally.proofs.add_submitted.Lts as lts
+use Rattle.tally_pieces.proofs.add_submitted.Statement.{statement}
+use Rattle.tally_pieces.proofs.add_submitted.Tie as tie
+use Rattle.tally_pieces.proofs.add_submitted.Reads as reads
+use Rattle.tally_pieces.proofs.add_submitted.Lts as lts
 use Rattle.acceptance.proofs.accept.Reads as accept-reads
 use Rattle.editions.proofs.reset_of.Reads as reset-of-reads
-use Rattle.tally.proofs.add_batch.Reads as add-batch-reads
+use Rattle.tally_pieces.proofs.add_batch.Reads as add-batch-reads
 
 accept-requires : tie.Need-accept-requires
 accept-requires c κs = search needs

@@ -1,15 +1,15 @@
 use mathlib.Core.Path.{ap, _∙_}
 use Prim.Native.Nat.{ℕ, _-_}
 use native.Mathlib.Omega.{arith}
 use Rattle.tally.specs.Running.{plus}
 use Rattle.tally.proofs.Adding.{fault-between}
 use borrow.Author.Needs.{needs}
-use Rattle.tally.proofs.add_fault.Statement.{statement}
-use Rattle.tally.proofs.add_fault.Tie as tie
-use Rattle.tally.proofs.add_fault.Reads as reads
-use Rattle.tally.proofs.add_fault.Lts as lts
+use Rattle.tally_pieces.proofs.add_fault.Statement.{statement}
+use Rattle.tally_pieces.proofs.add_fault.Tie as tie
+use Rattle.tally_pieces.proofs.add_fault.Reads as reads
+use Rattle.tally_pieces.proofs.add_fault.Lts as lts
 use Rattle.rules.proofs.fault.Fault.number.Reads as number-reads
-use Rattle.tally.proofs.add.Reads as add-reads
+use Rattle.tally_pieces.proofs.add.Reads as add-reads
 
 number-requires : tie.Need-number-requires
 number-requires c κs = search needs

@@ -10,18 +10,18 @@ use Rattle.register.specs.declared.bank.Bank.{Bank}
 use Rattle.batch.specs.Batch.{decodeBatch}
 use Rattle.batch.specs.Walk.{decodeRest}
 use Rattle.batch.proofs.Steps.{step-onward}
 use Rattle.tally.specs.declared.Running.{Running}
 use Rattle.tally.specs.Running.{plus, restPlus}
-use Rattle.tally.proofs.Batch.{rest-task, rest-fault, rest-end}
-use Rattle.tally.proofs.add_batch.Statement.{statement}
-use Rattle.tally.proofs.add_batch.Tie as tie
-use Rattle.tally.proofs.add_batch.Reads as reads
-use Rattle.tally.proofs.add_batch.Lts as lts
+use Rattle.tally_pieces.proofs.Batch.{rest-task, rest-fault, rest-end}
+use Rattle.tally_pieces.proofs.add_batch.Statement.{statement}
+use Rattle.tally_pieces.proofs.add_batch.Tie as tie
+use Rattle.tally_pieces.proofs.add_batch.Reads as reads
+use Rattle.tally_pieces.proofs.add_batch.Lts as lts
 use Rattle.batch.proofs.next_task.Reads as next-task-reads
 use Rattle.register.proofs.bank.Bank.reset.Reads as reset-reads
-use Rattle.tally.proofs.add.Reads as add-reads
-use Rattle.tally.proofs.add_fault.Reads as add-fault-reads
-use Rattle.tally.proofs.add_task.Reads as add-task-reads
+use Rattle.tally_pieces.proofs.add.Reads as add-reads
+use Rattle.tally_pieces.proofs.add_fault.Reads as add-fault-reads
+use Rattle.tally_pieces.proofs.add_task.Reads as add-task-reads
 
 abbrev Inv-loop : tie.InvT-loop
 Inv-loop batch bounds current₀ at₀ so-far₀ current at so-far =

@@ -1,11 +1,11 @@
 use borrow.Author.Needs.{needs}
-use Rattle.tally.proofs.add_task.Statement.{statement}
-use Rattle.tally.proofs.add_task.Tie as tie
-use Rattle.tally.proofs.add_task.Reads as reads
-use Rattle.tally.proofs.add_task.Lts as lts
-use Rattle.tally.proofs.add.Reads as add-reads
-use Rattle.tally.proofs.pixels_if.Reads as pixels-if-reads
-use Rattle.tally.proofs.pixels_of.Reads as pixels-of-reads
+use Rattle.tally_pieces.proofs.add_task.Statement.{statement}
+use Rattle.tally_pieces.proofs.add_task.Tie as tie
+use Rattle.tally_pieces.proofs.add_task.Reads as reads
+use Rattle.tally_pieces.proofs.add_task.Lts as lts
+use Rattle.tally_pieces.proofs.add.Reads as add-reads
+use Rattle.tally_pieces.proofs.pixels_if.Reads as pixels-if-reads
+use Rattle.tally_pieces.proofs.pixels_of.Reads as pixels-of-reads
 
 pixels-of-requires : tie.Need-pixels-of-requires
 pixels-of-requires c κs = search needs

@@ -1,9 +1,9 @@
 use Rattle.tally.proofs.Adding.{edition-none, edition-second, edition-first}
 use borrow.Author.Needs.{needs}
-use Rattle.tally.proofs.edition_at.Statement.{statement}
-use Rattle.tally.proofs.edition_at.Tie as tie
-use Rattle.tally.proofs.edition_at.Reads as reads
-use Rattle.tally.proofs.edition_at.Lts as lts
+use Rattle.tally_pieces.proofs.edition_at.Statement.{statement}
+use Rattle.tally_pieces.proofs.edition_at.Tie as tie
+use Rattle.tally_pieces.proofs.edition_at.Reads as reads
+use Rattle.tally_pieces.proofs.edition_at.Lts as lts
 
 returns : tie.Need-returns
 returns c = edition-none (c .before .args .input .now) (c .if1 .taken)

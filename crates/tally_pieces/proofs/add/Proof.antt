@@ -4,12 +4,12 @@ use borrow.Author.Tests.{leb-true, not-true, not-false}
 use Prim.Native.Nat.{_+_}
 use lib.ListN.{getD}
 use Rattle.totals.specs.Totals.{largest}
 use Rattle.tally.specs.Running.{plus}
 use borrow.Author.Needs.{needs}
-use Rattle.tally.proofs.add.Statement.{statement}
-use Rattle.tally.proofs.add.Tie as tie
-use Rattle.tally.proofs.add.Reads as reads
-use Rattle.tally.proofs.add.Lts as lts
+use Rattle.tally_pieces.proofs.add.Statement.{statement}
+use Rattle.tally_pieces.proofs.add.Tie as tie
+use Rattle.tally_pieces.proofs.add.Reads as reads
+use Rattle.tally_pieces.proofs.add.Lts as lts
 use Rattle.totals.proofs.has_room.Reads as has-room-reads
 
 mul-have : tie.Need-mul-have

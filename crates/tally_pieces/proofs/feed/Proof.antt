@@ -3,15 +3,15 @@ use mathlib.Core.Path.{refl, sym, subst}
 use native.Mathlib.Omega.{arith}
 use Rattle.records.specs.Reading.{Lies}
 use borrow.Author.Tests.{eq-eqb}
 use Rattle.tally.proofs.Files.{feeds-none, feeds-by, fed-is}
 use borrow.Author.Needs.{needs}
-use Rattle.tally.proofs.feed.Statement.{statement}
-use Rattle.tally.proofs.feed.Tie as tie
-use Rattle.tally.proofs.feed.Reads as reads
-use Rattle.tally.proofs.feed.Lts as lts
+use Rattle.tally_pieces.proofs.feed.Statement.{statement}
+use Rattle.tally_pieces.proofs.feed.Tie as tie
+use Rattle.tally_pieces.proofs.feed.Reads as reads
+use Rattle.tally_pieces.proofs.feed.Lts as lts
 use Rattle.records.proofs.take.Reads as take-reads
-use Rattle.tally.proofs.add_found.Reads as add-found-reads
-use Rattle.tally.proofs.edition_for.Reads as edition-for-reads
+use Rattle.tally_pieces.proofs.add_found.Reads as add-found-reads
+use Rattle.tally_pieces.proofs.edition_for.Reads as edition-for-reads
 
 returns : tie.Need-returns
 returns c =

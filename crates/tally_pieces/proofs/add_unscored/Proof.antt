@@ -1,9 +1,9 @@
 use borrow.Author.Needs.{needs}
-use Rattle.tally.proofs.add_unscored.Statement.{statement}
-use Rattle.tally.proofs.add_unscored.Tie as tie
-use Rattle.tally.proofs.add_unscored.Reads as reads
-use Rattle.tally.proofs.add_unscored.Lts as lts
-use Rattle.tally.proofs.add.Reads as add-reads
+use Rattle.tally_pieces.proofs.add_unscored.Statement.{statement}
+use Rattle.tally_pieces.proofs.add_unscored.Tie as tie
+use Rattle.tally_pieces.proofs.add_unscored.Reads as reads
+use Rattle.tally_pieces.proofs.add_unscored.Lts as lts
+use Rattle.tally_pieces.proofs.add.Reads as add-reads
 
 enum-told : tie.Need-enum-told
 enum-told c = search needs

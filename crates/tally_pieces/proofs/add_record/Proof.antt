@@ -1,16 +1,16 @@
 use native.Mathlib.Omega.{arith}
 use lib.ListN.{length}
 use borrow.Author.Tests.{not-true, not-false}
-use Rattle.tally.proofs.Batch.{lies-some, record-bad, record-good}
+use Rattle.tally_pieces.proofs.Batch.{lies-some, record-bad, record-good}
 use borrow.Author.Needs.{needs}
-use Rattle.tally.proofs.add_record.Statement.{statement}
-use Rattle.tally.proofs.add_record.Tie as tie
-use Rattle.tally.proofs.add_record.Reads as reads
-use Rattle.tally.proofs.add_record.Lts as lts
+use Rattle.tally_pieces.proofs.add_record.Statement.{statement}
+use Rattle.tally_pieces.proofs.add_record.Tie as tie
+use Rattle.tally_pieces.proofs.add_record.Reads as reads
+use Rattle.tally_pieces.proofs.add_record.Lts as lts
 use Rattle.editions.proofs.score_in.Reads as score-in-reads
 use Rattle.records.proofs.Edition.batch_start.Reads as batch-start-reads
-use Rattle.tally.proofs.add_submitted.Reads as add-submitted-reads
-use Rattle.tally.proofs.add_unscored.Reads as add-unscored-reads
+use Rattle.tally_pieces.proofs.add_submitted.Reads as add-submitted-reads
+use Rattle.tally_pieces.proofs.add_unscored.Reads as add-unscored-reads
 
 add-unscored-requires : tie.Need-add-unscored-requires
 add-unscored-requires c κs = search needs

@@ -6,13 +6,13 @@ use native.Mathlib.Omega.{arith}
 use lib.ListN.{length, take, drop, length-take, length-drop}
 use denote.Ref.{now}
 use Rattle.totals.specs.declared.Totals.{Totals}
 use Rattle.tally.specs.Tally.{Stands, Feeds}
 use Rattle.tally.proofs.Files.{piece-again, piece-some, piece-none, piece-all}
-use Rattle.tally.proofs.feed_piece.Statement.{statement}
-use Rattle.tally.proofs.feed_piece.Tie as tie
-use Rattle.tally.proofs.feed_piece.Reads as reads
-use Rattle.tally.proofs.feed_piece.Lts as lts
-use Rattle.tally.proofs.feed.Reads as feed-reads
+use Rattle.tally_pieces.proofs.feed_piece.Statement.{statement}
+use Rattle.tally_pieces.proofs.feed_piece.Tie as tie
+use Rattle.tally_pieces.proofs.feed_piece.Reads as reads
+use Rattle.tally_pieces.proofs.feed_piece.Lts as lts
+use Rattle.tally_pieces.proofs.feed.Reads as feed-reads
 
 abbrev Inv-loop : tie.InvT-loop
 Inv-loop held₀ piece current₀ used₀ held current used =

@@ -1,9 +1,9 @@
 use borrow.Author.Needs.{needs}
-use Rattle.tally.proofs.add_found.Statement.{statement}
-use Rattle.tally.proofs.add_found.Tie as tie
-use Rattle.tally.proofs.add_found.Reads as reads
-use Rattle.tally.proofs.add_found.Lts as lts
-use Rattle.tally.proofs.add_record.Reads as add-record-reads
+use Rattle.tally_pieces.proofs.add_found.Statement.{statement}
+use Rattle.tally_pieces.proofs.add_found.Tie as tie
+use Rattle.tally_pieces.proofs.add_found.Reads as reads
+use Rattle.tally_pieces.proofs.add_found.Lts as lts
+use Rattle.tally_pieces.proofs.add_record.Reads as add-record-reads
 
 enum-known-found : tie.Need-enum-known-found
 enum-known-found c = search needs
