@@ -1,6 +1,6 @@
 -- What is printed, and what a lot adds.
 use mathlib.Core.Path.{_≡_, refl, sym, ap, _∙_}
-use mathlib.Core.Bool.{true, false, false≢true}
+use mathlib.Core.Bool.{Bool, true, false, false≢true}
 use mathlib.Core.Logic.{inl}
 use mathlib.Core.List.{List, []}
 use Prim.Native.Nat.{ℕ, _≤_}
@@ -41,9 +41,13 @@ module _ (totals : Totals) (text : List ℕ) (reading : Reading) (R : Reads text
   }
 
 pub lot-of : (totals : Totals) (file : TotalsFile) (answer : Answer) → ReadsFile file
-    → ((text : List ℕ) → Reads text (file .reading) → AddsText totals text answer) → (file .reading .well ≡ false → answer ≡ unchanged totals)
+    → (file .reading .well ≡ true → AddsTotals totals (file .reading .totals) answer) → (file .reading .well ≡ false → answer ≡ unchanged totals)
     → AddsFile AddsText totals (record { read = file .read; answer = answer })
-lot-of totals file answer F some never = record { file = F .text; added = λ e. some (F .text) (F .read e); unread = λ e. never (F .unread e) }
+lot-of totals file answer F some never = record { file = F .text; added = λ e. text-is (F .read e) (file .reading .well) refl; unread = λ e. never (F .unread e) }
+  where
+    text-is : Reads (F .text) (file .reading) → (well : Bool) → file .reading .well ≡ well → AddsText totals (F .text) answer
+    text-is R true good = text-some totals (F .text) (file .reading) R answer good (some good)
+    text-is R false bad = rw (never bad) (text-none totals (F .text) (file .reading) R bad)
 
 pub no-file : (totals : Totals) → ReadsFile (record { read = false; reading = record { well = false; totals = totals } })
 no-file totals = record { text = []; read = λ e. absurd (false≢true e); unread = λ e. refl }

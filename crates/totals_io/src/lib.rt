@@ -1,14 +1,11 @@
 // Totals printed on standard output, and printed totals read from files, and added. No contract can say which bytes the system reads, or what
 // it does with those that it is to write; what is added, and how many bytes are handed over to be written, is proved.
 ghost use mathlib.Core.Path.{_≡_};
-ghost use mathlib.Core.Bool.{false, cond};
-ghost use mathlib.Core.List.{List};
-ghost use Prim.Native.Nat.{ℕ};
+ghost use mathlib.Core.Bool.{true, false, cond};
 ghost use lib.ListN.{length};
 ghost use Rattle.io.specs.Counts.{Counts};
 ghost use Rattle.tally_lines.specs.Lines.{answerText, progressText};
-ghost use Rattle.tally_lines.specs.Reading.{Reads};
-ghost use Rattle.totals.specs.Totals.{unchanged};
+ghost use Rattle.totals.specs.Totals.{unchanged, AddsTotals};
 ghost use Rattle.totals.specs.Files.{AddsFile};
 ghost use Rattle.totals_io.specs.Lots.{AddsText, ReadsFile};
 use command::Piece;
@@ -134,7 +131,7 @@ pub fn read_argument(index: usize) -> TotalsFile
 
 // Adds the totals that were read of a text. Of a text that is not that of totals nothing is added.
 pub fn add_reading(totals: Totals, reading: Reading) -> Answer
-    ensures { λ r. ⌜ ((text : List ℕ) → Reads text reading → AddsText totals text r) × (reading .well ≡ false → r ≡ unchanged totals) ⌝ }
+    ensures { λ r. ⌜ (reading .well ≡ true → AddsTotals totals (reading .totals) r) × (reading .well ≡ false → r ≡ unchanged totals) ⌝ }
 {
     if !reading.well {
         return Answer {

@@ -1,7 +1,6 @@
 use mathlib.Core.Path.{refl, sym, _∙_}
 use mathlib.Core.Bool.{false≢true}
 use borrow.Author.Tests.{not-true, not-false}
-use Rattle.totals_io.proofs.Lots.{text-none, text-some}
 use borrow.Author.Needs.{needs}
 use Rattle.totals_io.proofs.add_reading.Statement.{statement}
 use Rattle.totals_io.proofs.add_reading.Tie as tie
@@ -11,7 +10,7 @@ use Rattle.totals.proofs.add.Reads as add-reads
 
 -- src/lib.rt:140:9
 returns : tie.Need-returns
-returns c = (λ text R. text-none _ text _ R (not-true _ (c .if1 .taken)), λ e. refl)
+returns c = (λ e. absurd (false≢true (sym (not-true _ (c .if1 .taken)) ∙ e)), λ e. refl)
 
 -- src/lib.rt:146:5
 add-requires : tie.Need-add-requires
@@ -21,7 +20,7 @@ add-requires c κs = search needs
 returns-2 : tie.Need-returns-2
 returns-2 c =
     let good = not-false _ (c .before .before .if1 .left) in
-    (λ text R. text-some _ text _ R _ good (c .add .ensures), λ e. absurd (false≢true (sym e ∙ good)))
+    (λ e. c .add .ensures, λ e. absurd (false≢true (sym e ∙ good)))
 
 pub add-reading-spec : {M : Type 1} → statement M
 add-reading-spec = tie.close (tie.spec returns add-requires returns-2)
