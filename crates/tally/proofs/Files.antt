@@ -23,15 +23,15 @@ use Rattle.totals.specs.Totals.{largest}
 use Rattle.tally.specs.declared.Running.{Running}
 use Rattle.tally.specs.declared.Tally.{Tally}
 use Rattle.tally.specs.declared.Fed.{Fed}
-use Rattle.tally.specs.Counts.{Count, sumOver, recordCount, editionOf, fileCount, position}
+use Rattle.tally.specs.Counts.{Count, countOver, recordCount, editionOf, fileCount, position}
 use Rattle.tally.specs.Running.{foundPlus}
-use Rattle.tally.specs.Tally.{totalOf, Adds, Over, Keeps, editionFor, restCount, begun, fedIn, fedBy, heldBy, Stands, Feeds}
+use Rattle.tally.specs.Tally.{totalOf, Adds, Over, Keeps, editionFor, restCount, tallyStart, fedIn, fedBy, heldBy, Stands, Feeds}
 use Rattle.tally.proofs.Sums.{keeps-as, foundCount, keeps-found}
 
 -- ---- the start
 
 pub starts-by : (totals : Totals) (t : Tally) (held : List ℕ) → length (totals .counts) ≡ 14 → ((c : Count) → totalOf c totals ≤ largest)
-    → t ≡ begun totals → 32777 ≤ length held → Stands totals [] t held
+    → t ≡ tallyStart totals → 32777 ≤ length held → Stands totals [] t held
 unfolding fileCount records
 starts-by totals t held size small is room = rw is (record {
   before = refl;
@@ -51,8 +51,8 @@ edition-front t (v ∷ more) rest zero some long = absurd (omega arith)
 edition-front t (v ∷ more) rest (suc u) some long = refl
 
 found-sum : (c : Count) (edition : Edition) (found : Found) (held : List ℕ) (file : File)
-    → sumOver (recordCount c edition) (onto found held file .entries) ≡ foundCount c edition found held + sumOver (recordCount c edition) (file .entries)
-unfolding sumOver
+    → countOver (recordCount c edition) (onto found held file .entries) ≡ foundCount c edition found held + countOver (recordCount c edition) (file .entries)
+unfolding countOver
 found-sum c edition Nothing held file = omega arith
 found-sum c edition (Record end) held file = refl
 found-sum c edition BadVersion held file = omega arith
@@ -67,10 +67,10 @@ module _ (totals : Totals) (seen held input held′ : List ℕ) (t : Tally) (e :
   bytes = take (u .used) input
 
   -- what is to come, before it and after it
-  rest-is : (rest : List ℕ) (c : Count) → restCount c t held (bytes ++ rest) ≡ foundCount c e (u .found) held′ + sumOver (recordCount c e) (fileAt e (u .reader) held′ rest .entries)
+  rest-is : (rest : List ℕ) (c : Count) → restCount c t held (bytes ++ rest) ≡ foundCount c e (u .found) held′ + countOver (recordCount c e) (fileAt e (u .reader) held′ rest .entries)
   rest-is rest c =
-      ap (λ (g : Edition). sumOver (recordCount c g) (fileAt g (t .reader) held (bytes ++ rest) .entries)) (edition-front t input rest (u .used) (T .some some) some ∙ sym e-is)
-      ∙ ap (λ (file : File). sumOver (recordCount c e) (file .entries)) (T .file rest)
+      ap (λ (g : Edition). countOver (recordCount c g) (fileAt g (t .reader) held (bytes ++ rest) .entries)) (edition-front t input rest (u .used) (T .some some) some ∙ sym e-is)
+      ∙ ap (λ (file : File). countOver (recordCount c e) (file .entries)) (T .file rest)
       ∙ found-sum c e (u .found) held′ (fileAt e (u .reader) held′ rest)
 
   pub feeds-by : (fed : Fed) (running : Running) → running ≡ foundPlus e (u .found) held′ (t .running)
@@ -104,11 +104,11 @@ feeds-none totals seen input held t none S = record { stands = rw (append-nil se
 
 module _ (totals : Totals) (seen held : List ℕ) (t : Tally) (S : Stands totals seen t held) where
   all-there : (c : Count) → fileCount c seen ≡ S .so-far c
-  unfolding sumOver
+  unfolding countOver
   all-there c =
       ap (fileCount c) (sym (append-nil seen))
       ∙ S .file [] c
-      ∙ ap (λ (es : List Entry). S .so-far c + sumOver (recordCount c (editionFor t [])) es) (ends-here (editionFor t []) (t .reader) held (S .ready []))
+      ∙ ap (λ (es : List Entry). S .so-far c + countOver (recordCount c (editionFor t [])) es) (ends-here (editionFor t []) (t .reader) held (S .ready []))
       ∙ omega arith
 
   pub ends-large : t .running .fits ≡ false → Adds totals seen (record { refusal = 19; totals = t .before })

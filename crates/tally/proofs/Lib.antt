@@ -1,6 +1,5 @@
 -- Laws of the counts: what each step adds, and a file whatever its pieces.
 pub mod Adding
-pub mod Batch
 pub mod Sums
 pub mod Files
 pub mod Order

@@ -21,12 +21,13 @@ use Rattle.lines.proofs.Answered.{promise as answered}
 use Rattle.totals.specs.declared.Totals.{Totals}
 use Rattle.totals.specs.declared.Answer.{Answer}
 use Rattle.totals.specs.Totals.{largest, Position, Added, AddsTotals}
+use Rattle.totals.specs.Files.{Files, none, more}
 use Rattle.totals.proofs.Adding.{Names, adds-named}
 use Rattle.rules.specs.declared.fault.Fault.the-variants.{ReservedBits, GroupLength, OpenTask, NotWritable, Forbidden, BadSurface, SizeMismatch, OutOfBounds, Overlap}
-use Rattle.tally.specs.Counts.{Count, batches, tasks, outputPixels, blendedPixels, faulted, withoutScore, sumOver, batchOf, fileCount, position}
+use Rattle.tally.specs.Counts.{Count, batches, tasks, outputPixels, blendedPixels, faulted, withoutScore, countOver, batchOf, fileCount, position}
 use Rattle.tally.proofs.Sums.{few}
 use Rattle.tally.specs.Tally.{totalOf, Adds}
-use Rattle.tally.specs.Sums.{Files, filesCount, Tallied, none, more, Permuted, same, keep, swap, then, TallySums}
+use Rattle.tally.specs.Sums.{filesCount, Tallied, Permuted, same, keep, swap, then, SomeTotals, TallySums}
 
 -- a file that is not refused
 small : (totals : Totals) (file : List ℕ) (answer : Answer) → Adds totals file answer → answer .refusal ≡ 0 → (c : Count) → totalOf c totals + fileCount c file ≤ largest
@@ -37,7 +38,7 @@ small totals file answer A e c = go (split largest (totalOf c totals + fileCount
     go (inr h) = h
 
 sums : (totals after : Totals) (files : Files) → Tallied totals files after → (c : Count) → totalOf c after ≡ totalOf c totals + filesCount c files
-unfolding sumOver
+unfolding countOver
 sums totals after files none c = omega arith
 sums totals after files (more {file = file} {files = rest} {answer = answer} A e T) c =
     let one : totalOf c (answer .totals) ≡ totalOf c totals + fileCount c file = A .adds (small totals file answer A e) .1 c in
@@ -47,7 +48,7 @@ sums totals after files (more {file = file} {files = rest} {answer = answer} A e
 accepts : (totals : Totals) (file : List ℕ) (files : Files) (answer : Answer) → Adds totals file answer
     → ((c : Count) → totalOf c totals + filesCount c (file ∷ files) ≤ largest)
     → (answer .refusal ≡ 0) × ((c : Count) → totalOf c (answer .totals) + filesCount c files ≤ largest)
-unfolding sumOver
+unfolding countOver
 accepts totals file files answer A fits =
     let one : (c : Count) → totalOf c totals + fileCount c file ≤ largest = λ c. omega (arith, fits c) in
     let both = A .adds one in
@@ -61,15 +62,15 @@ refuses totals file answer A e = go (A .only)
     go (inr h) = h .1
 
 version : (v : ℕ) (bytes : List ℕ) → (v ≡ 1 → ⊥) → (v ≡ 2 → ⊥) → (c : Count) → fileCount c (v ∷ bytes) ≡ 0
-unfolding fileCount records sumOver
+unfolding fileCount records countOver
 version v bytes one two c = rw (ne-eqb v 2 two, ne-eqb v 1 one)
 
 empty : (c : Count) → fileCount c [] ≡ 0
-unfolding fileCount records sumOver
+unfolding fileCount records countOver
 empty c = refl
 
 permuted : (files files′ : Files) → Permuted files files′ → (c : Count) → filesCount c files ≡ filesCount c files′
-unfolding sumOver
+unfolding countOver
 permuted files files′ same c = refl
 permuted files files′ (keep {file = file} p) c = ap (λ (n : ℕ). fileCount c file + n) (permuted _ _ p c)
 permuted files files′ swap c = omega arith
@@ -79,9 +80,59 @@ order : (totals after after′ : Totals) (files files′ : Files) → Permuted f
 order totals after after′ files files′ p T T′ c = omega (arith, sums totals after files T c, sums totals after′ files′ T′ c, permuted files files′ p c)
 
 lots : (files files′ : Files) (c : Count) → filesCount c (files ++ files′) ≡ filesCount c files + filesCount c files′
-unfolding sumOver
+unfolding countOver
 lots [] files′ c = omega arith
 lots (file ∷ files) files′ c = omega (arith, lots files files′ c)
+
+-- ---- files that fit, in every order
+
+grown : Totals → (file : List ℕ) → Totals
+grown totals file = record {
+  counts = n batches ∷ n tasks ∷ n outputPixels ∷ n blendedPixels
+      ∷ n (faulted ReservedBits) ∷ n (faulted GroupLength) ∷ n (faulted OpenTask) ∷ n (faulted NotWritable) ∷ n (faulted Forbidden)
+      ∷ n (faulted BadSurface) ∷ n (faulted SizeMismatch) ∷ n (faulted OutOfBounds) ∷ n (faulted Overlap) ∷ n withoutScore ∷ [];
+}
+  where
+    n : Count → ℕ
+    n c = totalOf c totals + fileCount c file
+
+grown-by : (totals : Totals) (file : List ℕ) (c : Count) → totalOf c (grown totals file) ≡ totalOf c totals + fileCount c file
+unfolding grown
+grown-by totals file batches = refl
+grown-by totals file tasks = refl
+grown-by totals file outputPixels = refl
+grown-by totals file blendedPixels = refl
+grown-by totals file (faulted ReservedBits) = refl
+grown-by totals file (faulted GroupLength) = refl
+grown-by totals file (faulted OpenTask) = refl
+grown-by totals file (faulted NotWritable) = refl
+grown-by totals file (faulted Forbidden) = refl
+grown-by totals file (faulted BadSurface) = refl
+grown-by totals file (faulted SizeMismatch) = refl
+grown-by totals file (faulted OutOfBounds) = refl
+grown-by totals file (faulted Overlap) = refl
+grown-by totals file withoutScore = refl
+
+grown-adds : (totals : Totals) (file : List ℕ) → ((c : Count) → totalOf c totals + fileCount c file ≤ largest) → Adds totals file (record { refusal = 0; totals = grown totals file })
+grown-adds totals file fits = record { adds = λ h. (refl, grown-by totals file); refuses = λ c large. absurd (omega (arith, large, fits c)); only = inl refl }
+
+all-tallied : (totals : Totals) (files : Files) → ((c : Count) → totalOf c totals + filesCount c files ≤ largest) → SomeTotals totals files
+unfolding countOver
+all-tallied totals [] fits = record { after = totals; tallied = none }
+all-tallied totals (file ∷ files) fits =
+    let A = grown-adds totals file (λ c. omega (arith, fits c)) in
+    let rest = all-tallied (grown totals file) files (accepts totals file files _ A fits .1) in
+    record { after = rest .after; tallied = more A refl (rest .tallied) }
+
+every : (totals : Totals) (files files′ : Files) → Permuted files files′ → ((c : Count) → totalOf c totals + filesCount c files ≤ largest) → SomeTotals totals files′
+every totals files files′ p fits = all-tallied totals files′ (λ c. omega (arith, fits c, permuted files files′ p c))
+
+unrefused : (totals between : Totals) (files before after : Files) (file : List ℕ) (answer : Answer) → Permuted files (before ++ (file ∷ after))
+    → ((c : Count) → totalOf c totals + filesCount c files ≤ largest) → Tallied totals before between → Adds between file answer → answer .refusal ≡ 0
+unrefused totals between files before after file answer p fits T A =
+    let rest : (c : Count) → totalOf c between + filesCount c (file ∷ after) ≤ largest =
+    λ c. omega (arith, fits c, permuted files (before ++ (file ∷ after)) p c, lots before (file ∷ after) c, sums totals between before T c) in
+    accepts between file after answer A rest .0
 
 -- ---- lots
 
@@ -159,4 +210,4 @@ runs edition ring memory long size before entry taken =
     answered edition .each ring memory long size before entry .answers ∙ rw accepted
 
 pub promise : TallySums
-promise = record { sums = sums; accepts = accepts; version = version; empty = empty; refuses = refuses; order = order; lots = lots; lot = lot; apart = apart; runs = runs }
+promise = record { sums = sums; accepts = accepts; version = version; empty = empty; refuses = refuses; order = order; permuted = permuted; every = every; unrefused = unrefused; lots = lots; lot = lot; apart = apart; runs = runs }

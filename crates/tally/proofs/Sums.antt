@@ -24,7 +24,7 @@ use Rattle.editions.specs.Editions.{scoreHolds, submission}
 use Rattle.lines.specs.Answered.{recordRefusal}
 use Rattle.totals.specs.Totals.{largest}
 use Rattle.tally.specs.declared.Running.{Running}
-use Rattle.tally.specs.Counts.{Count, batches, tasks, outputPixels, blendedPixels, faulted, withoutScore, batchCount, pixelsOf, taskCount, endCount, sumOver, ranCount, batchOf, unscoredCount, isRun, recordCount, position}
+use Rattle.tally.specs.Counts.{Count, batches, tasks, outputPixels, blendedPixels, faulted, withoutScore, batchCount, pixelsOf, taskCount, endCount, countOver, ranCount, batchOf, unscoredCount, isRun, recordCount, position}
 use Rattle.tally.specs.Running.{plus, taskPlus, tasksPlus, endPlus, restPlus, ranPlus, unscoredPlus, submittedPlus, recordPlus, foundPlus}
 use Rattle.tally.specs.Tally.{Over, Keeps}
 use Rattle.tally.proofs.Adding.{fault-between}
@@ -135,11 +135,11 @@ keeps-task base s t K =
     let three = keeps-plus _ _ blendedPixels (cond (t .blending .on) (pixelsOf t) 0) two in
     keeps-as _ _ (taskPlus t s) (λ c. task-point t (base c) c) three
 
-keeps-tasks : (ts : List Task) (base : Count → ℕ) (s : Running) → Keeps base s → Keeps (λ c. base c + sumOver (taskCount c) ts) (tasksPlus ts s)
-unfolding sumOver tasksPlus
+keeps-tasks : (ts : List Task) (base : Count → ℕ) (s : Running) → Keeps base s → Keeps (λ c. base c + countOver (taskCount c) ts) (tasksPlus ts s)
+unfolding countOver tasksPlus
 keeps-tasks [] base s K = keeps-as base (λ c. base c + 0) s (λ c. omega arith) K
 keeps-tasks (t ∷ ts) base s K =
-    keeps-as _ (λ c. base c + (taskCount c t + sumOver (taskCount c) ts)) (tasksPlus ts (taskPlus t s)) (λ c. omega arith) (keeps-tasks ts (λ c. base c + taskCount c t) (taskPlus t s) (keeps-task base s t K))
+    keeps-as _ (λ c. base c + (taskCount c t + countOver (taskCount c) ts)) (tasksPlus ts (taskPlus t s)) (λ c. omega arith) (keeps-tasks ts (λ c. base c + taskCount c t) (taskPlus t s) (keeps-task base s t K))
 
 -- ---- the end of a batch
 

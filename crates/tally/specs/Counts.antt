@@ -58,13 +58,14 @@ endCount (faulted fault) finished = 0
 endCount (faulted fault) (faulty own offset) = cond (eqb (faultNumber fault) (faultNumber own)) 1 0
 endCount withoutScore ending = 0
 
-unfoldable pub sumOver : {A : Type 0} → (A → ℕ) → List A → ℕ
-sumOver f [] = 0
-sumOver f (x ∷ xs) = f x + sumOver f xs
+-- what some things add to a count, each its own number
+unfoldable pub countOver : {A : Type 0} → (A → ℕ) → List A → ℕ
+countOver f [] = 0
+countOver f (x ∷ xs) = f x + countOver f xs
 
 -- "for tasks and pixels only what was drawn": the tasks before a fault are (02, request 5)
 abbrev pub ranCount : Count → DecodedBatch → ℕ
-ranCount count batch = batchCount count + (sumOver (taskCount count) (tasksDrawn batch) + endCount count (batch .ending))
+ranCount count batch = batchCount count + (countOver (taskCount count) (tasksDrawn batch) + endCount count (batch .ending))
 
 -- ---- a record
 
@@ -98,7 +99,7 @@ editionOf (version ∷ bytes) = cond (eqb version 2) Second First
 
 -- "A damaged file counts up to its damage": its records are those before it (crate records)
 unfoldable pub fileCount : Count → List ℕ → ℕ
-fileCount count bytes = sumOver (recordCount count (editionOf bytes)) (records (editionOf bytes) bytes .entries)
+fileCount count bytes = countOver (recordCount count (editionOf bytes)) (records (editionOf bytes) bytes .entries)
 
 -- ---- the totals: fourteen numbers, in this order
 

@@ -16,21 +16,17 @@ use Rattle.lines.specs.Answered.{recordRefusal, ticketOfCount, acceptedFrom, su
 use Rattle.totals.specs.declared.Totals.{Totals}
 use Rattle.totals.specs.declared.Answer.{Answer}
 use Rattle.totals.specs.Totals.{largest, Added, AddsTotals}
-use Rattle.tally.specs.Counts.{Count, sumOver, batchOf, fileCount, position}
+use Rattle.totals.specs.Files.{Files, AddedAll}
+use Rattle.tally.specs.Counts.{Count, countOver, batchOf, fileCount, position}
 use Rattle.tally.specs.Tally.{totalOf, Adds}
-
-abbrev pub Files : Type 0
-Files = List (List ℕ)
 
 -- what the files add to a count
 abbrev pub filesCount : Count → Files → ℕ
-filesCount count files = sumOver (fileCount count) files
+filesCount count files = countOver (fileCount count) files
 
 -- the totals after these files, one after another, each added as the calls promise, and none refused
-pub data Tallied : Totals → Files → Totals → Type 0 where
-  none : {totals : Totals} → Tallied totals [] totals
-  more : {totals after : Totals} {file : List ℕ} {files : Files} {answer : Answer}
-      → Adds totals file answer → answer .refusal ≡ 0 → Tallied (answer .totals) files after → Tallied totals (file ∷ files) after
+abbrev pub Tallied : Totals → Files → Totals → Type 0
+Tallied totals files after = AddedAll Adds totals files after
 
 -- the same files in another order
 pub data Permuted : Files → Files → Type 0 where
@@ -38,6 +34,11 @@ pub data Permuted : Files → Files → Type 0 where
   keep : {file : List ℕ} {files files′ : Files} → Permuted files files′ → Permuted (file ∷ files) (file ∷ files′)
   swap : {one two : List ℕ} {files : Files} → Permuted (one ∷ two ∷ files) (two ∷ one ∷ files)
   then : {files files′ files″ : Files} → Permuted files files′ → Permuted files′ files″ → Permuted files files″
+
+-- there are totals after these files
+pub record SomeTotals (totals : Totals) (files : Files) : Type 0 where
+  pub after : Totals
+  pub tallied : Tallied totals files after
 
 pub record TallySums : Type 0 where
   -- each count equals the sum over the files
@@ -54,6 +55,13 @@ pub record TallySums : Type 0 where
   -- whatever order they come in
   pub order : (totals after after′ : Totals) (files files′ : Files) → Permuted files files′ → Tallied totals files after → Tallied totals files′ after′
       → (count : Count) → totalOf count after ≡ totalOf count after′
+  -- the sums themselves are the same in every order
+  pub permuted : (files files′ : Files) → Permuted files files′ → (count : Count) → filesCount count files ≡ filesCount count files′
+  -- and if they are not too large the files can be tallied in every order
+  pub every : (totals : Totals) (files files′ : Files) → Permuted files files′ → ((count : Count) → totalOf count totals + filesCount count files ≤ largest) → SomeTotals totals files′
+  -- without a file that is refused, wherever it stands in that order
+  pub unrefused : (totals between : Totals) (files before after : Files) (file : List ℕ) (answer : Answer) → Permuted files (before ++ (file ∷ after))
+      → ((count : Count) → totalOf count totals + filesCount count files ≤ largest) → Tallied totals before between → Adds between file answer → answer .refusal ≡ 0
   -- two lots
   pub lots : (files files′ : Files) (count : Count) → filesCount count (files ++ files′) ≡ filesCount count files + filesCount count files′
   -- the totals of a lot, counted from zero and then added, add what its files do

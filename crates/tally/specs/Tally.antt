@@ -16,7 +16,7 @@ use Rattle.totals.specs.Totals.{largest, countAt, Added}
 use Rattle.tally.specs.declared.Running.{Running}
 use Rattle.tally.specs.declared.Tally.{Tally}
 use Rattle.tally.specs.declared.Fed.{Fed}
-use Rattle.tally.specs.Counts.{Count, sumOver, recordCount, editionOf, fileCount, position}
+use Rattle.tally.specs.Counts.{Count, countOver, recordCount, editionOf, fileCount, position}
 use Rattle.tally.specs.Running.{foundPlus}
 
 -- a count of the totals
@@ -49,13 +49,13 @@ editionFor t rest = cond (t .begun) (t .edition) (editionOf rest)
 
 -- what the file still adds, of which these bytes are to come
 abbrev pub restCount : Count → Tally → (held rest : List ℕ) → ℕ
-restCount count t held rest = sumOver (recordCount count (editionFor t rest)) (fileAt (editionFor t rest) (t .reader) held rest .entries)
+restCount count t held rest = countOver (recordCount count (editionFor t rest)) (fileAt (editionFor t rest) (t .reader) held rest .entries)
 
 -- ---- the calls by themselves, of any tally, buffer and input
 
 -- before the version byte
-abbrev pub begun : Totals → Tally
-begun totals = record {
+abbrev pub tallyStart : Totals → Tally
+tallyStart totals = record {
   before = totals;
   edition = First;
   begun = false;
@@ -87,8 +87,8 @@ abbrev pub heldBy : Tally → (held input : List ℕ) → List ℕ
 heldBy t held input = cond (eqb (length input) 0) held (heldAfter (editionFor t input) (t .reader) held input)
 
 -- at the end of the file
-abbrev pub finished : Tally → Answer
-finished t = cond (t .running .fits) (record { refusal = 0; totals = record { counts = t .running .counts } }) (record { refusal = 19; totals = t .before })
+abbrev pub tallyAnswer : Tally → Answer
+tallyAnswer t = cond (t .running .fits) (record { refusal = 0; totals = record { counts = t .running .counts } }) (record { refusal = 19; totals = t .before })
 
 -- ---- what they come to
 

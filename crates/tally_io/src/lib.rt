@@ -1,11 +1,11 @@
 // Replay files read and added to a tally. No contract can say which bytes are read; that the counts grow by what some bytes add to them is
 // proved, and that nothing is added where a file can't be read.
-ghost use mathlib.Core.Path.{_≡_};
-ghost use mathlib.Core.Bool.{false};
 ghost use Rattle.totals.specs.declared.Totals.{Totals};
-ghost use Rattle.tally_io.specs.Reached.{Reached, AddsFile};
+ghost use Rattle.totals.specs.Files.{AddsFile};
+ghost use Rattle.tally.specs.Tally.{Adds};
+ghost use Rattle.tally_io.specs.Reached.{Reached};
 use tally::Tally;
-use totals::Answer;
+use totals::Outcome;
 use totals::Totals;
 
 // A file under way: whether there may be more to read, and whether nothing has failed so far.
@@ -13,12 +13,6 @@ struct Progress {
     tally: Tally,
     more: bool,
     well: bool,
-}
-
-// What is answered of a file, and whether it could be read.
-pub struct Done {
-    pub answer: Answer,
-    pub well: bool,
 }
 
 // ---- reading
@@ -36,7 +30,7 @@ fn read_some(fd: i32, name: &[u8], tally: Tally, held: &mut [u8]) -> Progress
             well: got.well,
         };
     }
-    let after = tally::feed_piece(tally, held, &piece[..got.count]);
+    let after = tally_pieces::feed_piece(tally, held, &piece[..got.count]);
     Progress {
         tally: after,
         more: true,
@@ -64,46 +58,33 @@ fn read_all(fd: i32, name: &[u8], tally: Tally, held: &mut [u8]) -> Progress
     progress
 }
 
-// Nothing is added.
-fn nothing(totals: Totals) -> Done
-    ensures { λ r. ⌜ r ≡ record { answer = record { refusal = 0; totals = totals }; well = false } ⌝ }
-{
-    Done {
-        answer: Answer {
-            refusal: 0,
-            totals: totals,
-        },
-        well: false,
-    }
-}
-
 // Adds what a descriptor reads, to its end. A file that can't be read to its end is reported on standard error, and adds nothing.
-pub fn add_from(fd: i32, name: &[u8], totals: Totals) -> Done
-    ensures { λ r. ⌜ AddsFile totals r ⌝ }
+pub fn add_from(fd: i32, name: &[u8], totals: Totals) -> Outcome
+    ensures { λ r. ⌜ AddsFile Adds totals r ⌝ }
 {
     // The longest record of either edition has room.
     let mut held = [0u8; 32777];
     let begun = tally::start(totals);
     let done = read_all(fd, name, begun, &mut held);
     if !done.well {
-        return nothing(totals);
+        return totals::unread(totals);
     }
     let last = done.tally;
-    Done {
+    Outcome {
+        read: true,
         answer: tally::finish(last),
-        well: true,
     }
 }
 
 // The same, of the file that an argument of the program names. One that can't be opened is reported and adds nothing.
-pub fn add_argument(index: usize, totals: Totals) -> Done
-    ensures { λ r. ⌜ AddsFile totals r ⌝ }
+pub fn add_argument(index: usize, totals: Totals) -> Outcome
+    ensures { λ r. ⌜ AddsFile Adds totals r ⌝ }
 {
     let mut path = io::buffer();
     let opened = command::open_argument(index, &mut path);
     let fd = opened.fd;
     if fd < 0 {
-        return nothing(totals);
+        return totals::unread(totals);
     }
     let done = add_from(fd, &path[..opened.length], totals);
     libc::close(fd);

@@ -15,7 +15,7 @@ use Rattle.totals.specs.declared.Totals.{Totals}
 use Rattle.totals.specs.Totals.{largest}
 use Rattle.tally_lines.specs.declared.Reading.{Reading}
 use Rattle.tally_lines.specs.Lines.{labelOf, countLines, totalsText}
-use Rattle.tally_lines.specs.Reading.{Counts, Reads, Finds}
+use Rattle.tally_lines.specs.Reading.{FourteenCounts, Reads, Finds}
 use Rattle.tally_lines.proofs.Lines.{lines-front}
 
 -- the first k numbers are found, and the lines from k on are to come: if the text is that of counts
@@ -23,7 +23,7 @@ pub record Going (text counts : List ℕ) (at k : ℕ) (own : List ℕ) : Type 0
   pub here : drop at text ≡ countLines k (drop k own)
   pub found : take k counts ≡ take k own
 
-module _ (text counts own : List ℕ) (at k : ℕ) (O : Counts own) (below : k < 14) (size : length counts ≡ 14) (G : Going text counts at k own) where
+module _ (text counts own : List ℕ) (at k : ℕ) (O : FourteenCounts own) (below : k < 14) (size : length counts ≡ 14) (G : Going text counts at k own) where
   abbrev count : ℕ
   count = getD own k 0
 
@@ -63,12 +63,12 @@ module _ (text counts own : List ℕ) (at k : ℕ) (O : Counts own) (below : k <
 pub going-none : (text counts own : List ℕ) → text ≡ countLines 0 own → Going text counts 0 0 own
 going-none text counts own e = record { here = e; found = refl }
 
-pub going-all : (text counts own : List ℕ) (at k : ℕ) → 14 ≤ k → length counts ≡ 14 → Counts own → Going text counts at k own → counts ≡ own
+pub going-all : (text counts own : List ℕ) (at k : ℕ) → 14 ≤ k → length counts ≡ 14 → FourteenCounts own → Going text counts at k own → counts ≡ own
 going-all text counts own at k all size O G = sym (take-all k counts (omega arith)) ∙ G .found ∙ take-all k own (omega (arith, O .size))
 
 -- ---- what is read
 
-module _ (text : List ℕ) (totals : Totals) (F : Finds text (totals .counts)) (C : Counts (totals .counts)) where
+module _ (text : List ℕ) (totals : Totals) (F : Finds text (totals .counts)) (C : FourteenCounts (totals .counts)) where
   -- the lines are compared with the text
   pub reads-by : (line : List ℕ) (well : Bool) → line ≡ totalsText totals → (well ≡ true → line ≡ text) → (line ≡ text → well ≡ true) → Reads text (record { well = well; totals = totals })
   reads-by line well is then only = record {
@@ -77,5 +77,5 @@ module _ (text : List ℕ) (totals : Totals) (F : Finds text (totals .counts)) (
     back = λ own O e. let same : totals .counts ≡ own .counts = F (own .counts) O e in (only (is ∙ ap (countLines 0) same ∙ sym e), ap (λ (xs : List ℕ). record { counts = xs }) same);
   }
 
-pub reads-none : (text : List ℕ) (totals : Totals) → ((own : Totals) → Counts (own .counts) → text ≡ totalsText own → ⊥) → Reads text (record { well = false; totals = totals })
+pub reads-none : (text : List ℕ) (totals : Totals) → ((own : Totals) → FourteenCounts (own .counts) → text ≡ totalsText own → ⊥) → Reads text (record { well = false; totals = totals })
 reads-none text totals never = record { exact = λ e. absurd (false≢true e); counts = λ e. absurd (false≢true e); back = λ own O e. absurd (never own O e) }

@@ -14,7 +14,7 @@ use Rattle.text.proofs.Digits.{decimal-size}
 use Rattle.totals.specs.declared.Answer.{Answer}
 use Rattle.totals.specs.Totals.{largest}
 use Rattle.tally_lines.specs.Lines.{labelOf, countLines, totalsText, refusedText, answerText, progressText}
-use Rattle.tally_lines.specs.Reading.{Counts}
+use Rattle.tally_lines.specs.Reading.{FourteenCounts}
 
 -- two texts and a character, one after another
 pub typed-three : (l a b r : Line) (xs ys : List ℕ) (byte : ℕ) → a ≡ appended l xs → b ≡ appended a ys → r ≡ pushed b byte → r ≡ appended l (xs ++ (ys ++ (byte ∷ [])))
@@ -75,7 +75,7 @@ sizes (count ∷ counts) k small h =
     let rest : length (countLines (k + 1) counts) ≤ 48 * length counts = sizes counts (k + 1) (λ j. small (suc j)) (omega arith) in
     simp length-append (omega (arith, few, name, rest))
 
-pub lines-size : (counts : List ℕ) → Counts counts → length (countLines 0 counts) ≤ 672
+pub lines-size : (counts : List ℕ) → FourteenCounts counts → length (countLines 0 counts) ≤ 672
 lines-size counts C = omega (arith, sizes counts 0 (C .small) (omega (arith, C .size)), C .size)
 
 -- lines in a buffer that has room for them

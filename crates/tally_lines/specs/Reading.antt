@@ -10,17 +10,17 @@ use Rattle.tally_lines.specs.declared.Reading.{Reading}
 use Rattle.tally_lines.specs.Lines.{countLines, totalsText}
 
 -- fourteen numbers of 64 bits, as all totals of the code are
-pub record Counts (counts : List ℕ) : Type 0 where
+pub record FourteenCounts (counts : List ℕ) : Type 0 where
   pub size : length counts ≡ 14
   pub small : (k : ℕ) → getD counts k 0 ≤ largest
 
 pub record Reads (text : List ℕ) (r : Reading) : Type 0 where
   -- the text is what the totals that were read print, fourteen numbers of 64 bits: any other one is refused
   pub exact : r .well ≡ true → text ≡ totalsText (r .totals)
-  pub counts : r .well ≡ true → Counts (r .totals .counts)
+  pub counts : r .well ≡ true → FourteenCounts (r .totals .counts)
   -- and what totals print reads back as them
-  pub back : (totals : Totals) → Counts (totals .counts) → text ≡ totalsText totals → (r .well ≡ true) × (r .totals ≡ totals)
+  pub back : (totals : Totals) → FourteenCounts (totals .counts) → text ≡ totalsText totals → (r .well ≡ true) × (r .totals ≡ totals)
 
 -- Internal: numbers found in a text: those of the counts whose lines it is, if it is that of counts
 abbrev pub Finds : (text counts : List ℕ) → Type 0
-Finds text counts = (own : List ℕ) → Counts own → text ≡ countLines 0 own → counts ≡ own
+Finds text counts = (own : List ℕ) → FourteenCounts own → text ≡ countLines 0 own → counts ≡ own

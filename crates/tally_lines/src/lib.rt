@@ -7,7 +7,7 @@ ghost use lib.ListN.{length};
 ghost use Rattle.text.specs.Line.{lineOf, appended};
 ghost use Rattle.text.specs.Decimal.{decimal};
 ghost use Rattle.tally_lines.specs.Lines.{labelOf, countLines, totalsText, answerText, progressText};
-ghost use Rattle.tally_lines.specs.Reading.{Counts, Reads, Finds};
+ghost use Rattle.tally_lines.specs.Reading.{FourteenCounts, Reads, Finds};
 use text::line;
 use totals::Answer;
 use totals::Totals;
@@ -50,7 +50,7 @@ fn count_line(line: &mut [u8], n: usize, k: usize, count: u64) -> usize
 }
 
 fn count_lines(line: &mut [u8], counts: [u64; 14]) -> usize
-    ensures { λ r. ⌜ (lineOf (now (line .exit)) r ≡ appended (lineOf (now (line .entry)) 0) (countLines 0 counts)) × (length (countLines 0 counts) ≤ 672) × Counts counts ⌝ }
+    ensures { λ r. ⌜ (lineOf (now (line .exit)) r ≡ appended (lineOf (now (line .entry)) 0) (countLines 0 counts)) × (length (countLines 0 counts) ≤ 672) × FourteenCounts counts ⌝ }
 {
     let mut end = 0;
     let mut k = 0;
@@ -63,7 +63,7 @@ fn count_lines(line: &mut [u8], counts: [u64; 14]) -> usize
 
 // The lines of totals, at the start of a buffer; their length. That the counts are fourteen numbers of 64 bits is so by their type, and said for the reader below.
 pub fn write(line: &mut [u8], totals: Totals) -> usize
-    ensures { λ r. ⌜ (lineOf (now (line .exit)) r ≡ appended (lineOf (now (line .entry)) 0) (totalsText totals)) × (length (totalsText totals) ≤ 672) × Counts (totals .counts) ⌝ }
+    ensures { λ r. ⌜ (lineOf (now (line .exit)) r ≡ appended (lineOf (now (line .entry)) 0) (totalsText totals)) × (length (totalsText totals) ≤ 672) × FourteenCounts (totals .counts) ⌝ }
 {
     let counts = totals.counts;
     count_lines(line, counts)

@@ -1,2 +1,3 @@
--- Laws of counts that are added.
+-- Laws of counts that are added, and of files.
 pub mod Adding
+pub mod Files

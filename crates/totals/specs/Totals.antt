@@ -31,3 +31,7 @@ pub record Added (Kind : Type 0) (place : Kind → ℕ) (totals : Totals) (more 
 -- other totals added, each count to its own
 abbrev pub AddsTotals : (totals other : Totals) → Answer → Type 0
 AddsTotals totals other answer = Added Position (λ p. p .index) totals (λ p. countAt (p .index) other) answer
+
+-- nothing is added, and nothing refused
+abbrev pub unchanged : Totals → Answer
+unchanged totals = record { refusal = 0; totals = totals }

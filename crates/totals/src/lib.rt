@@ -1,8 +1,9 @@
 // Totals of the month's tally, and totals added to totals.
 ghost use mathlib.Core.Path.{_≡_};
+ghost use mathlib.Core.Bool.{false};
 ghost use Prim.Native.Nat.{_+_};
 ghost use lib.Dec.{leb};
-ghost use Rattle.totals.specs.Totals.{largest, AddsTotals};
+ghost use Rattle.totals.specs.Totals.{largest, unchanged, AddsTotals};
 ghost use Rattle.totals.specs.Sums.{Sum};
 
 // The counts: batches, tasks, output pixels, blended pixels, batches with fault 20 to 28, records without a score.
@@ -14,6 +15,18 @@ pub struct Totals {
 pub struct Answer {
     pub refusal: u32,
     pub totals: Totals,
+}
+
+// What came of a file that was to be added: whether the system could read it, and what is answered.
+pub struct Outcome {
+    pub read: bool,
+    pub answer: Answer,
+}
+
+// What came of many files, one after another: what is answered in the end, and how many of them the system could not read.
+pub struct FilesOutcome {
+    pub answer: Answer,
+    pub unread: usize,
 }
 
 // Sums of counts, and whether none is too large.
@@ -69,5 +82,15 @@ pub fn add(totals: Totals, other: Totals) -> Answer
     Answer {
         refusal: 0,
         totals: Totals { counts: after },
+    }
+}
+
+// Of a file that the system could not read nothing is added.
+pub fn unread(totals: Totals) -> Outcome
+    ensures { λ r. ⌜ r ≡ record { read = false; answer = unchanged totals } ⌝ }
+{
+    Outcome {
+        read: false,
+        answer: Answer { refusal: 0, totals },
     }
 }

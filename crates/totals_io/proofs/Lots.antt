@@ -1,6 +1,7 @@
 -- What is printed, and what a lot adds.
 use mathlib.Core.Path.{_≡_, refl, sym, ap, _∙_}
-use mathlib.Core.Bool.{true, false, false≢true}
+use mathlib.Core.Bool.{Bool, true, false, false≢true}
+use mathlib.Core.Logic.{inl}
 use mathlib.Core.List.{List, []}
 use Prim.Native.Nat.{ℕ, _≤_}
 use native.Mathlib.Omega.{arith}
@@ -11,11 +12,13 @@ use Rattle.text.specs.Line.{Line, lineOf, appended}
 use Rattle.text.proofs.Typing.{typed-whole}
 use Rattle.totals.specs.declared.Totals.{Totals}
 use Rattle.totals.specs.declared.Answer.{Answer}
-use Rattle.totals.specs.Totals.{AddsTotals}
+use Rattle.totals.specs.declared.Outcome.{Outcome}
+use Rattle.totals.specs.Totals.{unchanged, AddsTotals}
+use Rattle.totals.specs.Files.{AddsFile}
 use Rattle.tally_lines.specs.declared.Reading.{Reading}
 use Rattle.tally_lines.specs.Reading.{Reads}
-use Rattle.totals_io.specs.declared.Lot.{Lot}
-use Rattle.totals_io.specs.Lots.{AddsText, AddsLot}
+use Rattle.totals_io.specs.declared.TotalsFile.{TotalsFile}
+use Rattle.totals_io.specs.Lots.{AddsText, ReadsFile}
 
 pub counts-of : (n : ℕ) (xs : List ℕ) → n ≤ length xs → Counts n xs
 counts-of n xs h = (h, sym (length-take-le n xs h))
@@ -24,29 +27,30 @@ counts-of n xs h = (h, sym (length-take-le n xs h))
 pub typed-size : (room : ℕ) (bytes bytes′ text : List ℕ) (n : ℕ) → length bytes ≡ room → length text ≤ room → lineOf bytes′ n ≡ appended (lineOf bytes 0) text → n ≡ length text
 typed-size room bytes bytes′ text n size fits e = ap (λ (l : Line). l .end) (e ∙ typed-whole bytes text (omega arith))
 
--- ---- lots
+-- ---- read and added
 
-module _ (totals : Totals) where
-  abbrev untouched : Lot
-  untouched = record { answer = record { refusal = 0; totals = totals }; well = false }
+module _ (totals : Totals) (text : List ℕ) (reading : Reading) (R : Reads text reading) where
+  pub text-none : reading .well ≡ false → AddsText totals text (unchanged totals)
+  text-none bad = record { lines = λ other O e. absurd (false≢true (sym bad ∙ R .back other O e .0)); nothing = λ never. refl; only = inl refl }
 
-  module _ (text : List ℕ) (reading : Reading) (R : Reads text reading) where
-    pub text-none : (r : Lot) → reading .well ≡ false → r ≡ untouched → AddsText totals text r
-    text-none r bad is = rw is (record {
-      lines = λ other O e. absurd (false≢true (sym bad ∙ R .back other O e .0));
-      only = λ e. absurd (false≢true e);
-      nothing = λ e. refl;
-    })
+  pub text-some : (answer : Answer) → reading .well ≡ true → AddsTotals totals (reading .totals) answer → AddsText totals text answer
+  text-some answer good A = record {
+    lines = λ other O e. rw (R .back other O e .1) at A;
+    nothing = λ never. absurd (never (reading .totals) (R .counts good) (R .exact good));
+    only = A .only;
+  }
 
-    pub text-some : (answer : Answer) → reading .well ≡ true → AddsTotals totals (reading .totals) answer → AddsText totals text (record { answer = answer; well = true })
-    text-some answer good A = record {
-      lines = λ other O e. (refl, rw (R .back other O e .1) at A);
-      only = λ e. record { other = reading .totals; counts = R .counts good; printed = R .exact good; added = A };
-      nothing = λ e. absurd (false≢true (sym e));
-    }
+pub lot-of : (totals : Totals) (file : TotalsFile) (answer : Answer) → ReadsFile file
+    → (file .reading .well ≡ true → AddsTotals totals (file .reading .totals) answer) → (file .reading .well ≡ false → answer ≡ unchanged totals)
+    → AddsFile AddsText totals (record { read = file .read; answer = answer })
+lot-of totals file answer F some never = record { file = F .text; added = λ e. text-is (F .read e) (file .reading .well) refl; unread = λ e. never (F .unread e) }
+  where
+    text-is : Reads (F .text) (file .reading) → (well : Bool) → file .reading .well ≡ well → AddsText totals (F .text) answer
+    text-is R true good = text-some totals (F .text) (file .reading) R answer good (some good)
+    text-is R false bad = rw (never bad) (text-none totals (F .text) (file .reading) R bad)
 
-  pub lot-none : (r : Lot) → r ≡ untouched → AddsLot totals r
-  lot-none r is = rw is (record { text = []; added = λ e. absurd (false≢true e); nothing = λ e. refl })
+pub no-file : (totals : Totals) → ReadsFile (record { read = false; reading = record { well = false; totals = totals } })
+no-file totals = record { text = []; read = λ e. absurd (false≢true e); unread = λ e. refl }
 
-  pub lot-of : (text : List ℕ) (r : Lot) → AddsText totals text r → AddsLot totals r
-  lot-of text r T = record { text = text; added = T .only; nothing = T .nothing }
+pub some-file : (text : List ℕ) (reading : Reading) → Reads text reading → ReadsFile (record { read = true; reading = reading })
+some-file text reading R = record { text = text; read = λ e. R; unread = λ e. absurd (false≢true (sym e)) }

@@ -1,30 +1,24 @@
--- Printed totals of a lot, read and added.
+-- Printed totals read from files: those of a lot, which are added, or those that a tally goes on from (02, request 14; their form is ours: docs/DECISIONS).
 use mathlib.Core.Path.{_≡_}
 use mathlib.Core.Bool.{true, false}
+use mathlib.Core.Logic.{_⊎_}
 use mathlib.Core.List.{List}
 use Prim.Native.Nat.{ℕ}
 use Rattle.totals.specs.declared.Totals.{Totals}
-use Rattle.totals.specs.Totals.{AddsTotals}
+use Rattle.totals.specs.declared.Answer.{Answer}
+use Rattle.totals.specs.Totals.{unchanged, AddsTotals}
 use Rattle.tally_lines.specs.Lines.{totalsText}
-use Rattle.tally_lines.specs.Reading.{Counts}
-use Rattle.totals_io.specs.declared.Lot.{Lot}
+use Rattle.tally_lines.specs.Reading.{FourteenCounts, Reads}
+use Rattle.totals_io.specs.declared.TotalsFile.{TotalsFile}
 
--- the totals that print this text were added, fourteen numbers of 64 bits
-pub record AddsPrinted (totals : Totals) (text : List ℕ) (r : Lot) : Type 0 where
-  pub other : Totals
-  pub counts : Counts (other .counts)
-  pub printed : text ≡ totalsText other
-  pub added : AddsTotals totals other (r .answer)
+-- what a text adds: the totals that print it, fourteen numbers of 64 bits; and any other text nothing
+pub record AddsText (totals : Totals) (text : List ℕ) (answer : Answer) : Type 0 where
+  pub lines : (other : Totals) → FourteenCounts (other .counts) → text ≡ totalsText other → AddsTotals totals other answer
+  pub nothing : ((other : Totals) → FourteenCounts (other .counts) → text ≡ totalsText other → ⊥) → answer ≡ unchanged totals
+  pub only : (answer .refusal ≡ 0) ⊎ ((answer .refusal ≡ 19) × (answer .totals ≡ totals))
 
-pub record AddsText (totals : Totals) (text : List ℕ) (r : Lot) : Type 0 where
-  -- what totals print is added
-  pub lines : (other : Totals) → Counts (other .counts) → text ≡ totalsText other → (r .well ≡ true) × AddsTotals totals other (r .answer)
-  -- and nothing else
-  pub only : r .well ≡ true → AddsPrinted totals text r
-  pub nothing : r .well ≡ false → r .answer ≡ record { refusal = 0; totals = totals }
-
--- the same of some text: which one is read no contract can say
-pub record AddsLot (totals : Totals) (r : Lot) : Type 0 where
+-- a file that was read is some text; which one, and whether it can be read, is the system's, and no contract can say
+pub record ReadsFile (r : TotalsFile) : Type 0 where
   pub text : List ℕ
-  pub added : r .well ≡ true → AddsPrinted totals text r
-  pub nothing : r .well ≡ false → r .answer ≡ record { refusal = 0; totals = totals }
+  pub read : r .read ≡ true → Reads text (r .reading)
+  pub unread : r .read ≡ false → r .reading .well ≡ false

@@ -1,14 +1,18 @@
-// Totals printed on standard output, and printed totals of lots read from files and added. No contract can say which bytes the system reads, or what
+// Totals printed on standard output, and printed totals read from files, and added. No contract can say which bytes the system reads, or what
 // it does with those that it is to write; what is added, and how many bytes are handed over to be written, is proved.
 ghost use mathlib.Core.Path.{_≡_};
-ghost use mathlib.Core.Bool.{false, cond};
+ghost use mathlib.Core.Bool.{true, false, cond};
 ghost use lib.ListN.{length};
 ghost use Rattle.io.specs.Counts.{Counts};
 ghost use Rattle.tally_lines.specs.Lines.{answerText, progressText};
-ghost use Rattle.totals_io.specs.Lots.{AddsText, AddsLot};
+ghost use Rattle.totals.specs.Totals.{unchanged, AddsTotals};
+ghost use Rattle.totals.specs.Files.{AddsFile};
+ghost use Rattle.totals_io.specs.Lots.{AddsText, ReadsFile};
 use command::Piece;
 use command::Printed;
+use tally_lines::Reading;
 use totals::Answer;
+use totals::Outcome;
 use totals::Totals;
 
 // ---- printed
@@ -47,39 +51,24 @@ pub fn show_progress(fd: i32, files: usize, of: usize) -> Shown
     }
 }
 
-// ---- lots
+// ---- read
 
-// What came of a lot: what is answered, and whether its totals were read.
-pub struct Lot {
-    pub answer: Answer,
-    pub well: bool,
+// A file that is to hold printed totals: whether the system could read it, and what its text is.
+pub struct TotalsFile {
+    pub read: bool,
+    pub reading: Reading,
 }
 
-// A lot of which nothing is added.
-fn nothing(totals: Totals) -> Lot
-    ensures { λ r. ⌜ r ≡ record { answer = record { refusal = 0; totals = totals }; well = false } ⌝ }
+// A file that could not be read has no totals.
+fn no_file() -> TotalsFile
+    ensures { λ r. ⌜ ReadsFile r ⌝ }
 {
-    Lot {
-        answer: Answer {
-            refusal: 0,
-            totals: totals,
+    TotalsFile {
+        read: false,
+        reading: Reading {
+            well: false,
+            totals: Totals { counts: [0u64; 14] },
         },
-        well: false,
-    }
-}
-
-// Adds the totals whose lines a text is. Of any other text nothing is added.
-pub fn add_text(totals: Totals, text: &[u8]) -> Lot
-    ensures { λ r. ⌜ AddsText totals (now (text .entry)) r ⌝ }
-{
-    let reading = tally_lines::read(text);
-    if !reading.well {
-        return nothing(totals);
-    }
-    let other = reading.totals;
-    Lot {
-        answer: totals::add(totals, other),
-        well: true,
     }
 }
 
@@ -104,33 +93,64 @@ fn read_text(fd: i32, name: &[u8], text: &mut [u8]) -> Piece
     }
 }
 
-// Adds what a descriptor reads, of which a longer text than that of totals is not read to its end.
-fn add_from(fd: i32, name: &[u8], totals: Totals) -> Lot
-    ensures { λ r. ⌜ AddsLot totals r ⌝ }
+// Reads totals from a descriptor, of which a longer text than that of totals is not read to its end. That it holds none is reported on standard error.
+fn read_from(fd: i32, name: &[u8]) -> TotalsFile
+    ensures { λ r. ⌜ ReadsFile r ⌝ }
 {
     let mut text = [0u8; 1024];
     let got = read_text(fd, name, &mut text);
     if !got.well {
-        return nothing(totals);
+        return no_file();
     }
-    let lot = add_text(totals, &text[..got.count]);
-    if !lot.well {
-        command::complain(name, b" does not hold the totals of a lot\n");
+    let reading = tally_lines::read(&text[..got.count]);
+    if !reading.well {
+        command::complain(name, b" does not hold printed totals\n");
     }
-    lot
+    TotalsFile {
+        read: true,
+        reading: reading,
+    }
 }
 
-// The same, of the file that an argument of the program names. One that can't be opened is reported on standard error and adds nothing.
-pub fn add_argument(index: usize, totals: Totals) -> Lot
-    ensures { λ r. ⌜ AddsLot totals r ⌝ }
+// The same, of the file that an argument of the program names. One that can't be opened is reported too.
+pub fn read_argument(index: usize) -> TotalsFile
+    ensures { λ r. ⌜ ReadsFile r ⌝ }
 {
     let mut path = io::buffer();
     let opened = command::open_argument(index, &mut path);
     let fd = opened.fd;
     if fd < 0 {
-        return nothing(totals);
+        return no_file();
     }
-    let lot = add_from(fd, &path[..opened.length], totals);
+    let file = read_from(fd, &path[..opened.length]);
     libc::close(fd);
-    lot
+    file
+}
+
+// ---- added
+
+// Adds the totals that were read of a text. Of a text that is not that of totals nothing is added.
+pub fn add_reading(totals: Totals, reading: Reading) -> Answer
+    ensures { λ r. ⌜ (reading .well ≡ true → AddsTotals totals (reading .totals) r) × (reading .well ≡ false → r ≡ unchanged totals) ⌝ }
+{
+    if !reading.well {
+        return Answer {
+            refusal: 0,
+            totals: totals,
+        };
+    }
+    let other = reading.totals;
+    totals::add(totals, other)
+}
+
+// Adds the totals of a lot, from the file that an argument names. One without totals is reported, and adds nothing.
+pub fn add_argument(index: usize, totals: Totals) -> Outcome
+    ensures { λ r. ⌜ AddsFile AddsText totals r ⌝ }
+{
+    let file = read_argument(index);
+    let reading = file.reading;
+    Outcome {
+        read: file.read,
+        answer: add_reading(totals, reading),
+    }
 }

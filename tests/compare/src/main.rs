@@ -13,6 +13,7 @@
 //! compare cuts2 FILE PROGRAM [WORD ..]           one of edition 2 cut at every byte
 //! compare tally COUNT SEED PROGRAM               lots of random files of both editions, counted by PROGRAM
 //! compare lots COUNT SEED PROGRAM                printed totals added by PROGRAM --add, and lots in two
+//! compare starts COUNT SEED PROGRAM              random files added by PROGRAM --from to totals that are handed in
 //! compare provenance COUNT SEED SAMPLES TOUCHED FAULT
 //!                                                who drew a byte and why a batch faulted, asked of two programs
 mod bench;
@@ -26,6 +27,7 @@ mod orders;
 mod provenance;
 mod replays;
 mod settings;
+mod starts;
 mod tints;
 mod trials;
 
@@ -52,13 +54,14 @@ fn compared(words: &[&str]) -> Result<bool> {
         ["cuts2", file, program @ ..] => replays::cuts_of(file, program, independent::second::played),
         ["tally", count, seed, program] => month::compare(number(count)?, number(seed)?, program),
         ["lots", count, seed, program] => month::lots(number(count)?, number(seed)?, program),
+        ["starts", count, seed, program] => starts::compare(number(count)?, number(seed)?, program),
         ["provenance", count, seed, samples, touched, fault] => {
             provenance::compare(number(count)?, number(seed)?, samples, [touched, fault])
         }
         _ => Err(Error::other(
             "usage: calls | lists COUNT SEED | orders COUNT SEED | pages | settings | tints COUNT SEED | fuzz SECONDS SEED \
              | replays COUNT SEED PROGRAM | cuts FILE PROGRAM | replays2 .. | cuts2 .. | tally COUNT SEED PROGRAM \
-             | lots COUNT SEED PROGRAM | provenance COUNT SEED SAMPLES TOUCHED FAULT",
+             | lots COUNT SEED PROGRAM | starts COUNT SEED PROGRAM | provenance COUNT SEED SAMPLES TOUCHED FAULT",
         )),
     }
 }

@@ -32,7 +32,7 @@ fn agrees(program: &str, folder: &Path, lot: &[Vec<u8>], name: &str) -> Result<b
 }
 
 /// A lot of files of both editions.
-fn lot(seed: u64, number: u64) -> Vec<Vec<u8>> {
+pub fn lot(seed: u64, number: u64) -> Vec<Vec<u8>> {
     let random = &mut Random::of_case(seed ^ 0x7A11, number);
     let count = 1 + random.below(8);
     (0..u64::from(count))
@@ -44,7 +44,7 @@ fn lot(seed: u64, number: u64) -> Vec<Vec<u8>> {
 }
 
 /// Totals of a lot as they are printed: small, near the largest number, or anything; and some that are no totals.
-fn lot_text(random: &mut Random) -> Vec<u8> {
+pub fn lot_text(random: &mut Random) -> Vec<u8> {
     let mut totals = [0u64; month::COUNTS];
     let near = random.one_in(3);
     for total in &mut totals {
@@ -63,7 +63,7 @@ fn lot_text(random: &mut Random) -> Vec<u8> {
 }
 
 /// One change of a text, after which it may still be that of totals.
-fn damage(text: &mut Vec<u8>, random: &mut Random) {
+pub fn damage(text: &mut Vec<u8>, random: &mut Random) {
     let place = random.below(text.len() as u32) as usize;
     match random.below(6) {
         0 => text.truncate(place),
@@ -88,7 +88,7 @@ fn added(program: &str, folder: &Path, lots: &[Vec<u8>]) -> Result<(String, Stri
 /// Whether the sum of some texts is what it should be, and what is no totals is reported by its name and nothing else is.
 fn adds(program: &str, folder: &Path, lots: &[Vec<u8>], name: &str) -> Result<bool> {
     let (expected, bad) = month::added(lots);
-    let said: String = bad.iter().map(|k| format!("{} does not hold the totals of a lot\n", folder.join(format!("{k}.totals")).display())).collect();
+    let said: String = bad.iter().map(|k| format!("{} does not hold printed totals\n", folder.join(format!("{k}.totals")).display())).collect();
     let found = added(program, folder, lots)?;
     if found == (expected.clone(), said.clone()) {
         return Ok(true);

@@ -7,6 +7,10 @@
 //! independent replay [FILE]          prints the lines of a replay file, or of standard input
 //! independent replay2 [FILE]         the same of edition 2
 //! independent tally FILE..           prints the counts of replay files of both editions
+//! independent tally --from TOTALS FILE..
+//!                                    the same, from the totals on that are printed in the file TOTALS
+//! independent tally --shown TOTALS FILE..
+//!                                    what a terminal shows of that, with how many files are done
 //! independent picture FILE ADDRESS STRIDE WIDTH HEIGHT FORMAT
 //!                                    writes a rectangle of the memory after a replay as a picture (PPM)
 //! independent touched FILE ADDRESS [STRIDE FORMAT X Y]
@@ -66,10 +70,18 @@ fn fault(file: &String, ticket: &str) -> Result<()> {
     Ok(())
 }
 
-fn tally(files: &[String]) -> Result<()> {
-    let files: Vec<Vec<u8>> = files.iter().map(std::fs::read).collect::<Result<_>>()?;
-    let printed = month::tallied([0; month::COUNTS], files.iter().map(Vec::as_slice));
+fn read_all(files: &[String]) -> Result<Vec<Vec<u8>>> {
+    files.iter().map(std::fs::read).collect()
+}
+
+/// What is printed, if the totals that it starts from are some.
+fn write_counts(printed: Option<String>) -> Result<()> {
+    let printed = printed.ok_or_else(|| Error::other("TOTALS holds no printed totals"))?;
     std::io::stdout().write_all(printed.as_bytes())
+}
+
+fn tally(start: &[u8], files: &[String]) -> Result<()> {
+    write_counts(month::continued(start, read_all(files)?.iter().map(Vec::as_slice)))
 }
 
 fn print_lines(lines: &[String]) -> Result<()> {
@@ -82,7 +94,9 @@ fn done(words: &[String]) -> Result<()> {
         ["--count", lists, seed] => count(lists, seed),
         ["replay"] | ["replay", _] => std::io::stdout().write_all(replay::replayed(&input(words.get(1))?).0.as_bytes()),
         ["replay2"] | ["replay2", _] => std::io::stdout().write_all(second::played(&input(words.get(1))?).0.as_bytes()),
-        ["tally", _, ..] => tally(&words[1..]),
+        ["tally", "--from", totals, _, ..] => tally(&std::fs::read(totals)?, &words[3..]),
+        ["tally", "--shown", totals, _, ..] => write_counts(month::shown(&std::fs::read(totals)?, &read_all(&words[3..])?)),
+        ["tally", _, ..] => tally(month::printed(&[0; month::COUNTS], false).as_bytes(), &words[1..]),
         ["picture", _, ..] => picture(&words[1], &words[2..]),
         ["touched", _, ..] => touched(&words[1], &words[2..]),
         ["fault", _, ticket] => fault(&words[1], ticket),
@@ -92,7 +106,7 @@ fn done(words: &[String]) -> Result<()> {
         ["tables", "header", file] => print_lines(&documents::header(&std::fs::read_to_string(file)?)),
         ["all", dir] => programs::write(Path::new(dir)),
         _ => Err(Error::other(
-            "usage: all DIR | samples DIR | --count COUNT SEED | replay [FILE] | replay2 [FILE] | tally FILE.. | picture FILE .. | touched FILE .. | fault FILE TICKET | tables ..",
+            "usage: all DIR | samples DIR | --count COUNT SEED | replay [FILE] | replay2 [FILE] | tally [--from TOTALS] FILE.. | tally --shown TOTALS FILE.. | picture FILE .. | touched FILE .. | fault FILE TICKET | tables ..",
         )),
     }
 }

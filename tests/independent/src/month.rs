@@ -112,6 +112,21 @@ pub fn parsed(text: &str) -> Option<[u64; COUNTS]> {
     rest.is_empty().then_some(totals)
 }
 
+/// What is printed of some files, from the totals on that a text prints; nothing if it is no text of totals.
+pub fn continued<'a>(text: &[u8], files: impl IntoIterator<Item = &'a [u8]>) -> Option<String> {
+    let start = std::str::from_utf8(text).ok().and_then(parsed)?;
+    Some(tallied(start, files))
+}
+
+/// What a terminal shows while files are added to the totals that a text prints: how many are done, in one line, and then what is printed. A terminal
+/// ends its lines with a carriage return too.
+pub fn shown(text: &[u8], files: &[Vec<u8>]) -> Option<String> {
+    let printed = continued(text, files.iter().map(Vec::as_slice))?;
+    let done = (1..=files.len()).take_while(|&k| continued(text, files[..k].iter().map(Vec::as_slice)).is_some_and(|part| !part.ends_with("refused 19\n")));
+    let progress: String = done.map(|k| format!("{k} of {} files{}", files.len(), if k == files.len() { '\n' } else { '\r' })).collect();
+    Some((progress + &printed).replace('\n', "\r\n"))
+}
+
 /// What is printed of the texts of some lots, added from zero on, and which of them are no totals: these add nothing.
 pub fn added(lots: &[Vec<u8>]) -> (String, Vec<usize>) {
     let mut totals = [0; COUNTS];
@@ -168,7 +183,9 @@ mod tests {
         start[13] = u64::MAX;
         let hello = sample_files::hello();
         assert_eq!(add(start, &of_file(&hello)), (start, true));
+        assert_eq!(continued(printed(&start, false).as_bytes(), [hello.as_slice()]), Some(printed(&start, true)));
         start[13] -= 1;
         assert_eq!(add(start, &of_file(&hello)).0[13], u64::MAX);
+        assert_eq!(continued(b"batches 1\n", [hello.as_slice()]), None);
     }
 }

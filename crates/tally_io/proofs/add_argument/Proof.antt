@@ -1,4 +1,4 @@
-use Rattle.tally_io.proofs.Files.{file-none}
+use Rattle.totals.proofs.Files.{file-none}
 use borrow.Author.Needs.{needs}
 use Rattle.tally_io.proofs.add_argument.Statement.{statement}
 use Rattle.tally_io.proofs.add_argument.Tie as tie
@@ -8,7 +8,7 @@ use Rattle.command.proofs.open_argument.Reads as open-argument-reads
 use Rattle.io.proofs.buffer.Reads as buffer-reads
 use Rattle.libc.proofs.close.Reads as close-reads
 use Rattle.tally_io.proofs.add_from.Reads as add-from-reads
-use Rattle.tally_io.proofs.nothing.Reads as nothing-reads
+use Rattle.totals.proofs.unread.Reads as unread-reads
 
 -- src/lib.rt:102:20
 buffer-requires : tie.Need-buffer-requires
@@ -23,12 +23,12 @@ open-argument-requires : tie.Need-open-argument-requires
 open-argument-requires c κs = search needs
 
 -- src/lib.rt:106:9
-nothing-requires : tie.Need-nothing-requires
-nothing-requires c κs = search needs
+unread-requires : tie.Need-unread-requires
+unread-requires c κs = search needs
 
 -- src/lib.rt:106:9
 returns : tie.Need-returns
-returns c = file-none _ _ (c .nothing .ensures)
+returns c = file-none _ _ _ (c .unread .ensures)
 
 -- src/lib.rt:108:29
 array-share-prefix-path : tie.Need-array-share-prefix-path
@@ -57,7 +57,7 @@ add-argument-spec =
     buffer-requires
     slice-aggregate-open-argument
     open-argument-requires
-    nothing-requires
+    unread-requires
     returns
     array-share-prefix-path
     slice-aggregate-add-from

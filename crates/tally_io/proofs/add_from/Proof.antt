@@ -1,5 +1,5 @@
 use mathlib.Core.List.{[]}
-use Rattle.tally_io.proofs.Files.{file-none, file-some}
+use Rattle.totals.proofs.Files.{file-none, file-some}
 use borrow.Author.Needs.{needs}
 use Rattle.tally_io.proofs.add_from.Statement.{statement}
 use Rattle.tally_io.proofs.add_from.Tie as tie
@@ -7,7 +7,7 @@ use Rattle.tally_io.proofs.add_from.Reads as reads
 use Rattle.tally_io.proofs.add_from.Lts as lts
 use Rattle.tally.proofs.finish.Reads as finish-reads
 use Rattle.tally.proofs.start.Reads as start-reads
-use Rattle.tally_io.proofs.nothing.Reads as nothing-reads
+use Rattle.totals.proofs.unread.Reads as unread-reads
 use Rattle.tally_io.proofs.read_all.Reads as read-all-reads
 
 -- src/lib.rt:86:9
@@ -23,12 +23,12 @@ read-all-requires : tie.Need-read-all-requires
 read-all-requires c κs = search needs
 
 -- src/lib.rt:89:9
-nothing-requires : tie.Need-nothing-requires
-nothing-requires c κs = search needs
+unread-requires : tie.Need-unread-requires
+unread-requires c κs = search needs
 
 -- src/lib.rt:89:9
 returns : tie.Need-returns
-returns c = file-none _ _ (c .nothing .ensures)
+returns c = file-none _ _ _ (c .unread .ensures)
 
 -- src/lib.rt:93:17
 finish-requires : tie.Need-finish-requires
@@ -39,7 +39,7 @@ returns-2 : tie.Need-returns-2
 returns-2 c =
     let totals = c .before .before .before .before .before .before .before .before .before .args .totals in
     let r = c .before .before .before .before .before .read-all .ensures totals (record { seen = []; stands = c .before .before .before .before .before .before .before .start .ensures .1 _ (search needs) }) in
-    file-some totals (r .seen) _ (c .finish .ensures .1 totals (r .seen) _ (r .stands))
+    file-some _ totals (r .seen) _ (c .finish .ensures .1 totals (r .seen) _ (r .stands))
 
 pub add-from-spec : {M : Type 1} → statement M
 add-from-spec =
@@ -48,7 +48,7 @@ add-from-spec =
     start-requires
     slice-aggregate-read-all
     read-all-requires
-    nothing-requires
+    unread-requires
     returns
     finish-requires
     returns-2)

@@ -5,7 +5,7 @@ use Rattle.tally_io.proofs.read_some.Reads as reads
 use Rattle.tally_io.proofs.read_some.Lts as lts
 use Rattle.command.proofs.read_piece.Reads as read-piece-reads
 use Rattle.io.proofs.large_buffer.Reads as large-buffer-reads
-use Rattle.tally.proofs.feed_piece.Reads as feed-piece-reads
+use Rattle.tally_pieces.proofs.feed_piece.Reads as feed-piece-reads
 
 large-buffer-requires : tie.Need-large-buffer-requires
 large-buffer-requires c κs = search needs

@@ -8,7 +8,7 @@ use mir.Val.{Fits}
 use Rattle.text.specs.Line.{lineOf, appended}
 use Rattle.totals.specs.Totals.{largest}
 use Rattle.tally_lines.specs.Lines.{countLines}
-use Rattle.tally_lines.specs.Reading.{Counts}
+use Rattle.tally_lines.specs.Reading.{FourteenCounts}
 use Rattle.tally_lines.proofs.Lines.{lines-turn, lines-none, lines-size}
 use borrow.Author.Needs.{needs, elem-fits}
 use Rattle.tally_lines.proofs.count_lines.Statement.{statement}
@@ -40,7 +40,7 @@ returns : tie.Need-returns Inv-loop μ-loop
 returns c =
     let l = c .before .loop in
     let s = c .before .before .before in
-    let counts : Counts (s .args .t2) = record { size = l .inv .2; small = λ k. small (s .args .t2) k (elem-fits w64 w64 (s .args .t2) (s .good .1 .0 .0) k (s .good .1 .0 .1 .1) tt) } in
+    let counts : FourteenCounts (s .args .t2) = record { size = l .inv .2; small = λ k. small (s .args .t2) k (elem-fits w64 w64 (s .args .t2) (s .good .1 .0 .0) k (s .good .1 .0 .1 .1) tt) } in
     (sym (l .inv .3 ∙ lines-none _ _ (l .k) (omega (arith, l .inv .2, c .loop-test .left))), lines-size _ counts, counts)
 
 pub count-lines-spec : {M : Type 1} → statement M

@@ -4,7 +4,7 @@ use Prim.Native.Nat.{ℕ, _-_, _*_, _≤_}
 use native.Mathlib.Omega.{arith}
 use lib.ListN.{length, length-set}
 use Rattle.tally_lines.specs.Lines.{countLines}
-use Rattle.tally_lines.specs.Reading.{Counts}
+use Rattle.tally_lines.specs.Reading.{FourteenCounts}
 use Rattle.tally_lines.proofs.Finding.{Going, going-none, going-more, going-all}
 use borrow.Author.Needs.{needs}
 use Rattle.tally_lines.proofs.find_totals.Statement.{statement}
@@ -16,7 +16,7 @@ use Rattle.tally_lines.proofs.label_size.Reads as label-size-reads
 
 abbrev Inv-loop : tie.InvT-loop
 Inv-loop text counts₀ at₀ k₀ counts at k =
-    (k ≤ 14) × (length counts ≡ 14) × (at ≤ 700 * k) × ((own : List ℕ) → Counts own → text ≡ countLines 0 own → Going text counts at k own)
+    (k ≤ 14) × (length counts ≡ 14) × (at ≤ 700 * k) × ((own : List ℕ) → FourteenCounts own → text ≡ countLines 0 own → Going text counts at k own)
 
 abbrev μ-loop : tie.MeasureT-loop
 μ-loop text counts₀ at₀ k₀ counts at k = 14 - k

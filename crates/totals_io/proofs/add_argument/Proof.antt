@@ -1,66 +1,23 @@
-use Rattle.totals_io.proofs.Lots.{lot-none}
+use Rattle.totals_io.proofs.Lots.{lot-of}
 use borrow.Author.Needs.{needs}
 use Rattle.totals_io.proofs.add_argument.Statement.{statement}
 use Rattle.totals_io.proofs.add_argument.Tie as tie
 use Rattle.totals_io.proofs.add_argument.Reads as reads
 use Rattle.totals_io.proofs.add_argument.Lts as lts
-use Rattle.command.proofs.open_argument.Reads as open-argument-reads
-use Rattle.io.proofs.buffer.Reads as buffer-reads
-use Rattle.libc.proofs.close.Reads as close-reads
-use Rattle.totals_io.proofs.add_from.Reads as add-from-reads
-use Rattle.totals_io.proofs.nothing.Reads as nothing-reads
+use Rattle.totals_io.proofs.add_reading.Reads as add-reading-reads
+use Rattle.totals_io.proofs.read_argument.Reads as read-argument-reads
 
--- src/lib.rt:127:20
-buffer-requires : tie.Need-buffer-requires
-buffer-requires c κs = search needs
+-- src/lib.rt:153:9
+read-argument-requires : tie.Need-read-argument-requires
+read-argument-requires c κs = search needs
 
--- src/lib.rt:128:48
-slice-aggregate-open-argument : tie.Need-slice-aggregate-open-argument
-slice-aggregate-open-argument c = search needs
+-- src/lib.rt:157:17
+add-reading-requires : tie.Need-add-reading-requires
+add-reading-requires c κs = search needs
 
--- src/lib.rt:128:9
-open-argument-requires : tie.Need-open-argument-requires
-open-argument-requires c κs = search needs
-
--- src/lib.rt:131:9
-nothing-requires : tie.Need-nothing-requires
-nothing-requires c κs = search needs
-
--- src/lib.rt:131:9
+-- src/lib.rt:150:1
 returns : tie.Need-returns
-returns c = lot-none _ _ (c .nothing .ensures)
-
--- src/lib.rt:133:28
-array-share-prefix-path : tie.Need-array-share-prefix-path
-array-share-prefix-path c = search needs
-
--- src/lib.rt:133:28
-slice-aggregate-add-from : tie.Need-slice-aggregate-add-from
-slice-aggregate-add-from c = search needs
-
--- src/lib.rt:133:9
-add-from-requires : tie.Need-add-from-requires
-add-from-requires c κs = search needs
-
--- src/lib.rt:134:5
-close-requires : tie.Need-close-requires
-close-requires c κs = search needs
-
--- src/lib.rt:124:1
-returns-2 : tie.Need-returns-2
-returns-2 c = search needs
+returns c = lot-of _ _ _ (c .before .before .read-argument .ensures) (c .add-reading .ensures .0) (c .add-reading .ensures .1)
 
 pub add-argument-spec : {M : Type 1} → statement M
-add-argument-spec =
-    tie.close
-    (tie.spec
-    buffer-requires
-    slice-aggregate-open-argument
-    open-argument-requires
-    nothing-requires
-    returns
-    array-share-prefix-path
-    slice-aggregate-add-from
-    add-from-requires
-    close-requires
-    returns-2)
+add-argument-spec = tie.close (tie.spec read-argument-requires add-reading-requires returns)

@@ -1,0 +1,3 @@
+-- Laws of files that are added one after another.
+pub mod Files
+pub mod Sums

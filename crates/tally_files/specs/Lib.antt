@@ -1,0 +1,3 @@
+-- What the files that are added add, and what it comes to.
+pub mod Kinds
+pub mod Sums

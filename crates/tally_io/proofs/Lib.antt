@@ -1,2 +1,0 @@
--- Laws of a file that is added.
-pub mod Files

@@ -1,0 +1,2 @@
+-- Laws of a batch that is walked, and of a record.
+pub mod Batch
