@@ -1,6 +1,6 @@
 // The engine record: set-up numbers, clients, slots, read offset and next ticket, and the check of its rules.
 ghost use mathlib.Core.Path.{_≡_};
-ghost use mathlib.Core.Bool.{true, not, _&&_};
+ghost use mathlib.Core.Bool.{true, not, _&&_, _||_};
 ghost use mathlib.Core.List.{[]};
 ghost use Prim.Native.Nat.{_+_, _%_, _≤_, _<_};
 ghost use lib.ListN.{length, drop};
@@ -11,7 +11,9 @@ ghost use Rattle.record.specs.Slots.{consIfReady, readyBatches, sumOver,
 ghost use Rattle.record.specs.Staged.{noStaged, slotHeld};
 ghost use Rattle.record.specs.Tickets.{ticketBefore, hasTicket, slotOfTicket, batchInState};
 ghost use Rattle.record.specs.Clients.{isOpen, windowsOf, lowestClosed, overlapsAny, badWindow, windowsValid, pendingCountsMatch};
+ghost use Rattle.record.specs.Queue.{readySlots};
 ghost use Rattle.record.specs.Rules.{numberRules, batchRules, stagedRule, valid};
+ghost use Rattle.record.specs.Checking.{checkedOf};
 use range::Range;
 use reset::ResetRule;
 
@@ -177,14 +179,14 @@ fn sum_over(slots: [Slot; 8], amount: Amount) -> usize
 }
 
 // How many slots are ready.
-pub fn ready_slots(slots: [Slot; 8]) -> usize
+fn ready_slots(slots: [Slot; 8]) -> usize
     ensures { λ r. ⌜ (r ≡ length (readyBatches slots)) × (r ≤ 8) × (length slots ≡ 8) ⌝ }
 {
     sum_over(slots, Amount::One)
 }
 
 // How many ring bytes the ready batches have.
-pub fn ready_bytes(slots: [Slot; 8]) -> usize
+fn ready_bytes(slots: [Slot; 8]) -> usize
     requires { ⌜ totalLength (readyBatches slots) ≤ 32768 ⌝ }
     ensures { λ r. ⌜ r ≡ totalLength (readyBatches slots) ⌝ }
 {
@@ -284,15 +286,23 @@ fn windows_valid(setup: Setup, clients: [Client; 4]) -> bool
     true
 }
 
+// Whether a client is closed, or its count is that of its ready batches. Nothing is counted for a closed one: that is a pass over the slots.
+fn count_matches(client: Client, slots: [Slot; 8], id: u32) -> bool
+    ensures { λ r. ⌜ r ≡ (not (client .opened) || eqb (client .pending) (countOf id (readyBatches slots))) ⌝ }
+{
+    if !client.opened {
+        return true;
+    }
+    client.pending as usize == count_of(slots, id)
+}
+
 // Whether each open client's count is that of its ready batches.
 fn pending_counts_match(clients: [Client; 4], slots: [Slot; 8]) -> bool
     ensures { λ r. ⌜ r ≡ pendingCountsMatch 0 clients (readyBatches slots) ⌝ }
 {
     let mut k: usize = 0;
     while k < 4 {
-        let client = clients[k];
-        let count = count_of(slots, k as u32);
-        if !(!client.opened | (client.pending as usize == count)) {
+        if !count_matches(clients[k], slots, k as u32) {
             return false;
         }
         k += 1;
@@ -417,7 +427,7 @@ fn staged_valid(engine: Record) -> bool
 }
 
 // Whether the record keeps every rule.
-pub fn is_valid(engine: Record) -> bool
+fn rules_kept(engine: Record) -> bool
     ensures { λ r. ⌜ r ≡ valid engine ⌝ }
 {
     if !numbers_valid(engine) {
@@ -433,4 +443,39 @@ pub fn is_valid(engine: Record) -> bool
         return false;
     }
     staged_valid(engine)
+}
+
+// What the check of a record finds: whether it keeps every rule, and, if it does, how many slots are ready and how many ring bytes their batches have.
+pub struct Checked {
+    pub valid: bool,
+    pub ready: usize,
+    pub bytes: usize,
+}
+
+// Checks a record. A call does so once and hands on what was found: a pass over the slots, and the copy of them that it takes, cost more than the rest of the call.
+pub fn check(engine: Record) -> Checked
+    ensures { λ r. ⌜ (r ≡ checkedOf engine) × (readySlots engine ≤ 8) × (length (engine .slots) ≡ 8) ⌝ }
+{
+    let slots = engine.slots;
+    let ready = ready_slots(slots);
+    if !rules_kept(engine) {
+        return Checked {
+            valid: false,
+            ready: 0,
+            bytes: 0,
+        };
+    }
+    Checked {
+        valid: true,
+        ready: ready,
+        bytes: ready_bytes(slots),
+    }
+}
+
+// Whether the record keeps every rule.
+pub fn is_valid(engine: Record) -> bool
+    ensures { λ r. ⌜ r ≡ valid engine ⌝ }
+{
+    let found = check(engine);
+    found.valid
 }
