@@ -70,7 +70,7 @@ returns-2 c =
     let z = sym (r .ensures) ∙ e .if1 .left in (
       close-done (a .engine) (length (now (a .memory))) (a .client) (r .result) (r .ensures) (e .if1 .left) (c .without-client .result) (c .without-client .ensures),
       close-made (a .engine) (now (a .memory)) (a .client) z (w .window-of .result) (w .window-of .ensures .0) (f .last .0)
-      (zeros-all _ (f .last .0) _ (f .kept .0 ∙ mid-len (w .window-of .result .start) (w .window-of .result .end) (now (a .memory)) (inside w .1)) (f .ensures)),
+          (zeros-all _ (f .last .0) _ (f .kept .0 ∙ mid-len (w .window-of .result .start) (w .window-of .result .end) (now (a .memory)) (inside w .1)) (f .ensures)),
     )
 
 pub close-spec : {M : Type 1} → statement M
