@@ -107,7 +107,7 @@ fn is_free(slot: Slot) -> bool
 pub enum Amount {
     One,
     Length,
-    OfClient(u32),
+    OwnedBy(u32),
 }
 
 fn amount_of(amount: Amount, b: Batch) -> usize
@@ -116,7 +116,7 @@ fn amount_of(amount: Amount, b: Batch) -> usize
     match amount {
         Amount::One => 1,
         Amount::Length => b.length,
-        Amount::OfClient(client) => if b.client == client { 1 } else { 0 },
+        Amount::OwnedBy(client) => if b.client == client { 1 } else { 0 },
     }
 }
 
@@ -197,7 +197,7 @@ fn ready_bytes(slots: [Slot; 8]) -> usize
 pub fn count_of(slots: [Slot; 8], client: u32) -> usize
     ensures { λ r. ⌜ r ≡ countOf client (readyBatches slots) ⌝ }
 {
-    sum_over(slots, Amount::OfClient(client))
+    sum_over(slots, Amount::OwnedBy(client))
 }
 
 // The lowest free slot, 8 if there is none.
@@ -346,16 +346,16 @@ fn fits_in(ring: usize, offset: usize, room: usize, owned: bool, b: Batch) -> bo
     (at == offset) & !bad_length(ring, size) & (size <= room) & owned
 }
 
-// Whether the ready batches, from the oldest on, lie end to end from the read offset and keep their other rules.
-fn batches_valid(engine: Record) -> bool
-    requires { ⌜ (engine .setup .ring ≤ 32768) × (engine .read < engine .setup .ring) ⌝ }
+// Whether the ready batches, so many, from the oldest on lie end to end from the read offset and keep their other rules.
+fn batches_valid(engine: Record, ready: usize) -> bool
+    requires { ⌜ (engine .setup .ring ≤ 32768) × (engine .read < engine .setup .ring) × (ready ≡ readySlots engine) × (ready ≤ 8) × (length (engine .slots) ≡ 8) ⌝ }
     ensures { λ r. ⌜ r ≡ batchRules engine ⌝ }
 {
     let slots = engine.slots;
     let next = engine.next;
     let setup = engine.setup;
     let ring = setup.ring;
-    let mut k = ready_slots(slots);
+    let mut k = ready;
     let mut offset = engine.read;
     let mut room = ring;
     while 0 < k {
@@ -426,8 +426,9 @@ fn staged_valid(engine: Record) -> bool
     owned & !bad_length(ring, total) & (total <= room) & (staged.received < total) & held
 }
 
-// Whether the record keeps every rule.
-fn rules_kept(engine: Record) -> bool
+// Whether the record, with so many ready slots, keeps every rule.
+fn rules_kept(engine: Record, ready: usize) -> bool
+    requires { ⌜ (ready ≡ readySlots engine) × (ready ≤ 8) × (length (engine .slots) ≡ 8) ⌝ }
     ensures { λ r. ⌜ r ≡ valid engine ⌝ }
 {
     if !numbers_valid(engine) {
@@ -437,7 +438,7 @@ fn rules_kept(engine: Record) -> bool
     let clients = engine.clients;
     let slots = engine.slots;
     let windows = windows_valid(setup, clients);
-    let batches = batches_valid(engine);
+    let batches = batches_valid(engine, ready);
     let counts = pending_counts_match(clients, slots);
     if !(windows & batches & counts) {
         return false;
@@ -458,7 +459,7 @@ pub fn check(engine: Record) -> Checked
 {
     let slots = engine.slots;
     let ready = ready_slots(slots);
-    if !rules_kept(engine) {
+    if !rules_kept(engine, ready) {
         return Checked {
             valid: false,
             ready: 0,

@@ -21,7 +21,7 @@ ready-slots-requires : tie.Need-ready-slots-requires
 ready-slots-requires c κs = search needs
 
 rules-kept-requires : tie.Need-rules-kept-requires
-rules-kept-requires c κs = search needs
+rules-kept-requires c κs = c .ready-slots .ensures
 
 returns : tie.Need-returns
 returns c =

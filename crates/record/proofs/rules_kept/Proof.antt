@@ -23,7 +23,8 @@ windows-valid-requires c κs = search needs
 
 batches-valid-requires : tie.Need-batches-valid-requires
 batches-valid-requires c κs = let n = numbers (c .before .before .before .before .before .before .args .engine) (right (c .before .before .before .before)) in
-    (n .ring .small, n .below)
+    let p = c .before .before .before .before .before .before .pre in
+    (n .ring .small, n .below, p .0, p .1, p .2)
 
 pending-counts-match-requires : tie.Need-pending-counts-match-requires
 pending-counts-match-requires c κs = search needs
