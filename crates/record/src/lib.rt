@@ -10,7 +10,7 @@ ghost use Rattle.record.specs.Setup.{badRing, badMemory, badLength};
 ghost use Rattle.record.specs.Slots.{consIfReady, readyBatches, sumOver, amountOf, totalLength, countOf, isFreeState, lowestFree};
 ghost use Rattle.record.specs.Staged.{noStaged, slotHeld};
 ghost use Rattle.record.specs.Tickets.{ticketBefore, hasTicket, slotOfTicket, batchInState};
-ghost use Rattle.record.specs.Clients.{isOpen, windowsOf, lowestClosed, overlapsAny, badWindow, windowsValid, pendingCountsMatch};
+ghost use Rattle.record.specs.Clients.{isOpen, windowsOf, lowestClosed, overlapsAny, badWindow, misplaced, windowsValid, pendingCountsMatch};
 ghost use Rattle.record.specs.Queue.{readySlots};
 ghost use Rattle.record.specs.Rules.{numberRules, batchRules, stagedRule, valid};
 ghost use Rattle.record.specs.Checking.{checkedOf};
@@ -270,15 +270,24 @@ pub fn bad_window(setup: Setup, clients: [Client; 4], from: usize, w: Window) ->
     (w.length == 0) | !mine.is_inside(memory) | mine.shares(common) | crowded
 }
 
+// Whether the client at a place is open, and its window bad beside those of the later ones. A closed one's window is not looked at.
+fn is_misplaced(setup: Setup, clients: [Client; 4], place: usize) -> bool
+    requires { ⌜ place < 4 ⌝ }
+    ensures { λ r. ⌜ r ≡ misplaced setup clients place ⌝ }
+{
+    let client = clients[place];
+    if !client.opened {
+        return false;
+    }
+    bad_window(setup, clients, place + 1, client.window)
+}
+
 fn windows_valid(setup: Setup, clients: [Client; 4]) -> bool
     ensures { λ r. ⌜ r ≡ windowsValid setup (windowsOf clients) ⌝ }
 {
     let mut k: usize = 0;
     while k < 4 {
-        let client = clients[k];
-        let w = client.window;
-        let bad = bad_window(setup, clients, k + 1, w);
-        if client.opened & bad {
+        if is_misplaced(setup, clients, k) {
             return false;
         }
         k += 1;
