@@ -79,7 +79,7 @@ fn main() {
         usage();
         return;
     };
-    let mut memory = io::large_buffer();
+    let mut memory = [0u8; 65536];
     let came = replay_io::replay_argument(Edition::First, 1, &mut memory, false, false);
     if came.well {
         write_picture(&memory, s);
