@@ -12,7 +12,8 @@ use Rattle.editions.specs.Editions.{submissions}
 use Rattle.lines.specs.Lines.{engineOpened, linesFrom}
 use Rattle.lines.specs.Answered.{submitAndRunAll}
 use Rattle.replay.specs.declared.Replay.{Replay}
-use Rattle.replay.specs.Calls.{Prints, finishedText}
+use Rattle.record_lines.specs.Prints.{Prints}
+use Rattle.replay.specs.Calls.{finishedText}
 use Rattle.replay.specs.Chunking.{Stands}
 
 -- how many bytes of this text are handed over, if lines are shown; counted modulo 2 to the 64th

@@ -1,7 +1,7 @@
 -- Laws of a record submitted and run.
 use mathlib.Core.Path.{_≡_, refl, sym, ap, _∙_}
 use mathlib.Core.List.{List}
-use Prim.Native.Nat.{ℕ, zero, suc, _<_}
+use Prim.Native.Nat.{ℕ, zero, suc, _<_, _-_, _≤_}
 use native.Mathlib.Omega.{arith}
 use Rattle.record.specs.declared.Record.{Record}
 use Rattle.queue.specs.declared.Reply.{Reply}
@@ -13,11 +13,19 @@ use Rattle.engine.specs.declared.Ran.{Ran}
 use Rattle.engine.specs.Outcome.{runRefusalOf as refusalOf, valuesOf}
 use Rattle.engine.specs.Run.{oldest, oldestVerdict, runNumber, outcomeUnlessRefused, runResult, runMemory}
 use Rattle.model.specs.Calls.{run, refused}
-use Rattle.claims.specs.Engine.{mkState, CallResult, answerOrRefusal, completion, performCall}
-use Rattle.replay.specs.declared.Served.{Served}
+use Rattle.claims.specs.Engine.{mkState, CallResult, answerOrRefusal, completion, performCall, State}
+use Rattle.serving.specs.declared.Served.{Served}
 use Rattle.records.specs.Records.{Entry}
-use Rattle.lines.specs.Lines.{refusalLine, answerLine, submitAndRun, entryLine}
-use Rattle.replay.specs.Calls.{Prints, Serves}
+use Rattle.lines.specs.Lines.{refusalLine, answerLine, submitAndRun, entryLine, badScoreLine, recordLine, recordAfter}
+use mathlib.Core.Bool.{Bool, true, false}
+use lib.ListN.{length, getD, take, drop}
+use Rattle.records.specs.declared.Edition.{Edition}
+use Rattle.records.specs.declared.Edition.the-variants.{First, Second}
+use Rattle.records.specs.Reading.{batchStart, entryIn}
+use Rattle.editions.specs.Editions.{scoreHolds, scoreIn}
+use Rattle.editions.proofs.Records.{score-in, submission-in}
+use Rattle.record_lines.specs.Prints.{Prints}
+use Rattle.serving.specs.Serves.{Serves}
 
 -- ---- what run answers
 
@@ -33,13 +41,6 @@ pub run-refused : (engine : Record) (ring memory : List ℕ) (m : ℕ) → runRe
 unfolding runResult
 run-refused engine ring memory m e =
     answered-refused (runNumber engine ring memory) (record { client = oldest engine .client; ticket = oldest engine .ticket; verdict = oldestVerdict engine ring }) m e
-
--- what is printed of it
-pub outcome-refused : (client number : ℕ) → 0 < number
-    → answerLine client (answerOrRefusal (refusalOf (Refused number)) (completion (valuesOf (Refused number)))) ≡ refusalLine client number
-unfolding answerLine answerOrRefusal
-outcome-refused client zero h = absurd (omega arith)
-outcome-refused client (suc number) h = refl
 
 -- ---- a record
 
@@ -88,3 +89,31 @@ module _ (engine : Record) (ring memory : List ℕ) (entry : Entry) (line : List
         memory-is = rw (all, ← submitted, ← rung-is) drawn;
         prints = rw (all, ← submitted, ← rung-is, ← ran-is) prints;
       }
+
+-- ---- a record in the buffer
+
+-- there is a byte for its client
+pub lies-some : (edition : Edition) (end room : ℕ) → (batchStart edition ≤ end) × (end ≤ room) → 5 ≤ room
+lies-some First end room lies = omega arith
+lies-some Second end room lies = omega arith
+
+module _ (edition : Edition) (engine : Record) (ring memory held line : List ℕ) (end : ℕ) (lies : (batchStart edition ≤ end) × (end ≤ length held)) where
+  abbrev begun : State
+  begun = mkState engine ring memory
+
+  abbrev Record-serves : Served → (ring′ memory′ line′ : List ℕ) → Type 0
+  Record-serves s ring′ memory′ line′ = Serves (recordLine edition (entryIn held end) begun) (recordAfter edition (entryIn held end) begun) line s ring′ memory′ line′
+
+  holds : (b good : Bool) → good ≡ scoreIn edition held end → good ≡ b → scoreHolds edition (entryIn held end) ≡ b
+  holds b good is e = sym (score-in edition held end lies) ∙ sym is ∙ e
+
+  -- its score is bad
+  pub record-bad : (good : Bool) (written : ℕ) (line′ : List ℕ) → good ≡ scoreIn edition held end → good ≡ false → Prints badScoreLine line written line′
+      → Record-serves (record { engine = engine; written = written }) ring memory line′
+  record-bad good written line′ is e prints = rw (holds false good is e) (record { engine-is = refl; ring-is = refl; memory-is = refl; prints = prints })
+
+  -- it is submitted
+  pub record-good : (good : Bool) (start : ℕ) (s : Served) (ring′ memory′ line′ : List ℕ) → good ≡ scoreIn edition held end → good ≡ true → start ≡ batchStart edition
+      → let entry : Entry = record { client = getD held 4 0; batch = take (end - start) (drop start held) } in
+      Serves (entryLine entry begun) (submitAndRun entry begun .after) line s ring′ memory′ line′ → Record-serves s ring′ memory′ line′
+  record-good good start s ring′ memory′ line′ is e at serves = rw (holds true good is e, submission-in edition held end lies, ← at) serves

@@ -1,9 +1,9 @@
 use mathlib.Core.Path.{refl, sym, ap, _∙_}
 use Rattle.engine.specs.declared.Ran.{Ran}
-use Rattle.replay.proofs.Serving.{run-refused, serves-refused, serves-ran}
+use Rattle.serving.proofs.Serving.{run-refused, serves-refused, serves-ran}
 use borrow.Author.Needs.{needs}
-use Rattle.replay.proofs.serve.Statement.{statement}
-use Rattle.replay.proofs.serve.Tie as tie
+use Rattle.serving.proofs.serve.Statement.{statement}
+use Rattle.serving.proofs.serve.Tie as tie
 
 submit-requires : tie.Need-submit-requires
 submit-requires c κs = search needs

@@ -2,16 +2,16 @@ use native.Mathlib.Omega.{arith}
 use lib.ListN.{length}
 use borrow.Author.Tests.{not-true, not-false}
 use Rattle.lines.specs.Lines.{badScoreLine}
-use Rattle.replay.proofs.Printing.{prints-typed}
-use Rattle.replay.proofs.Feeding.{lies-some, record-bad, record-good}
+use Rattle.record_lines.proofs.Printing.{prints-typed}
+use Rattle.serving.proofs.Serving.{lies-some, record-bad, record-good}
 use borrow.Author.Needs.{needs}
-use Rattle.replay.proofs.serve_record.Statement.{statement}
-use Rattle.replay.proofs.serve_record.Tie as tie
-use Rattle.replay.proofs.serve_record.Reads as reads
-use Rattle.replay.proofs.serve_record.Lts as lts
+use Rattle.serving.proofs.serve_record.Statement.{statement}
+use Rattle.serving.proofs.serve_record.Tie as tie
+use Rattle.serving.proofs.serve_record.Reads as reads
+use Rattle.serving.proofs.serve_record.Lts as lts
 use Rattle.editions.proofs.score_in.Reads as score-in-reads
 use Rattle.records.proofs.Edition.batch_start.Reads as batch-start-reads
-use Rattle.replay.proofs.serve.Reads as serve-reads
+use Rattle.serving.proofs.serve.Reads as serve-reads
 use Rattle.text.proofs.line.copy.Reads as copy-reads
 
 score-in-requires : tie.Need-score-in-requires

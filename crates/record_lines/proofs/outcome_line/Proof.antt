@@ -1,9 +1,9 @@
 use Rattle.claims.specs.Engine.{answerOrRefusal}
 use Rattle.lines.specs.Lines.{answerLine}
-use Rattle.replay.proofs.Serving.{outcome-refused}
+use Rattle.record_lines.proofs.Printing.{outcome-refused}
 use borrow.Author.Needs.{needs}
-use Rattle.replay.proofs.outcome_line.Statement.{statement}
-use Rattle.replay.proofs.outcome_line.Tie as tie
+use Rattle.record_lines.proofs.outcome_line.Statement.{statement}
+use Rattle.record_lines.proofs.outcome_line.Tie as tie
 
 enum-known-outcome : tie.Need-enum-known-outcome
 enum-known-outcome c = search needs

@@ -1,10 +1,10 @@
 use mathlib.Core.Path.{ap, _∙_}
 use Rattle.batch.specs.Batch.{statusWordOf, faultNumberOf, faultOffsetOf}
 use Rattle.text.specs.Hex.{hexWord}
-use Rattle.replay.proofs.Printing.{hex-rest, completion-prints}
+use Rattle.record_lines.proofs.Printing.{hex-rest, completion-prints}
 use borrow.Author.Needs.{needs}
-use Rattle.replay.proofs.completion_line.Statement.{statement}
-use Rattle.replay.proofs.completion_line.Tie as tie
+use Rattle.record_lines.proofs.completion_line.Statement.{statement}
+use Rattle.record_lines.proofs.completion_line.Tie as tie
 
 decimal-requires : tie.Need-decimal-requires
 decimal-requires c κs = search needs

@@ -1,10 +1,10 @@
 use native.Mathlib.Omega.{arith}
 use Rattle.records.specs.Records.{badVersion}
 use Rattle.lines.specs.Lines.{endingLine}
-use Rattle.replay.proofs.Printing.{prints-typed}
+use Rattle.record_lines.proofs.Printing.{prints-typed}
 use borrow.Author.Needs.{needs}
-use Rattle.replay.proofs.bad_version.Statement.{statement}
-use Rattle.replay.proofs.bad_version.Tie as tie
+use Rattle.record_lines.proofs.bad_version.Statement.{statement}
+use Rattle.record_lines.proofs.bad_version.Tie as tie
 
 slice-aggregate-copy : tie.Need-slice-aggregate-copy
 slice-aggregate-copy c = search needs

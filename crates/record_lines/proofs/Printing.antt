@@ -1,18 +1,21 @@
 -- Laws of the lines: texts typed one after another into a buffer that has room for any line.
 use mathlib.Core.Path.{_≡_, refl, ap, _∙_}
 use mathlib.Core.List.{List, [], _∷_, _++_}
-use Prim.Native.Nat.{ℕ, _/_, _%_, _≤_}
+use Prim.Native.Nat.{ℕ, _/_, _%_, _≤_, zero, suc, _<_}
 use native.Mathlib.Omega.{arith}
 use lib.ListN.{length, length-append}
 use Rattle.word.specs.Word.{byteOf, beBytes}
 use Rattle.word.specs.Splice.{spliced}
-use Rattle.model.specs.Calls.{CompletionStatus}
+use Rattle.model.specs.Calls.{CompletionStatus, run, refused}
 use Rattle.text.specs.Line.{Line, lineOf, pushed, appended}
 use Rattle.text.specs.Hex.{hexBytes, hexWord}
 use Rattle.text.specs.Decimal.{decimal}
 use Rattle.text.proofs.Typing.{typed-append, typed-cons, typed-one, typed-whole, hex-size}
-use Rattle.lines.specs.Lines.{spaced, completionLine, refusalLine}
-use Rattle.replay.specs.Calls.{Prints}
+use Rattle.lines.specs.Lines.{spaced, completionLine, refusalLine, answerLine}
+use Rattle.record_lines.specs.Prints.{Prints}
+use Rattle.engine.specs.declared.Outcome.the-variants.{Refused}
+use Rattle.engine.specs.Outcome.{runRefusalOf as refusalOf, valuesOf}
+use Rattle.claims.specs.Engine.{answerOrRefusal, completion}
 
 -- eight digits show a number modulo 2 to the 32nd
 pub hex-rest : (n : ℕ) → hexWord (n % 4294967296) ≡ hexWord n
@@ -86,3 +89,10 @@ module _ (line line′ : List ℕ) (written : ℕ) (room : 128 ≤ length line) 
   completion-prints client ticket v word fault offset a b s c d f m n o p is-word is-fault is-offset ea eb es ec ed ef e =
       let spaces = typed-cons b 32 (hexWord word) in
       completion-typed client ticket v a b c d f m n (rw (← is-fault) o) (rw (← is-offset) p) ea eb (cc) (cc) (cc) (e ∙ typed-one f 10)
+
+-- what is printed of a run that was refused
+pub outcome-refused : (client number : ℕ) → 0 < number
+    → answerLine client (answerOrRefusal (refusalOf (Refused number)) (completion (valuesOf (Refused number)))) ≡ refusalLine client number
+unfolding answerLine answerOrRefusal
+outcome-refused client zero h = absurd (omega arith)
+outcome-refused client (suc number) h = refl

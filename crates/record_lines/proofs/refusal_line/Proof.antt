@@ -1,7 +1,7 @@
-use Rattle.replay.proofs.Printing.{refusal-prints}
+use Rattle.record_lines.proofs.Printing.{refusal-prints}
 use borrow.Author.Needs.{needs}
-use Rattle.replay.proofs.refusal_line.Statement.{statement}
-use Rattle.replay.proofs.refusal_line.Tie as tie
+use Rattle.record_lines.proofs.refusal_line.Statement.{statement}
+use Rattle.record_lines.proofs.refusal_line.Tie as tie
 
 decimal-requires : tie.Need-decimal-requires
 decimal-requires c κs = search needs
