@@ -101,7 +101,7 @@ fn held_in(bank: Bank, offset: u32) -> u32
     held_surface(source, 0x010, offset, destinations)
 }
 
-// For 24 the register and what it held; for the other faults nothing more is told.
+// For 24 the register and what it held; for the other faults nothing more is answered.
 fn detail_of(fault: Fault, register: u32, bank: Bank) -> Detail
     ensures { λ r. ⌜ r ≡ detailOf fault register bank ⌝ }
 {

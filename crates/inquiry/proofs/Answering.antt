@@ -173,7 +173,7 @@ module _ (q : Question) where
       ∙ ap (λ (xs : List ℕ). answersOf q (findingFrom q nothingYet (records First xs .entries))) (append-nil seen)
       ∙ answers-file (records First seen)
 
--- ---- the answers, as they are told
+-- ---- the answers, with their refusals
 
 module _ (q : Question) (s : Inquiry) (seen held : List ℕ) (S : Stands q seen s held) where
   pub touched-told : toldTouched (s .finding .records) (q .address) (s .finding .touched) ≡ touchedAnswer (records First seen) (q .address)
