@@ -10,10 +10,10 @@ use borrow.Author.Tests.{ltb-true, lt-ltb}
 use Rattle.word.proofs.Tests.{split, and-true}
 use Rattle.range.specs.Range.{overlaps}
 use Rattle.range.proofs.Laws.{apart}
 use Rattle.surface.specs.declared.Surface.{Surface}
 use Rattle.surface.specs.Surface.{rowLength, rowStart, span, InRow, DisjointRows}
-use Rattle.surface.specs.Meet.{existsBelow, rowsOverlap, surfacesOverlap, StartsNoLater}
+use Rattle.overlap.specs.Overlap.{existsBelow, rowsOverlap, surfacesOverlap, StartsNoLater}
 use Rattle.surface.proofs.Outside.{byte-in-span}
 
 -- ---- some number below n
 

@@ -4,9 +4,9 @@ use mathlib.Core.Path.{_≡_, refl}
 use mathlib.Core.Bool.{true, false}
 use Rattle.range.specs.Range.{overlaps}
 use Rattle.pixel.specs.declared.format.Format.the-variants.{Argb8888}
 use Rattle.surface.specs.declared.Surface.{Surface}
 use Rattle.surface.specs.Surface.{span}
-use Rattle.surface.specs.Meet.{existsBelow, rowsOverlap, surfacesOverlap}
+use Rattle.overlap.specs.Overlap.{existsBelow, rowsOverlap, surfacesOverlap}
 
 abbrev column : ℕ → ℕ → Surface
 column address stride = record { address = address; stride = stride; width = 4; height = 3; format = Argb8888 }

@@ -1,7 +1,7 @@
 use native.Mathlib.Omega.{arith}
 use borrow.Author.Needs.{needs}
-use Rattle.pixel.proofs.blend.near.Statement.{statement}
-use Rattle.pixel.proofs.blend.near.Tie as tie
+use Rattle.division.proofs.near.Statement.{statement}
+use Rattle.division.proofs.near.Tie as tie
 
 returns : tie.Need-returns
 returns c = omega arith

@@ -1,8 +1,11 @@
--- Nearest division by 255 by shifts and adds (02, request 4). What is promised of a pixel stays `div255` (Alpha.antt); this says where the
--- usual trick agrees with it, and that holding at 255 makes up for the rest. proofs/Division.antt proves `Division`.
+-- Nearest division by 255 (01, "Pixels"), and by shifts and adds (02, request 4). What is promised of a pixel is `div255`; `Division` says where the
+-- usual trick agrees with it, and that holding at 255 makes up for the rest. proofs/Division.antt proves it.
 use mathlib.Core.Path.{_≡_}
 use Prim.Native.Nat.{ℕ, _+_, _/_, _≤_, min}
-use Rattle.pixel.specs.Alpha.{div255}
+
+-- the whole part of (n + 127) / 255
+unfoldable pub div255 : ℕ → ℕ
+div255 n = (n + 127) / 255
 
 -- the usual trick; a shift by eight places is a division by 256
 abbrev pub shifted : ℕ → ℕ

@@ -2,7 +2,7 @@
 use Prim.Native.Nat.{ℕ, _*_, _≤_}
 use native.Mathlib.Nat.{mul-le-mul}
 use native.Mathlib.Omega.{arith}
-use Rattle.pixel.specs.Alpha.{div255}
+use Rattle.division.specs.Division.{div255}
 
 pub product-small : (x f : ℕ) → x ≤ 255 → f ≤ 255 → x * f ≤ 65025
 product-small x f a b = mul-le-mul a b

@@ -1,8 +1,7 @@
 -- Nearest division by 255 by shifts and adds: where the trick is exact, and why holding makes the rest right.
 use mathlib.Core.Path.{refl}
 use native.Mathlib.Omega.{arith}
-use Rattle.pixel.specs.Alpha.{div255}
-use Rattle.pixel.specs.Division.{Division}
+use Rattle.division.specs.Division.{div255, Division}
 
 pub division : Division
 unfolding div255
