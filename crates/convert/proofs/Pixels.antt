@@ -24,7 +24,7 @@ use Rattle.rows.specs.Row.{colourIn, rowStored}
 use Rattle.lanes.specs.Lanes.{two, Done}
 use Rattle.lanes.proofs.Laws.{under-or}
 use Rattle.lanes.proofs.Passes.{more-done}
-use Rattle.composite.proofs.Colours.{Row, bytesAt, all-bytes, four-bytes, colour-is}
+use Rattle.row_colours.proofs.Colours.{Row, bytesAt, all-bytes, four-bytes, colour-is}
 use Rattle.convert.specs.Line.{pixelByte, four, Three}
 
 -- a row that was stored to its end

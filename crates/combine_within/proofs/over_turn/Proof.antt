@@ -3,13 +3,13 @@ use native.Mathlib.Omega.{arith}
 use denote.Ref.{now}
 use Rattle.pixel.specs.Rules.{blendModeFactors}
 use Rattle.pixel.specs.declared.blend.RuleName.the-variants.{SrcOver}
-use Rattle.combine_within.proofs.Within.{copy-within, clear-within, add-within}
+use Rattle.combine_within.proofs.Fours.{opaque-within, clear-within, add-within}
 use borrow.Author.Needs.{needs}
 use Rattle.combine_within.proofs.over_turn.Statement.{statement}
 use Rattle.combine_within.proofs.over_turn.Tie as tie
 
-alphas-requires : tie.Need-alphas-requires
-alphas-requires c κs = search needs
+is-opaque-requires : tie.Need-is-opaque-requires
+is-opaque-requires c κs = search needs
 
 copy-four-requires : tie.Need-copy-four-requires
 copy-four-requires c κs = search needs
@@ -22,8 +22,11 @@ returns c =
     let t = c .before .before .before .before in
     let k = t .before .before .before in
     let a = k .before .args in
-    copy-within (blendModeFactors SrcOver) (now (a .m)) _ (a .to) (a .from) (λ j. omega (arith, k .slice-known .given j)) (λ y. (refl, refl))
-    (sym (t .before .alphas .ensures) ∙ t .if1 .taken) (c .before .before .copy-four .ensures)
+    opaque-within (blendModeFactors SrcOver) (now (a .m)) _ (a .to) (a .from) (λ j. omega (arith, k .slice-known .given j)) (λ y. (refl, refl))
+    (sym (t .before .is-opaque .ensures) ∙ t .if1 .taken) (c .before .before .copy-four .ensures)
+
+is-clear-requires : tie.Need-is-clear-requires
+is-clear-requires c κs = search needs
 
 words-requires : tie.Need-words-requires
 words-requires c κs = search needs
@@ -33,7 +36,8 @@ same-length-2 c = search needs
 
 returns-2 : tie.Need-returns-2
 returns-2 c =
-    let k = c .before .before .before .before .before .before .before in
+    let q = c .before .before .before .before in
+    let k = q .before .before .before .before .before in
     let a = k .before .args in
     clear-within (blendModeFactors SrcOver) (now (a .m)) (now (a .m)) (a .to) (a .from) (λ j. omega (arith, k .slice-known .given j)) (c .before .words .ensures (c .if3 .taken))
 
@@ -46,10 +50,10 @@ same-length-3 c = search needs
 returns-3 : tie.Need-returns-3
 returns-3 c =
     let t = c .before .before .before .before .before .before .before in
-    let f = t .before .before in
-    let k = f .before .before in
+    let q = t .before in
+    let k = q .before .before .before .before .before in
     let a = k .before .args in
-    add-within (blendModeFactors SrcOver) (now (a .m)) _ (a .to) (a .from) (λ j. omega (arith, k .slice-known .given j)) (sym (f .alphas .ensures) ∙ t .if2 .taken) (c .before .before .add-bytes .ensures)
+    add-within (blendModeFactors SrcOver) (now (a .m)) _ (a .to) (a .from) (λ j. omega (arith, k .slice-known .given j)) (sym (q .is-clear .ensures) ∙ t .if2 .taken) (c .before .before .add-bytes .ensures)
 
 over-four-requires : tie.Need-over-four-requires
 over-four-requires c κs = search needs
@@ -64,10 +68,11 @@ pub over-turn-spec : {M : Type 1} → statement M
 over-turn-spec =
     tie.close
     (tie.spec
-    alphas-requires
+    is-opaque-requires
     copy-four-requires
     same-length
     returns
+    is-clear-requires
     words-requires
     same-length-2
     returns-2

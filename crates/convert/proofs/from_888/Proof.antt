@@ -2,7 +2,7 @@ use Rattle.pixel.specs.declared.format.Format.the-variants.{Argb8888, Rgb888}
 use Rattle.surface.specs.Drawn.{loadPixel}
 use Rattle.lanes.specs.Lanes.{Done}
 use Rattle.lanes.proofs.Passes.{none-done}
-use Rattle.composite.proofs.Colours.{Row}
+use Rattle.row_colours.proofs.Colours.{Row}
 use Rattle.convert.specs.Line.{pixelByte}
 use Rattle.convert.proofs.Pixels.{row-done, opaque-more}
 use Prim.Native.Nat.{_*_, _-_, _≤_}

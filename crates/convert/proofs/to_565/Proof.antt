@@ -2,7 +2,7 @@ use Rattle.pixel.specs.declared.format.Format.the-variants.{Rgb565}
 use Rattle.lanes.specs.Lanes.{Done}
 use Rattle.lanes.proofs.Passes.{none-done}
 use Rattle.rows.specs.Row.{colourIn}
-use Rattle.composite.proofs.Colours.{Row}
+use Rattle.row_colours.proofs.Colours.{Row}
 use Rattle.convert.specs.Line.{pixelByte}
 use Rattle.convert.proofs.Pixels.{row-done, two-more, narrow-is}
 use Prim.Native.Nat.{_*_, _-_, _≤_}

@@ -1,0 +1,4 @@
+-- colours by their bytes
+pub mod Colours
+-- a part of a buffer
+pub mod Parts
