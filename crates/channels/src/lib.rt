@@ -44,11 +44,12 @@ fn held_word(p: u16, q: u16) -> u16
     if 65535 - p < q { 65535 } else { p + q }
 }
 
+// The whole part of (t - 1) / 255, held at 255.
 fn last(t: u16) -> u16
-    requires { ⌜ (128 ≤ t) × (t ≤ 65280) ⌝ }
-    ensures { λ r. ⌜ (r ≡ (t - 1) / 255) × (r ≤ 255) ⌝ }
+    requires { ⌜ 128 ≤ t ⌝ }
+    ensures { λ r. ⌜ (r ≡ min 255 ((t - 1) / 255)) × (r ≤ 255) ⌝ }
 {
-    (t + (t >> 8)) >> 8
+    held_word(t, t >> 8) >> 8
 }
 
 // The nearest of (p + q) / 255, held at 255.
@@ -56,8 +57,7 @@ fn near2(p: u16, q: u16) -> u16
     requires { ⌜ (p ≤ 65025) × (q ≤ 65025) ⌝ }
     ensures { λ r. ⌜ (r ≡ min 255 ((p + q + 127) / 255)) × (r ≤ 255) ⌝ }
 {
-    let u = held_word(p, q + 383);
-    last(u - 255)
+    last(held_word(p + 128, q))
 }
 
 fn two_products(s: u16, fs: u16, d: u16, fd: u16) -> u16
