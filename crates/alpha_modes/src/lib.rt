@@ -46,7 +46,11 @@ fn mix_alpha(row: &mut [u8], o: usize, a: u32)
     ensures { λ _. ⌜ now (row .exit) ≡ set (now (row .entry)) (o + 3) (div255 (getD (now (row .entry)) (o + 3) 0 * a)) ⌝ }
 {
     let w = read_le32(row, o);
-    write_le32(row, o, w % 16777216 + nearest(prod(w / 16777216, a)) * 16777216);
+    write_le32(
+        row,
+        o,
+        w % 16777216 + nearest(prod(w / 16777216, a)) * 16777216,
+    );
 }
 
 fn set_alphas(row: &mut [u8], width: usize, a: u8)

@@ -1,6 +1,6 @@
 // ARGB8888 pixels as words. Such a pixel is stored as the very word that stands for its colour.
 ghost use mathlib.Core.Path.{_≡_};
-ghost use Prim.Native.Nat.{_+_, _*_, _≤_};
+ghost use Prim.Native.Nat.{_+_, _≤_};
 ghost use lib.ListN.{length};
 ghost use Rattle.surface.specs.Drawn.{loadPixel, storePixel};
 ghost use Rattle.rows.specs.Row.{wordColour, rowStored, RowIsWide};

@@ -9,8 +9,8 @@ ghost use Rattle.rows.specs.Row.{HoldsColours, colourAt, sourcePixelOf, FetchIn
 use argb_words::fill_words;
 use argb_words::word_of;
 use byte_rows::copy;
-use convert::from_565;
-use convert::from_888;
+use convert_565::from_565;
+use convert_888::from_888;
 use pixel::Colour;
 use pixel::Format;
 use rows::is_reversed;

@@ -1,5 +1,4 @@
 // Pixels of a colour that changes by even steps.
-ghost use mathlib.Core.Path.{_≡_};
 ghost use Prim.Native.Nat.{_*_, _≤_};
 ghost use lib.ListN.{length};
 ghost use Rattle.transform.specs.Transform.{mirrored};

@@ -2,3 +2,5 @@
 pub mod Colours
 -- a part of a buffer
 pub mod Parts
+-- pixels stored one after the other
+pub mod Stored

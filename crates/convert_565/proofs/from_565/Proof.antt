@@ -3,15 +3,16 @@ use Rattle.surface.specs.Drawn.{loadPixel}
 use Rattle.lanes.specs.Lanes.{Done}
 use Rattle.lanes.proofs.Passes.{none-done}
 use Rattle.row_colours.proofs.Colours.{Row}
-use Rattle.convert.specs.Line.{pixelByte}
-use Rattle.convert.proofs.Pixels.{row-done, four-more, widen-is}
+use Rattle.row_colours.specs.Line.{pixelByte}
+use Rattle.row_colours.proofs.Stored.{row-done, four-more}
+use Rattle.convert_565.proofs.Pixels.{widen-is}
 use Prim.Native.Nat.{ℕ, _*_, _-_, _/_, _%_, _≤_}
 use mathlib.Core.Path.{_≡_, ap, _∙_}
 use native.Mathlib.Omega.{arith}
 use borrow.Author.Needs.{needs}
 use lib.ListN.{length}
-use Rattle.convert.proofs.from_565.Statement.{statement}
-use Rattle.convert.proofs.from_565.Tie as tie
+use Rattle.convert_565.proofs.from_565.Statement.{statement}
+use Rattle.convert_565.proofs.from_565.Tie as tie
 
 abbrev Inv-loop : tie.InvT-loop
 Inv-loop d₀ s width x₀ d x = ((x ≤ width) × (length d ≡ length d₀)) × Done (pixelByte Argb8888 (λ k. loadPixel Rgb565 s (k * 2))) d₀ d 0 (x * 4)

@@ -1,9 +1,9 @@
-use Rattle.convert.proofs.Pixels.{three-set}
+use Rattle.convert_888.proofs.Pixels.{three-set}
 use native.Mathlib.Omega.{arith}
 use borrow.Author.Needs.{needs}
 use lib.ListN.{length-set}
-use Rattle.convert.proofs.put_three.Statement.{statement}
-use Rattle.convert.proofs.put_three.Tie as tie
+use Rattle.convert_888.proofs.put_three.Statement.{statement}
+use Rattle.convert_888.proofs.put_three.Tie as tie
 
 -- src/lib.rt:91:5
 slice-write-d : tie.Need-slice-write-d
