@@ -16,7 +16,7 @@ use lanes::copy;
 use lanes::load8;
 use lanes::load8c;
 use lanes::store8;
-use opacity::is_clear;
+use opacity::alphas;
 use opacity::is_opaque;
 use opacity::words;
 use plan::Plan;
@@ -47,11 +47,12 @@ fn turn(d: &mut [u8], s: &[u8], o: usize, p: Plan)
     requires { ⌜ (((o + 16 ≤ length (now d)) × (o + 16 ≤ length (now s))) × (o % 4 ≡ 0)) × Planned p ⌝ }
     ensures { λ _. ⌜ Done (blendAt (p .rule) (now (s .entry)) (now (d .entry))) (now (d .entry)) (now (d .exit)) o (o + 16) ⌝ }
 {
-    if is_opaque(s, o) & p.copies {
+    let t = alphas(s, o);
+    if is_opaque(t) & p.copies {
         copy(d, s, o);
         return;
     }
-    if is_clear(s, o) & p.leaves {
+    if (t == 0) & p.leaves {
         return;
     }
     blend_four(d, s, o, p);
@@ -73,11 +74,12 @@ fn over_turn(d: &mut [u8], s: &[u8], o: usize)
     requires { ⌜ ((o + 16 ≤ length (now d)) × (o + 16 ≤ length (now s))) × (o % 4 ≡ 0) ⌝ }
     ensures { λ _. ⌜ Done (blendAt (blendModeFactors SrcOver) (now (s .entry)) (now (d .entry))) (now (d .entry)) (now (d .exit)) o (o + 16) ⌝ }
 {
-    if is_opaque(s, o) {
+    let t = alphas(s, o);
+    if is_opaque(t) {
         copy(d, s, o);
         return;
     }
-    if is_clear(s, o) {
+    if t == 0 {
         if words(s, o) == 0 {
             return;
         }

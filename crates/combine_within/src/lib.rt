@@ -18,7 +18,7 @@ use lanes::load8;
 use lanes::load8c;
 use lanes::store8;
 use lanes::top;
-use opacity::is_clear;
+use opacity::alphas;
 use opacity::is_opaque;
 use opacity::words;
 use plan::Plan;
@@ -69,11 +69,12 @@ fn turn(m: &mut [u8], to: usize, from: usize, p: Plan)
     requires { ⌜ ((to + 16 ≤ length (now m)) × (from + 16 ≤ length (now m))) × Planned p ⌝ }
     ensures { λ _. ⌜ Done (blendWithin (p .rule) (now (m .entry)) to from) (now (m .entry)) (now (m .exit)) to (to + 16) ⌝ }
 {
-    if is_opaque(m, from) & p.copies {
+    let t = alphas(m, from);
+    if is_opaque(t) & p.copies {
         copy_four(m, to, from);
         return;
     }
-    if is_clear(m, from) & p.leaves {
+    if (t == 0) & p.leaves {
         return;
     }
     blend_four(m, to, from, p);
@@ -95,11 +96,12 @@ fn over_turn(m: &mut [u8], to: usize, from: usize)
     requires { ⌜ Apart (length (now m)) to from 16 ⌝ }
     ensures { λ _. ⌜ Done (blendWithin (blendModeFactors SrcOver) (now (m .entry)) to from) (now (m .entry)) (now (m .exit)) to (to + 16) ⌝ }
 {
-    if is_opaque(m, from) {
+    let t = alphas(m, from);
+    if is_opaque(t) {
         copy_four(m, to, from);
         return;
     }
-    if is_clear(m, from) {
+    if t == 0 {
         if words(m, from) == 0 {
             return;
         }

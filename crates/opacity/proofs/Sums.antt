@@ -8,7 +8,7 @@ use lib.Dec.{eqb}
 use lib.ListN.{getD}
 use borrow.Author.Tests.{eqb-true, eq-eqb}
 use Rattle.lanes.proofs.Laws.{under-or, both}
-use Rattle.opacity.specs.Alphas.{alphasAre}
+use Rattle.opacity.specs.Alphas.{alphasAre, alphaSum}
 
 -- two tests that hold together are the same
 same-test : (a b : Bool) → (a ≡ true → b ≡ true) → (b ≡ true → a ≡ true) → a ≡ b
@@ -39,7 +39,7 @@ unfolding alphasAre
 told v s o a =
     and-holds _ _ (and-holds _ _ (eq-eqb _ v (a .first)) (eq-eqb _ v (a .second))) (and-holds _ _ (eq-eqb _ v (a .third)) (eq-eqb _ v (a .fourth)))
 
-module _ (s : List ℕ) (o t : ℕ) (in-s : (j : ℕ) → getD s j 0 < 256) (sum : t ≡ getD s (o + 3) 0 + getD s (o + 7) 0 + getD s (o + 11) 0 + getD s (o + 15) 0) where
+module _ (s : List ℕ) (o t : ℕ) (in-s : (j : ℕ) → getD s j 0 < 256) (sum : t ≡ alphaSum s o) where
   pub full-sum : eqb t 1020 ≡ alphasAre 255 s o
   full-sum =
       let a = in-s (o + 3) in let b = in-s (o + 7) in let c = in-s (o + 11) in let d = in-s (o + 15) in

@@ -1,30 +1,24 @@
-// Four pixels of a row of ARGB8888 bytes: whether all their alphas are 255 or all 0, and whether all their bytes are 0.
+// Four pixels of a row of ARGB8888 bytes: whether all their alphas are 255 or all 0, which their sum tells, and whether all their bytes are 0.
 ghost use mathlib.Core.Path.{_≡_};
 ghost use Prim.Native.Nat.{ℕ, _+_, _*_, _≤_, _<_};
 ghost use lib.ListN.{length, getD};
-ghost use Rattle.opacity.specs.Alphas.{alphasAre};
+ghost use lib.Dec.{eqb};
+ghost use Rattle.opacity.specs.Alphas.{alphaSum};
 use lanes::wide;
 
 // The alphas of four pixels, added up.
-fn alphas(s: &[u8], o: usize) -> u16
+pub fn alphas(s: &[u8], o: usize) -> u16
     requires { ⌜ o + 16 ≤ length (now s) ⌝ }
-    ensures { λ r. ⌜ r ≡ getD (now (s .entry)) (o + 3) 0 + getD (now (s .entry)) (o + 7) 0 + getD (now (s .entry)) (o + 11) 0 + getD (now (s .entry)) (o + 15) 0 ⌝ }
+    ensures { λ r. ⌜ r ≡ alphaSum (now (s .entry)) o ⌝ }
 {
     wide(s[o + 3]) + wide(s[o + 7]) + wide(s[o + 11]) + wide(s[o + 15])
 }
 
-pub fn is_opaque(s: &[u8], o: usize) -> bool
-    requires { ⌜ o + 16 ≤ length (now s) ⌝ }
-    ensures { λ r. ⌜ r ≡ alphasAre 255 (now (s .entry)) o ⌝ }
+// Whether a sum of four alphas is that of opaque pixels. It takes the sum, so that a turn of a loop adds it up once and goes three ways by it.
+pub fn is_opaque(sum: u16) -> bool
+    ensures { λ r. ⌜ r ≡ eqb sum (4 * 255) ⌝ }
 {
-    alphas(s, o) == 1020
-}
-
-pub fn is_clear(s: &[u8], o: usize) -> bool
-    requires { ⌜ o + 16 ≤ length (now s) ⌝ }
-    ensures { λ r. ⌜ r ≡ alphasAre 0 (now (s .entry)) o ⌝ }
-{
-    alphas(s, o) == 0
+    sum == 1020
 }
 
 fn long(x: u8) -> u64

@@ -3,10 +3,16 @@ use Rattle.pixel.specs.declared.blend.RuleName.the-variants.{SrcOver}
 use Rattle.combine.proofs.Fours.{copy-done, clear-done, add-done}
 use mathlib.Core.Path.{refl, sym, _∙_}
 use denote.Ref.{now}
+use borrow.Author.Tests.{eq-eqb}
+use Rattle.opacity.proofs.Sums.{full-sum, empty-sum}
+use Rattle.plan.proofs.Blends.{Bytes}
 use native.Mathlib.Omega.{arith}
 use borrow.Author.Needs.{needs}
 use Rattle.combine.proofs.over_turn.Statement.{statement}
 use Rattle.combine.proofs.over_turn.Tie as tie
+
+alphas-requires : tie.Need-alphas-requires
+alphas-requires c κs = search needs
 
 is-opaque-requires : tie.Need-is-opaque-requires
 is-opaque-requires c κs = search needs
@@ -20,25 +26,26 @@ same-length c = search needs
 returns : tie.Need-returns
 returns c =
     let f = c .before .before .before .before in
-    let k = f .before .before in
+    let v = f .before in
+    let q = v .before in
+    let k = q .before in
     let s = k .before .before in
     let a = s .args in
-    copy-done (blendModeFactors SrcOver) (now (a .s)) (now (a .d)) _ (a .o) (s .pre .1) (λ j. omega (arith, k .shared-slice-known .given j)) (λ j. omega (arith, k .before .slice-known .given j))
-    (λ y. (refl, refl)) (sym (f .before .is-opaque .ensures) ∙ f .if1 .taken) (c .before .before .copy .ensures)
-
-is-clear-requires : tie.Need-is-clear-requires
-is-clear-requires c κs = search needs
+    let in-s : Bytes (now (a .s)) = λ j. omega (arith, k .shared-slice-known .given j) in
+    copy-done (blendModeFactors SrcOver) (now (a .s)) (now (a .d)) _ (a .o) (s .pre .1) in-s (λ j. omega (arith, k .before .slice-known .given j))
+    (λ y. (refl, refl)) (sym (full-sum (now (a .s)) (a .o) _ in-s (q .alphas .ensures)) ∙ (sym (v .is-opaque .ensures) ∙ f .if1 .taken)) (c .before .before .copy .ensures)
 
 words-requires : tie.Need-words-requires
 words-requires c κs = search needs
 
 returns-2 : tie.Need-returns-2
 returns-2 c =
-    let q = c .before .before .before in
-    let k = q .before .before .before in
+    let f = c .before .before in
+    let k = f .before .before .before .before in
     let s = k .before .before in
     let a = s .args in
-    clear-done (blendModeFactors SrcOver) (now (a .s)) (now (a .d)) (now (a .d)) (a .o) (s .pre .1) (λ j. omega (arith, k .shared-slice-known .given j)) (λ j. omega (arith, k .before .slice-known .given j))
+    let in-s : Bytes (now (a .s)) = λ j. omega (arith, k .shared-slice-known .given j) in
+    clear-done (blendModeFactors SrcOver) (now (a .s)) (now (a .d)) (now (a .d)) (a .o) (s .pre .1) in-s (λ j. omega (arith, k .before .slice-known .given j))
     (c .before .words .ensures (c .if3 .taken))
 
 add-add-bytes : tie.Need-add-add-bytes
@@ -53,11 +60,13 @@ same-length-2 c = search needs
 returns-3 : tie.Need-returns-3
 returns-3 c =
     let f = c .before .before .before .before .before .before in
-    let k = f .before .before .before .before in
+    let q = f .before .before .before in
+    let k = q .before in
     let s = k .before .before in
     let a = s .args in
-    add-done (blendModeFactors SrcOver) (now (a .s)) (now (a .d)) _ (a .o) (s .pre .1) (λ j. omega (arith, k .shared-slice-known .given j)) (λ j. omega (arith, k .before .slice-known .given j))
-    (sym (f .before .is-clear .ensures) ∙ f .if2 .taken) (c .before .before .add-bytes .ensures)
+    let in-s : Bytes (now (a .s)) = λ j. omega (arith, k .shared-slice-known .given j) in
+    add-done (blendModeFactors SrcOver) (now (a .s)) (now (a .d)) _ (a .o) (s .pre .1) in-s (λ j. omega (arith, k .before .slice-known .given j))
+    (sym (empty-sum (now (a .s)) (a .o) _ in-s (q .alphas .ensures)) ∙ eq-eqb _ 0 (f .if2 .taken)) (c .before .before .add-bytes .ensures)
 
 over-four-requires : tie.Need-over-four-requires
 over-four-requires c κs = search needs
@@ -72,11 +81,11 @@ pub over-turn-spec : {M : Type 1} → statement M
 over-turn-spec =
     tie.close
     (tie.spec
+    alphas-requires
     is-opaque-requires
     copy-requires
     same-length
     returns
-    is-clear-requires
     words-requires
     returns-2
     add-add-bytes
