@@ -27,7 +27,7 @@ use Rattle.rows.specs.Row.{colourIn, rowStored}
 use Rattle.rows.specs.Mixed.{composite}
 use Rattle.plan.specs.Plan.{planOf}
 use Rattle.plan.proofs.Factors.{over-is}
-use Rattle.scanline.proofs.Parts.{planned-is}
+use Rattle.plan.proofs.Factors.{planned-is}
 use Rattle.solid.proofs.Over.{composite-over}
 use Rattle.raster.specs.Task.{sourceColour, destinationColour, pixelColour}
 use Rattle.raster.specs.Row.{rowDrawn}

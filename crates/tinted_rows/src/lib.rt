@@ -7,7 +7,7 @@ ghost use Rattle.pixel.specs.Rules.{blendModeFactors};
 ghost use Rattle.pixel.specs.declared.blend.RuleName.the-variants.{SrcOver};
 ghost use Rattle.surface.specs.Drawn.{loadPixel};
 ghost use Rattle.plan.specs.Plan.{planOf};
-ghost use Rattle.solid.specs.Over.{Prepared};
+ghost use Rattle.solid_colour.specs.Solid.{Prepared};
 ghost use Rattle.raster.specs.Row.{rowDrawn, drawRow, RowDrawable};
 ghost use Rattle.tinted_rows.specs.Row.{isColour, isPixel, isTinted, tintColour, TintFits};
 use buffered_rows::is_in_place;
@@ -18,9 +18,9 @@ use range::Range;
 use register::SourceMode;
 use register::Task;
 use rows::blending_colour;
-use solid::Solid;
-use solid::solid_of;
 use solid::solid_row;
+use solid_colour::Solid;
+use solid_colour::solid_of;
 use surface::Surface;
 
 fn is_colour(mode: SourceMode) -> bool

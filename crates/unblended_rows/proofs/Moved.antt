@@ -19,7 +19,7 @@ use Rattle.surface.proofs.Loaded.{loaded-shift}
 use Rattle.surface.proofs.Parts.{length-mid, getD-mid}
 use Rattle.surface.proofs.Rows.{next}
 use Rattle.lanes.specs.Lanes.{Done}
-use Rattle.row_copy.specs.Apart.{Apart, movedByte}
+use Rattle.byte_rows.specs.Apart.{Apart, movedByte}
 use Rattle.row_copy.proofs.Bytes.{row-moved}
 use Rattle.range.specs.declared.Range.{Range}
 use Rattle.range.specs.Range.{containedIn}

@@ -31,10 +31,10 @@ use Rattle.lanes.specs.Lanes.{Done}
 use Rattle.lanes.proofs.Laws.{under-or}
 use Rattle.lanes.proofs.Passes.{to-end}
 use Rattle.plan.specs.Blend.{blendAt}
-use Rattle.composite.proofs.Colours.{Row, colour-is, blend-colour, row-is}
-use Rattle.row_copy.specs.Apart.{Apart}
-use Rattle.combine_within.specs.Within.{blendWithin}
-use Rattle.combine_within.proofs.Within.{in-drop}
+use Rattle.row_colours.proofs.Colours.{Row, colour-is, blend-colour, row-is}
+use Rattle.byte_rows.specs.Apart.{Apart}
+use Rattle.bytes_within.specs.Within.{blendWithin}
+use Rattle.bytes_within.proofs.Within.{in-drop}
 use Rattle.raster.specs.Task.{sourceColour, pixelColour}
 use Rattle.raster.specs.Row.{rowDrawn}
 use Rattle.unblended_rows.specs.Row.{isMoved}

@@ -1,6 +1,6 @@
 use mathlib.Core.Path.{ap, _∙_}
-use Rattle.solid.specs.declared.Solid.{Solid}
-use Rattle.solid.specs.Over.{solidOf}
+use Rattle.solid_colour.specs.declared.Solid.{Solid}
+use Rattle.solid_colour.specs.Solid.{solidOf}
 use borrow.Author.Needs.{needs}
 use Rattle.tinted_rows.proofs.tint_of.Statement.{statement}
 use Rattle.tinted_rows.proofs.tint_of.Tie as tie

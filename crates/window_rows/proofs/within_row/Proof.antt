@@ -3,7 +3,7 @@ use Prim.Native.Nat.{_+_, _-_}
 use native.Mathlib.Omega.{arith}
 use denote.Ref.{now}
 use Rattle.surface.specs.Surface.{rowLength, rowStart}
-use Rattle.scanline.proofs.Parts.{planned-is}
+use Rattle.plan.proofs.Factors.{planned-is}
 use Rattle.raster.proofs.Pixel.{output-within}
 use Rattle.raster.proofs.Place.{starts, ordered, room, window-fits, length-window, row-drawn}
 use Rattle.unblended_rows.proofs.Moved.{moved-lies, lies-apart}
