@@ -1,0 +1,2 @@
+-- what a task of a kind has
+pub mod Parts
