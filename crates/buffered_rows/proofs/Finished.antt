@@ -7,7 +7,7 @@ use Rattle.surface.specs.Surface.{rowLength, rowStart}
 use Rattle.register.specs.declared.task.Task.{Task}
 use Rattle.kinds.specs.declared.Finish.{Finish}
 use Rattle.kinds.specs.declared.Finish.the-variants.{Copied, InPlace, Blended}
-use Rattle.kinds.proofs.Parts.{FinishFits}
+use Rattle.raster.proofs.Parts.{FinishFits}
 use Rattle.raster.specs.Task.{pixelColour}
 use Rattle.raster.proofs.Pixel.{pixel-plain}
 use Rattle.raster.proofs.InPlace.{mixed-pixel}

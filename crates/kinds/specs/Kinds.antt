@@ -11,7 +11,9 @@ use Rattle.pixel.specs.declared.blend.Factor.the-variants.{Zero, One, SourceAlp
 use Rattle.pixel.specs.declared.blend.Rule.{Rule}
 use Rattle.pixel.specs.declared.format.Format.the-variants.{Argb8888}
 use Rattle.surface.specs.Surface.{span}
+use Rattle.surface.specs.declared.Surface.{Surface}
 use Rattle.register.specs.Task.{isBuffer}
+use Rattle.register.specs.declared.task.Source.{Source}
 use Rattle.register.specs.declared.task.SourceMode.{SourceMode}
 use Rattle.register.specs.declared.task.SourceMode.the-variants.{Buffer, Colour, GradientX, GradientY}
 use Rattle.register.specs.declared.task.Task.{Task}
@@ -62,30 +64,30 @@ abbrev pub isSrcOver : Rule → Bool
 isSrcOver rule = isOne (rule .source) && isInverseSourceAlpha (rule .destination)
 
 -- the source's rows can be taken byte by byte as they are: a buffer of the output's format, neither turned nor flipped from left to right
-unfoldable pub isMoved : Task → Bool
-isMoved t = isBuffer (t .source .mode) && isStraight (t .source .transform .rotation) (t .source .transform .flip) && sameFormat (t .source .surface .format) (t .output .format)
+unfoldable pub isMoved : Source → Surface → Bool
+isMoved s output = isBuffer (s .mode) && isStraight (s .transform .rotation) (s .transform .flip) && sameFormat (s .surface .format) (output .format)
 
 abbrev pub sourceInWindow : Range → Task → Bool
 sourceInWindow window t = containedIn (span (t .source .surface)) window
 
 -- the output of a task is its own destination, in the format of the buffers: its rows are blended where they lie
-unfoldable pub isInPlace : Task → Bool
-isInPlace t =
-    sameFormat (t .destination .surface .format) Argb8888
-    && sameFormat (t .output .format) Argb8888
-    && eqb (t .destination .surface .address) (t .output .address)
-    && eqb (t .destination .surface .stride) (t .output .stride)
+unfoldable pub isInPlace : Surface → Surface → Bool
+isInPlace destination output =
+    sameFormat (destination .format) Argb8888
+    && sameFormat (output .format) Argb8888
+    && eqb (destination .address) (output .address)
+    && eqb (destination .stride) (output .stride)
 
 -- SRC_OVER of one colour on the output itself, with the output's own alphas
 unfoldable pub isSolid : Task → Bool
-isSolid t = isSrcOver (t .blending .rule) && isColour (t .source .mode) && isPixelMode (t .destination .alpha .mode) && isInPlace t
+isSolid t = isSrcOver (t .blending .rule) && isColour (t .source .mode) && isPixelMode (t .destination .alpha .mode) && isInPlace (t .destination .surface) (t .output)
 
 -- the output rows of a task are blended with rows of its source as both lie in the window: no alpha mode changes an alpha, and no colour is divided
 unfoldable pub isBlendedWithin : Range → Task → Bool
 isBlendedWithin window t =
-    isMoved t
+    isMoved (t .source) (t .output)
     && sourceInWindow window t
-    && isInPlace t
+    && isInPlace (t .destination .surface) (t .output)
     && not (t .blending .premultiplied)
     && isPixelMode (t .source .alpha .mode)
     && isPixelMode (t .destination .alpha .mode)
@@ -95,11 +97,11 @@ abbrev pub blendedKind : Range → Task → Kind
 blendedKind window t = cond (isSolid t) Solid (cond (isBlendedWithin window t) Within Buffered)
 
 abbrev pub unblendedKind : Range → Task → Kind
-unblendedKind window t = cond (isMoved t) (cond (sourceInWindow window t) Moved Carried) (cond (isUniform (t .source .mode)) Filled Buffered)
+unblendedKind window t = cond (isMoved (t .source) (t .output)) (cond (sourceInWindow window t) Moved Carried) (cond (isUniform (t .source .mode)) Filled Buffered)
 
 unfoldable pub kindOf : Range → Task → Kind
 kindOf window t = cond (t .blending .on) (blendedKind window t) (unblendedKind window t)
 
 -- how a row of the source in a buffer becomes the output's
 unfoldable pub finishOf : Task → Finish
-finishOf t = cond (t .blending .on) (cond (isInPlace t) InPlace Blended) Copied
+finishOf t = cond (t .blending .on) (cond (isInPlace (t .destination .surface) (t .output)) InPlace Blended) Copied

@@ -1,15 +1,19 @@
 // What kind the rows of a task are, and how rows that go by way of buffers become its output's. Both are decided once a task.
 ghost use mathlib.Core.Path.{_≡_};
-ghost use Rattle.kinds.specs.Kinds.{isUniform, isMoved, sourceInWindow, isInPlace, isColour, isPixelMode, isOne, isInverseSourceAlpha, isSrcOver, isSolid, isBlendedWithin, blendedKind, unblendedKind, kindOf, finishOf};
+ghost use Rattle.rules.specs.Rules.{sameFormat};
+ghost use Rattle.kinds.specs.Kinds.{isUniform, isMoved, isInPlace, isColour, isPixelMode, isOne, isInverseSourceAlpha, isSrcOver, isSolid, isBlendedWithin, blendedKind, unblendedKind, kindOf, finishOf};
 use pixel::AlphaMode;
 use pixel::Factor;
 use pixel::Format;
 use pixel::Rule;
 use range::Range;
+use register::Alpha;
+use register::Source;
 use register::SourceMode;
 use register::Task;
 use rows::is_straight;
 use rules::same_format;
+use surface::Surface;
 
 pub enum Kind {
     // one colour a row, without blending
@@ -37,9 +41,10 @@ pub enum Finish {
 }
 
 // Whether all pixels of an output row have one colour.
-fn is_uniform(mode: SourceMode) -> bool
-    ensures { λ r. ⌜ r ≡ isUniform mode ⌝ }
+fn is_uniform(source: Source) -> bool
+    ensures { λ r. ⌜ r ≡ isUniform (source .mode) ⌝ }
 {
+    let mode = source.mode;
     match mode {
         SourceMode::Buffer => false,
         SourceMode::Colour => true,
@@ -48,9 +53,10 @@ fn is_uniform(mode: SourceMode) -> bool
     }
 }
 
-fn is_colour(mode: SourceMode) -> bool
-    ensures { λ r. ⌜ r ≡ isColour mode ⌝ }
+fn is_colour(source: Source) -> bool
+    ensures { λ r. ⌜ r ≡ isColour (source .mode) ⌝ }
 {
+    let mode = source.mode;
     match mode {
         SourceMode::Buffer => false,
         SourceMode::Colour => true,
@@ -59,10 +65,11 @@ fn is_colour(mode: SourceMode) -> bool
     }
 }
 
-// Whether pixels keep their own alphas under a mode.
-fn is_pixel_mode(mode: AlphaMode) -> bool
-    ensures { λ r. ⌜ r ≡ isPixelMode mode ⌝ }
+// Whether pixels keep their own alphas.
+fn is_pixel_alpha(alpha: Alpha) -> bool
+    ensures { λ r. ⌜ r ≡ isPixelMode (alpha .mode) ⌝ }
 {
+    let mode = alpha.mode;
     match mode {
         AlphaMode::Pixel => true,
         AlphaMode::Global => false,
@@ -104,73 +111,56 @@ fn is_src_over(rule: Rule) -> bool
     is_one(s) & is_inverse_source_alpha(d)
 }
 
-// Whether the rows of a task's source can be taken byte by byte as they are.
-fn is_moved(task: Task) -> bool
-    ensures { λ r. ⌜ r ≡ isMoved task ⌝ }
+fn have_one_format(a: Surface, b: Surface) -> bool
+    ensures { λ r. ⌜ r ≡ sameFormat (a .format) (b .format) ⌝ }
 {
-    let s = task.source;
-    let mode = s.mode;
-    let surface = s.surface;
-    let output = task.output;
-    let from = surface.format;
-    let to = output.format;
-    mode.is_buffer() & is_straight(s.transform) & same_format(from, to)
+    let from = a.format;
+    let to = b.format;
+    same_format(from, to)
 }
 
-// Whether a task's source lies in the window.
-fn source_in_window(window: Range, task: Task) -> bool
-    ensures { λ r. ⌜ r ≡ sourceInWindow window task ⌝ }
+// Whether the rows of a source can be taken byte by byte as they are.
+fn is_moved(source: Source, output: Surface) -> bool
+    ensures { λ r. ⌜ r ≡ isMoved source output ⌝ }
 {
-    let s = task.source;
-    let surface = s.surface;
-    surface.is_inside(window)
+    let mode = source.mode;
+    mode.is_buffer() & is_straight(source.transform) & have_one_format(source.surface, output)
 }
 
 // Whether the output is its own destination, in the format of the buffers.
-fn is_in_place(task: Task) -> bool
-    ensures { λ r. ⌜ r ≡ isInPlace task ⌝ }
+fn is_in_place(destination: Surface, output: Surface) -> bool
+    ensures { λ r. ⌜ r ≡ isInPlace destination output ⌝ }
 {
-    let d = task.destination;
-    let surface = d.surface;
-    let output = task.output;
-    let from = surface.format;
+    let from = destination.format;
     let to = output.format;
     same_format(from, Format::Argb8888)
         & same_format(to, Format::Argb8888)
-        & (surface.address == output.address)
-        & (surface.stride == output.stride)
+        & (destination.address == output.address)
+        & (destination.stride == output.stride)
 }
 
 // Whether a task is SRC_OVER of one colour on its own output, with the output's own alphas.
 fn is_solid(task: Task) -> bool
     ensures { λ r. ⌜ r ≡ isSolid task ⌝ }
 {
-    let blending = task.blending;
-    let s = task.source;
-    let d = task.destination;
-    let a = d.alpha;
-    let from = s.mode;
-    let mode = a.mode;
-    is_src_over(blending.rule) & is_colour(from) & is_pixel_mode(mode) & is_in_place(task)
+    is_src_over(task.blending.rule)
+        & is_colour(task.source)
+        & is_pixel_alpha(task.destination.alpha)
+        & is_in_place(task.destination.surface, task.output)
 }
 
 // Whether the output rows of a task are blended with rows of its source as both lie in the window.
 fn is_blended_within(window: Range, task: Task) -> bool
     ensures { λ r. ⌜ r ≡ isBlendedWithin window task ⌝ }
 {
-    let blending = task.blending;
-    let s = task.source;
-    let d = task.destination;
-    let alpha = s.alpha;
-    let source = alpha.mode;
-    let alpha = d.alpha;
-    let destination = alpha.mode;
-    is_moved(task)
-        & source_in_window(window, task)
-        & is_in_place(task)
-        & !blending.premultiplied
-        & is_pixel_mode(source)
-        & is_pixel_mode(destination)
+    let surface = task.source.surface;
+    let destination = task.destination;
+    is_moved(task.source, task.output)
+        & surface.is_inside(window)
+        & is_in_place(destination.surface, task.output)
+        & !task.blending.premultiplied
+        & is_pixel_alpha(task.source.alpha)
+        & is_pixel_alpha(destination.alpha)
 }
 
 fn blended_kind(window: Range, task: Task) -> Kind
@@ -188,15 +178,14 @@ fn blended_kind(window: Range, task: Task) -> Kind
 fn unblended_kind(window: Range, task: Task) -> Kind
     ensures { λ r. ⌜ r ≡ unblendedKind window task ⌝ }
 {
-    if is_moved(task) {
-        if source_in_window(window, task) {
+    let surface = task.source.surface;
+    if is_moved(task.source, task.output) {
+        if surface.is_inside(window) {
             return Kind::Moved;
         }
         return Kind::Carried;
     }
-    let s = task.source;
-    let mode = s.mode;
-    if is_uniform(mode) {
+    if is_uniform(task.source) {
         return Kind::Filled;
     }
     Kind::Buffered
@@ -206,8 +195,7 @@ fn unblended_kind(window: Range, task: Task) -> Kind
 pub fn kind_of(window: Range, task: Task) -> Kind
     ensures { λ r. ⌜ r ≡ kindOf window task ⌝ }
 {
-    let blending = task.blending;
-    if blending.on {
+    if task.blending.on {
         return blended_kind(window, task);
     }
     unblended_kind(window, task)
@@ -217,11 +205,10 @@ pub fn kind_of(window: Range, task: Task) -> Kind
 pub fn finish_of(task: Task) -> Finish
     ensures { λ r. ⌜ r ≡ finishOf task ⌝ }
 {
-    let blending = task.blending;
-    if !blending.on {
+    if !task.blending.on {
         return Finish::Copied;
     }
-    if is_in_place(task) {
+    if is_in_place(task.destination.surface, task.output) {
         return Finish::InPlace;
     }
     Finish::Blended

@@ -14,7 +14,7 @@ use Rattle.surface.specs.Drawn.{loadPixel}
 use Rattle.surface.specs.declared.Surface.{Surface}
 use Rattle.surface.proofs.Loaded.{loaded-shift}
 use Rattle.register.specs.declared.task.Task.{Task}
-use Rattle.kinds.proofs.Parts.{Placed}
+use Rattle.raster.proofs.Parts.{Placed}
 use Rattle.rows.specs.Row.{colourIn, colourAt, rowStored}
 use Rattle.rows.specs.Mixed.{composite}
 use Rattle.raster.specs.Task.{sourceColour, destinationColour, pixelColour}

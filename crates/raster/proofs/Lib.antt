@@ -1,4 +1,6 @@
 -- Laws of a drawn task.
+-- what a task of a kind has
+pub mod Parts
 -- one row: lent out of a window, and the window out of memory
 pub mod Lent
 -- a task's pixels go by what it reads

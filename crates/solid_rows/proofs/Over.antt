@@ -26,7 +26,7 @@ use Rattle.raster.specs.Row.{rowDrawn}
 use Rattle.raster.proofs.Lent.{row-lent, row-ext}
 use Rattle.raster.proofs.Pixel.{pixel-blended}
 use Rattle.raster.proofs.InPlace.{argb-length, own-pixel}
-use Rattle.kinds.proofs.Parts.{SolidTask}
+use Rattle.raster.proofs.Parts.{SolidTask}
 use Rattle.solid_rows.specs.Row.{solidColour}
 
 -- a row that was lent and came back with a colour over it; k is its length as the borrow checker says it

@@ -33,7 +33,7 @@ use Rattle.register.specs.declared.task.SourceMode.the-variants.{Buffer, Colour
 use Rattle.register.specs.declared.task.Task.{Task}
 use Rattle.register.specs.Size.{sizeOf}
 use Rattle.kinds.specs.Kinds.{sourceInWindow}
-use Rattle.kinds.proofs.Parts.{MovedTask}
+use Rattle.raster.proofs.Parts.{MovedTask}
 use Rattle.rows.specs.Row.{colourAt, sourcePixelOf}
 use Rattle.rows.proofs.Straight.{upright-x, upright-y, side-by-side}
 use Rattle.raster.specs.Task.{sourceModeColour, sourceColour, pixelColour}

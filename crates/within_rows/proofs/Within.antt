@@ -38,7 +38,7 @@ use Rattle.raster.specs.Task.{sourceColour, pixelColour}
 use Rattle.raster.specs.Row.{rowDrawn}
 use Rattle.raster.proofs.InPlace.{argb-length, mixedFrom, mixed-lent, mixed-pixel}
 use Rattle.unblended_rows.proofs.Moved.{moved-source}
-use Rattle.kinds.proofs.Parts.{BlendedWithin}
+use Rattle.raster.proofs.Parts.{BlendedWithin}
 
 -- its colours are blended as they are
 plain-composite : (b : Blending) (source destination : Alpha) (s d : Colour) → b .premultiplied ≡ false → source .mode ≡ Pixel → destination .mode ≡ Pixel →

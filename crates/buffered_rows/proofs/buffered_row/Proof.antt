@@ -3,7 +3,7 @@ use Prim.Native.Nat.{_+_, _-_}
 use native.Mathlib.Omega.{arith}
 use denote.Ref.{now}
 use Rattle.surface.specs.Surface.{rowStart}
-use Rattle.kinds.proofs.Parts.{of-finish}
+use Rattle.raster.proofs.Parts.{of-finish}
 use Rattle.raster.proofs.Place.{starts, ordered, room, fetches, destination-row, length-window, row-fits, row-drawn}
 use Rattle.buffered_rows.proofs.Finished.{finished-pixel}
 use borrow.Author.Needs.{needs}

@@ -1,6 +1,6 @@
 use mathlib.Core.Path.{sym, _∙_}
 use Rattle.kinds.specs.declared.Finish.the-variants.{InPlace}
-use Rattle.kinds.proofs.Parts.{of-finish}
+use Rattle.raster.proofs.Parts.{of-finish}
 use borrow.Author.Needs.{needs}
 use Rattle.buffered_rows.proofs.finish_at.Statement.{statement}
 use Rattle.buffered_rows.proofs.finish_at.Tie as tie

@@ -7,7 +7,7 @@ use Rattle.surface.specs.Drawn.{loadPixel}
 use Rattle.rows.specs.Row.{colourAt}
 use Rattle.rows.specs.Mixed.{composite}
 use Rattle.kinds.specs.declared.Finish.the-variants.{Blended}
-use Rattle.kinds.proofs.Parts.{of-finish}
+use Rattle.raster.proofs.Parts.{of-finish}
 use Rattle.raster.specs.Task.{destinationColour}
 use Rattle.raster.proofs.Pixel.{pixel-blended}
 use borrow.Author.Needs.{needs}

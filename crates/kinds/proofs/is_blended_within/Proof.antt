@@ -6,31 +6,31 @@ use Rattle.kinds.proofs.is_blended_within.Tie as tie
 is-moved-requires : tie.Need-is-moved-requires
 is-moved-requires c κs = search needs
 
-source-in-window-requires : tie.Need-source-in-window-requires
-source-in-window-requires c κs = search needs
+is-inside-requires : tie.Need-is-inside-requires
+is-inside-requires c κs = search needs
 
 is-in-place-requires : tie.Need-is-in-place-requires
 is-in-place-requires c κs = search needs
 
-is-pixel-mode-requires : tie.Need-is-pixel-mode-requires
-is-pixel-mode-requires c κs = search needs
+is-pixel-alpha-requires : tie.Need-is-pixel-alpha-requires
+is-pixel-alpha-requires c κs = search needs
 
-is-pixel-mode-requires-2 : tie.Need-is-pixel-mode-requires-2
-is-pixel-mode-requires-2 c κs = search needs
+is-pixel-alpha-requires-2 : tie.Need-is-pixel-alpha-requires-2
+is-pixel-alpha-requires-2 c κs = search needs
 
 returns : tie.Need-returns
 unfolding isBlendedWithin
 returns c =
     let i = c .before .before .before in
-    rw (c .is-pixel-mode2 .ensures, c .before .is-pixel-mode .ensures, i .is-in-place .ensures, i .before .source-in-window .ensures, i .before .before .is-moved .ensures)
+    rw (c .is-pixel-alpha2 .ensures, c .before .is-pixel-alpha .ensures, i .is-in-place .ensures, i .before .is-inside .ensures, i .before .before .is-moved .ensures)
 
 pub is-blended-within-spec : {M : Type 1} → statement M
 is-blended-within-spec =
     tie.close
     (tie.spec
     is-moved-requires
-    source-in-window-requires
+    is-inside-requires
     is-in-place-requires
-    is-pixel-mode-requires
-    is-pixel-mode-requires-2
+    is-pixel-alpha-requires
+    is-pixel-alpha-requires-2
     returns)

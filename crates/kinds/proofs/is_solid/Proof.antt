@@ -9,8 +9,8 @@ is-src-over-requires c κs = search needs
 is-colour-requires : tie.Need-is-colour-requires
 is-colour-requires c κs = search needs
 
-is-pixel-mode-requires : tie.Need-is-pixel-mode-requires
-is-pixel-mode-requires c κs = search needs
+is-pixel-alpha-requires : tie.Need-is-pixel-alpha-requires
+is-pixel-alpha-requires c κs = search needs
 
 is-in-place-requires : tie.Need-is-in-place-requires
 is-in-place-requires c κs = search needs
@@ -19,7 +19,7 @@ returns : tie.Need-returns
 unfolding isSolid
 returns c =
     let m = c .before .before in
-    rw (c .is-in-place .ensures, c .before .is-pixel-mode .ensures, m .is-colour .ensures, m .before .is-src-over .ensures)
+    rw (c .is-in-place .ensures, c .before .is-pixel-alpha .ensures, m .is-colour .ensures, m .before .is-src-over .ensures)
 
 pub is-solid-spec : {M : Type 1} → statement M
 is-solid-spec =
@@ -27,6 +27,6 @@ is-solid-spec =
     (tie.spec
     is-src-over-requires
     is-colour-requires
-    is-pixel-mode-requires
+    is-pixel-alpha-requires
     is-in-place-requires
     returns)

@@ -11,7 +11,7 @@ blended-kind-requires c κs = search needs
 returns : tie.Need-returns
 unfolding kindOf
 returns c =
-    let a = c .before .before .before .args in
+    let a = c .before .before .args in
     c .blended-kind .ensures ∙ sym (ap (λ (on : Bool). cond on (blendedKind (a .window) (a .task)) (unblendedKind (a .window) (a .task))) (c .before .if1 .taken))
 
 unblended-kind-requires : tie.Need-unblended-kind-requires
@@ -20,7 +20,7 @@ unblended-kind-requires c κs = search needs
 returns-2 : tie.Need-returns-2
 unfolding kindOf
 returns-2 c =
-    let a = c .before .before .before .args in
+    let a = c .before .before .args in
     c .unblended-kind .ensures ∙ sym (ap (λ (on : Bool). cond on (blendedKind (a .window) (a .task)) (unblendedKind (a .window) (a .task))) (c .before .if1 .left))
 
 pub kind-of-spec : {M : Type 1} → statement M

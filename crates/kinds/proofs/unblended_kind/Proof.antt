@@ -6,34 +6,38 @@ use Rattle.kinds.proofs.unblended_kind.Tie as tie
 is-moved-requires : tie.Need-is-moved-requires
 is-moved-requires c κs = search needs
 
-source-in-window-requires : tie.Need-source-in-window-requires
-source-in-window-requires c κs = search needs
+is-inside-requires : tie.Need-is-inside-requires
+is-inside-requires c κs = search needs
 
 returns : tie.Need-returns
-returns c = rw (sym (c .before .source-in-window .ensures) ∙ c .if2 .taken, sym (c .before .before .before .is-moved .ensures) ∙ c .before .before .if1 .taken)
+returns c =
+    let m = c .before .before in
+    rw (sym (c .before .is-inside .ensures) ∙ c .if2 .taken, sym (m .before .is-moved .ensures) ∙ m .if1 .taken)
 
 returns-2 : tie.Need-returns-2
-returns-2 c = rw (sym (c .before .source-in-window .ensures) ∙ c .if2 .left, sym (c .before .before .before .is-moved .ensures) ∙ c .before .before .if1 .taken)
+returns-2 c =
+    let m = c .before .before in
+    rw (sym (c .before .is-inside .ensures) ∙ c .if2 .left, sym (m .before .is-moved .ensures) ∙ m .if1 .taken)
 
 is-uniform-requires : tie.Need-is-uniform-requires
 is-uniform-requires c κs = search needs
 
 returns-3 : tie.Need-returns-3
 returns-3 c =
-    let s = c .before .before .before in
-    rw (sym (s .before .is-moved .ensures) ∙ s .if1 .left, sym (c .before .is-uniform .ensures) ∙ c .if3 .taken)
+    let m = c .before .before in
+    rw (sym (m .before .is-moved .ensures) ∙ m .if1 .left, sym (c .before .is-uniform .ensures) ∙ c .if3 .taken)
 
 returns-4 : tie.Need-returns-4
 returns-4 c =
-    let s = c .before .before .before in
-    rw (sym (s .before .is-moved .ensures) ∙ s .if1 .left, sym (c .before .is-uniform .ensures) ∙ c .if3 .left)
+    let m = c .before .before in
+    rw (sym (m .before .is-moved .ensures) ∙ m .if1 .left, sym (c .before .is-uniform .ensures) ∙ c .if3 .left)
 
 pub unblended-kind-spec : {M : Type 1} → statement M
 unblended-kind-spec =
     tie.close
     (tie.spec
     is-moved-requires
-    source-in-window-requires
+    is-inside-requires
     returns
     returns-2
     is-uniform-requires

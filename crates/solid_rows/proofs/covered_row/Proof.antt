@@ -7,7 +7,7 @@ use Rattle.raster.proofs.Place.{starts, ordered, room, length-window, row-fits,
 use Rattle.solid.specs.Over.{solidOf}
 use Rattle.solid.specs.declared.Solid.{Solid}
 use Rattle.kinds.specs.declared.Kind.the-variants.{Solid as Covered}
-use Rattle.kinds.proofs.Parts.{of-kind}
+use Rattle.raster.proofs.Parts.{of-kind}
 use Rattle.solid_rows.proofs.Over.{solid-pixel}
 use borrow.Author.Needs.{needs}
 use Rattle.solid_rows.proofs.covered_row.Statement.{statement}

@@ -3,7 +3,7 @@ use native.Mathlib.Omega.{arith}
 use denote.Ref.{now}
 use Rattle.raster.proofs.Pixel.{pixel-plain}
 use Rattle.kinds.specs.declared.Kind.the-variants.{Carried}
-use Rattle.kinds.proofs.Parts.{of-kind}
+use Rattle.raster.proofs.Parts.{of-kind}
 use Rattle.unblended_rows.proofs.Moved.{source-buffer}
 use Rattle.raster.proofs.Place.{ordered, room, fetches, length-window, row-fits, row-drawn}
 use borrow.Author.Needs.{needs}

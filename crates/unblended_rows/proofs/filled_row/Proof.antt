@@ -4,7 +4,7 @@ use denote.Ref.{now}
 use Rattle.raster.proofs.Pixel.{pixel-plain, source-uniform}
 use Rattle.raster.proofs.Place.{ordered, room, uniform-down, length-window, row-fits, row-drawn}
 use Rattle.kinds.specs.declared.Kind.the-variants.{Filled}
-use Rattle.kinds.proofs.Parts.{of-kind}
+use Rattle.raster.proofs.Parts.{of-kind}
 use borrow.Author.Needs.{needs}
 use Rattle.unblended_rows.proofs.filled_row.Statement.{statement}
 use Rattle.unblended_rows.proofs.filled_row.Tie as tie

@@ -6,7 +6,7 @@ use Rattle.surface.specs.Surface.{rowLength, rowStart}
 use Rattle.raster.proofs.Pixel.{output-within}
 use Rattle.raster.proofs.Place.{starts, ordered, room, window-fits, length-window, row-drawn}
 use Rattle.kinds.specs.declared.Kind.the-variants.{Moved}
-use Rattle.kinds.proofs.Parts.{of-kind}
+use Rattle.raster.proofs.Parts.{of-kind}
 use Rattle.unblended_rows.proofs.Moved.{moved-lies, lies-apart, part-bytes, moved-drawn, moved-pixel}
 use borrow.Author.Needs.{needs}
 use Rattle.unblended_rows.proofs.moved_row.Statement.{statement}

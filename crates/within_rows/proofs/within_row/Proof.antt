@@ -10,7 +10,7 @@ use Rattle.unblended_rows.proofs.Moved.{moved-lies, lies-apart}
 use Rattle.raster.proofs.InPlace.{argb-length}
 use Rattle.within_rows.proofs.Within.{in-window, within-drawn, within-pixel}
 use Rattle.kinds.specs.declared.Kind.the-variants.{Within}
-use Rattle.kinds.proofs.Parts.{of-kind}
+use Rattle.raster.proofs.Parts.{of-kind}
 use borrow.Author.Needs.{needs}
 use Rattle.within_rows.proofs.within_row.Statement.{statement}
 use Rattle.within_rows.proofs.within_row.Tie as tie

@@ -81,7 +81,7 @@ pub record Placed (t : Task) : Type 0 where
   pub address : t .destination .surface .address ≡ t .output .address
   pub stride : t .destination .surface .stride ≡ t .output .stride
 
-moved-task : (t : Task) → isMoved t ≡ true → MovedTask t
+moved-task : (t : Task) → isMoved (t .source) (t .output) ≡ true → MovedTask t
 unfolding isMoved
 moved-task t e =
     let buffer = isBuffer (t .source .mode) in
@@ -91,7 +91,7 @@ moved-task t e =
     let h = straight (t .source .transform) (first .1) in
     record { buffer = first .0; upright = h .0; kept = h .1; format = same-format (t .source .surface .format) (t .output .format) (both .1) }
 
-placed : (t : Task) → isInPlace t ≡ true → Placed t
+placed : (t : Task) → isInPlace (t .destination .surface) (t .output) ≡ true → Placed t
 unfolding isInPlace
 placed t e =
     let d = t .destination .surface in
@@ -148,7 +148,7 @@ solid-task t on e =
     let over? = isSrcOver rule in
     let colour? = isColour (t .source .mode) in
     let pixel? = isPixelMode (t .destination .alpha .mode) in
-    let three = and-true (over? && colour? && pixel?) (isInPlace t) e in
+    let three = and-true (over? && colour? && pixel?) (isInPlace (t .destination .surface) (t .output)) e in
     let two = and-true (over? && colour?) pixel? (three .0) in
     let one = and-true over? colour? (two .0) in
     record {
@@ -162,9 +162,9 @@ solid-task t on e =
 blended-within : (window : Range) (t : Task) → t .blending .on ≡ true → isBlendedWithin window t ≡ true → BlendedWithin window t
 unfolding isBlendedWithin
 blended-within window t on e =
-    let moved? = isMoved t in
+    let moved? = isMoved (t .source) (t .output) in
     let inside? = sourceInWindow window t in
-    let place? = isInPlace t in
+    let place? = isInPlace (t .destination .surface) (t .output) in
     let plain? = not (t .blending .premultiplied) in
     let source? = isPixelMode (t .source .alpha .mode) in
     let destination? = isPixelMode (t .destination .alpha .mode) in
@@ -208,7 +208,7 @@ kind-fits : (window : Range) (t : Task) → KindFits (kindOf window t) window t
 unfolding kindOf
 kind-fits window t =
     chosen (λ (k : Kind). KindFits k window t)
-    (t .blending .on) (isSolid t) (isBlendedWithin window t) (isMoved t) (sourceInWindow window t) (isUniform (t .source .mode))
+    (t .blending .on) (isSolid t) (isBlendedWithin window t) (isMoved (t .source) (t .output)) (sourceInWindow window t) (isUniform (t .source .mode))
     (solid-task t)
     (blended-within window t)
     (λ off e i. record { plain = off; moved = moved-task t e; inside = i })
@@ -234,7 +234,7 @@ finished P false place i b c = c refl
 
 finish-fits : (t : Task) → FinishFits (finishOf t) t
 unfolding finishOf
-finish-fits t = finished (λ (f : Finish). FinishFits f t) (t .blending .on) (isInPlace t) (λ on e. (on, placed t e)) (λ on. on) (λ off. off)
+finish-fits t = finished (λ (f : Finish). FinishFits f t) (t .blending .on) (isInPlace (t .destination .surface) (t .output)) (λ on e. (on, placed t e)) (λ on. on) (λ off. off)
 
 pub of-finish : (t : Task) (f : Finish) → f ≡ finishOf t → FinishFits f t
 of-finish t f e = rw e (finish-fits t)

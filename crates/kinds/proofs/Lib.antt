@@ -1,2 +1,0 @@
--- what a task of a kind has
-pub mod Parts
