@@ -18,6 +18,8 @@ enum Role {
     Destination,
 }
 
+const ROLES: [Role; 3] = [Role::Source, Role::BlendedSource, Role::Destination];
+
 /// One surface that is read and one that is drawn in: what they are, wherever the first lies.
 #[derive(Clone, Copy)]
 struct Pair {
@@ -66,7 +68,7 @@ pub fn lists() -> Vec<List> {
     let mut lists = Vec::new();
     for (format, other) in formats.iter().flat_map(|a| formats.iter().map(move |b| (*a, *b))) {
         for (width, height) in sizes {
-            for (stride, role) in [32, 40].into_iter().flat_map(|stride| [Role::Source, Role::BlendedSource, Role::Destination].map(|role| (stride, role))) {
+            for (stride, role) in [32, 40].into_iter().flat_map(|stride| ROLES.map(|role| (stride, role))) {
                 let output = Place { address: 512, stride: 32, width, height, format };
                 let read = Place { stride, format: other, ..output };
                 lists.push(Pair { read, output, role }.list());
