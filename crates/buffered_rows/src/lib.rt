@@ -6,7 +6,6 @@ ghost use Rattle.surface.specs.Surface.{rowLength};
 ghost use Rattle.surface.specs.Drawn.{loadPixel};
 ghost use Rattle.rows.specs.Row.{colourIn, HoldsColours};
 ghost use Rattle.rows.specs.Mixed.{composite};
-ghost use Rattle.plan.specs.Plan.{planOf};
 ghost use Rattle.raster.specs.Task.{sourceColour, drawTask};
 ghost use Rattle.raster.specs.Preconditions.{Drawable};
 ghost use Rattle.raster.specs.Row.{rowDrawn, drawRow, SourceRowInBounds, RowFits, RowDrawable, HoldsRow};

@@ -9,7 +9,6 @@ use lib.ListN.{length, getD}
 use borrow.Rule.Slice.PartMut.{midOf}
 use Rattle.word.proofs.Tests.{split}
 use Rattle.pixel.specs.Formats.{bytesPerPixel}
-use Rattle.pixel.specs.declared.colour.Colour.{Colour as Channels}
 use Rattle.pixel.specs.declared.format.Format.{Format}
 use Rattle.surface.specs.Surface.{rowLength, rowStart, pixelStart, span, DisjointRows}
 use Rattle.surface.specs.Drawn.{loadPixel}

@@ -1,24 +1,22 @@
 -- A task whose rows are blended inside the window: its colours are those of the two rows, blended.
-use mathlib.Core.Path.{_≡_, refl, sym, ap, _∙_}
-use mathlib.Core.Bool.{true, false, not, _&&_, false≢true}
+use mathlib.Core.Path.{_≡_, sym, ap, _∙_}
+use mathlib.Core.Bool.{true, false, not}
 use mathlib.Core.List.{List}
 use Prim.Native.Nat.{ℕ, _+_, _-_, _*_, _/_, _%_, _≤_, _<_}
 use native.Mathlib.Nat.{min-le-left}
 use native.Mathlib.Omega.{arith}
 use lib.ListN.{length, getD, drop, length-drop, List·getD-eq-default}
 use lib.Seq.{getD-drop, ext-getD}
-use borrow.Author.Tests.{not-true}
 use borrow.Rule.Slice.PartMut.{midOf, putMid}
-use Rattle.word.proofs.Tests.{and-true}
 use Rattle.range.specs.declared.Range.{Range}
 use Rattle.pixel.specs.Alpha.{div255}
-use Rattle.pixel.specs.Blending.{factorValue, blendedChannel, blended}
+use Rattle.pixel.specs.Blending.{blendedChannel, blended}
 use Rattle.pixel.specs.declared.blend.AlphaMode.{AlphaMode}
-use Rattle.pixel.specs.declared.blend.AlphaMode.the-variants.{Pixel, Global, Mixed}
+use Rattle.pixel.specs.declared.blend.AlphaMode.the-variants.{Pixel}
 use Rattle.pixel.specs.declared.blend.Rule.{Rule}
 use Rattle.pixel.specs.declared.colour.Colour.{Colour}
 use Rattle.pixel.specs.declared.format.Format.the-variants.{Argb8888}
-use Rattle.surface.specs.Surface.{rowLength, rowStart, pixelStart, span}
+use Rattle.surface.specs.Surface.{rowLength, rowStart, pixelStart}
 use Rattle.surface.specs.Drawn.{loadPixel}
 use Rattle.surface.proofs.Parts.{Side, before, inside, past, side, length-mid, getD-mid, length-put, put-before, put-in, put-past}
 use Rattle.register.specs.declared.task.Alpha.{Alpha}
@@ -34,7 +32,7 @@ use Rattle.composite.proofs.Colours.{Row, colour-is, blend-colour, row-is}
 use Rattle.row_copy.specs.Apart.{Apart}
 use Rattle.combine_within.specs.Within.{blendWithin}
 use Rattle.combine_within.proofs.Within.{in-drop}
-use Rattle.raster.specs.Task.{sourceColour, pixelColour}
+use Rattle.raster.specs.Task.{pixelColour}
 use Rattle.raster.specs.Row.{rowDrawn}
 use Rattle.raster.proofs.InPlace.{argb-length, mixedFrom, mixed-lent, mixed-pixel}
 use Rattle.unblended_rows.proofs.Moved.{moved-source}
