@@ -1,5 +1,5 @@
 -- A record that submit takes, by its client and its length.
-use mathlib.Core.Path.{_≡_, refl, _∙_}
+use mathlib.Core.Path.{_≡_, refl, sym, _∙_}
 use mathlib.Core.Bool.{Bool, true, false, cond, not, _&&_, _||_}
 use mathlib.Core.Logic.{_⊎_, inl, inr}
 use mathlib.Core.List.{List, append-nil}
@@ -15,7 +15,13 @@ use Rattle.ring.specs.Segment.{segment, liesInRing, batchWords}
 use Rattle.model.specs.Refusals.{badLength}
 use Rattle.records.specs.declared.Edition.the-variants.{First}
 use Rattle.lines.specs.Lines.{setup}
-use Rattle.lines.specs.Answered.{recordRefusal}
+use Rattle.lines.specs.Answered.{recordRefusal, replayWindow}
+use Rattle.records.specs.Records.{Entry}
+use Rattle.rules.specs.declared.task.Bounds.{Bounds}
+use Rattle.claims.specs.BatchSemantics.{boundsOf}
+use Rattle.acceptance.specs.declared.Submitted.{Submitted}
+use Rattle.acceptance.specs.declared.Submitted.the-variants.{Refused, Within}
+use Rattle.acceptance.specs.Submitted.{submittedAs}
 
 abbrev taken : (client size : ℕ) → Bool
 taken client size = not (ltb 3 client) && not (eqb size 0 || not (eqb (size % 4) 0) || ltb 32768 size)
@@ -45,3 +51,23 @@ taken-facts client batch e =
 pub whole-words : (xs : List ℕ) → 0 < length xs → batchWords xs 0 (length xs) ≡ words xs
 unfolding batchWords segment
 whole-words xs some = rw (lt-ltb 0 (length xs) some, le-leb (length xs) (length xs) (omega arith), append-nil xs, take-all (length xs) xs (omega arith))
+
+-- ---- what comes of a record says whether submit takes it
+
+module _ (entry : Entry) (r : Submitted) (is : r ≡ submittedAs entry) where
+  abbrev within : Submitted
+  within = Within (boundsOf (replayWindow (entry .client)) 16384)
+
+  pub refused-none : r ≡ Refused → eqb (recordRefusal entry) 0 ≡ false
+  refused-none e = go (eqb (recordRefusal entry) 0) (sym is ∙ e)
+    where
+      go : (took : Bool) → cond took within Refused ≡ Refused → took ≡ false
+      go false same = refl
+      go true wrong = absurd (let z : _≡_ {A = ℕ} 0 1 = cc in omega arith)
+
+  pub within-taken : (bounds : Bounds) → r ≡ Within bounds → (eqb (recordRefusal entry) 0 ≡ true) × (bounds ≡ boundsOf (replayWindow (entry .client)) 16384)
+  within-taken bounds e = go (eqb (recordRefusal entry) 0) (sym is ∙ e)
+    where
+      go : (took : Bool) → cond took within Refused ≡ Within bounds → (took ≡ true) × (bounds ≡ boundsOf (replayWindow (entry .client)) 16384)
+      go false wrong = absurd (let z : _≡_ {A = ℕ} 0 1 = cc in omega arith)
+      go true right = (refl, cc)

@@ -2,7 +2,7 @@
 ghost use mathlib.Core.Path.{_≡_};
 ghost use Prim.Native.Nat.{ℕ, _+_, _*_, _/_, _%_, _≤_, _<_};
 ghost use lib.ListN.{length, getD};
-ghost use Rattle.pixel.specs.Alpha.{div255};
+ghost use Rattle.division.specs.Division.{div255};
 ghost use Rattle.pixel.specs.declared.blend.AlphaMode.the-variants.{Global, Mixed};
 ghost use Rattle.lanes.specs.Lanes.{Done};
 ghost use Rattle.alpha_modes.specs.Mode.{modeAt};

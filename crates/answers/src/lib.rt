@@ -5,20 +5,6 @@ ghost use Rattle.answers.specs.Answers.{shortAnswer, pieceWords, outcome
 use engine::Outcome;
 use queue::Answer;
 
-// The words of set up, open, submit, begin, cancel and pending.
-pub fn answer_words(answer: Answer) -> [u32; 6]
-    ensures { λ r. ⌜ r ≡ shortAnswer (refusalNumberOf answer) (valueOf answer) ⌝ }
-{
-    match answer {
-        Answer::Refused(number) => [number, 0, 0, 0, 0, 0],
-        Answer::Done => [0, 0, 0, 0, 0, 0],
-        Answer::Opened(client) => [0, client, 0, 0, 0, 0],
-        Answer::Accepted(ticket) => [0, ticket, 0, 0, 0, 0],
-        Answer::Ready(count) => [0, count, 0, 0, 0, 0],
-        Answer::Missing(bytes) => [0, bytes, 0, 0, 0, 0],
-    }
-}
-
 // The words of a piece: 1 with the last one.
 pub fn piece_words(answer: Answer) -> [u32; 6]
     ensures { λ r. ⌜ r ≡ pieceWords answer ⌝ }
@@ -31,6 +17,14 @@ pub fn piece_words(answer: Answer) -> [u32; 6]
         Answer::Ready(count) => [0, 0, count, 0, 0, 0],
         Answer::Missing(bytes) => [0, 0, bytes, 0, 0, 0],
     }
+}
+
+// The words of set up, open, submit, begin, cancel and pending: those of a piece, without whether it is the last.
+pub fn answer_words(answer: Answer) -> [u32; 6]
+    ensures { λ r. ⌜ r ≡ shortAnswer (refusalNumberOf answer) (valueOf answer) ⌝ }
+{
+    let words = piece_words(answer);
+    [words[0], words[2], 0, 0, 0, 0]
 }
 
 // The words of run.

@@ -23,7 +23,7 @@ use Rattle.record_bytes.specs.Read.{recordOf}
 use Rattle.record_bytes.specs.Written.{bytesOf}
 use Rattle.calls.specs.Calls.{setUpNumber, SetsUp, Told, Opens, Submits, Done as Silent, Begins, HandsOver, Cancels, Closes, Pends, Runs}
 use Rattle.calls.specs.Harmless.{Harmless}
-use Rattle.calls.proofs.Telling.{unless-not}
+use Rattle.calls.proofs.Results.{unless-not}
 
 -- what is answered with a refusal
 no-value : (a : Answer) → (refusalNumberOf a ≡ 0 → ⊥) → valueOf a ≡ 0

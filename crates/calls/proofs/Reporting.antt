@@ -16,7 +16,7 @@ use Rattle.answers.proofs.Numbers.{run-small}
 use Rattle.record_bytes.specs.Read.{recordOf}
 use Rattle.record_bytes.specs.Written.{bytesOf, written}
 use Rattle.calls.specs.Calls.{Reports, Runs}
-use Rattle.calls.proofs.Telling.{unless-not, unless-zero, whole, fits}
+use Rattle.calls.proofs.Results.{unless-not, unless-zero, whole, fits}
 
 abbrev rest : List ℕ → List ℕ
 rest words = getD words 1 0 ∷ getD words 2 0 ∷ getD words 3 0 ∷ getD words 4 0 ∷ getD words 5 0 ∷ []

@@ -27,7 +27,7 @@ use Rattle.claims.proofs.Cases.{either, by-number}
 of-batch : (bounds : Bounds) (bank : Bank) (words memory : List ℕ) → OfBatch bounds bank words memory
 of-batch bounds bank words memory = record {
   drawn = batch-tasks bounds bank words memory;
-  faulty = standing-before bounds bank words memory;
+  stands = standing-before bounds bank words memory;
   writes = writes bounds bank words memory;
   tasks = faultless-marks bounds bank words;
   place = fault-inside bounds bank words;

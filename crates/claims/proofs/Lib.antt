@@ -17,7 +17,7 @@ pub mod Cutting
 pub mod Faulted
 pub mod Theorem
 pub mod Freed
-pub mod ClosedPlace
+pub mod ClosedPlaces
 pub mod Queue
 pub mod Order
 pub mod Twelve

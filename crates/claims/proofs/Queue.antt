@@ -8,13 +8,12 @@ use lib.ListN.{length}
 use lib.Seq.{getD-set-same, getD-set-other}
 use lib.Dec.{ltb}
 use Rattle.record.specs.declared.Batch.{Batch}
-use Rattle.record.specs.declared.Record.{Record}
 use Rattle.record.specs.declared.Client.{Client}
 use Rattle.record.specs.Clients.{noClient, clientAt, isOpen, lowestClosed}
 use Rattle.record.specs.Slots.{lowestFree}
 use Rattle.record.specs.Queue.{readySlots, waiting}
 use Rattle.record.proofs.Line.{held}
-use Rattle.record.proofs.Clients.{closed-below, closed-is, closed-least, closed-most-places, open-place, place-open}
+use Rattle.record.proofs.Clients.{closed-below, closed-is, closed-least, open-place, place-open}
 use Rattle.record.proofs.Windows.{window-placed}
 use Rattle.record.proofs.Rules.{valid-facts, write-newest, write-first, free-room}
 use Rattle.queue.specs.Refusals.{firstRefusal}
@@ -37,7 +36,6 @@ use Rattle.claims.proofs.Pieces.{may, copied, filled, kept, come, whole
 use Rattle.claims.proofs.Runs.{run-offset}
 use Rattle.claims.proofs.Follows.{at-end}
 use Rattle.claims.proofs.Freed.{window-freed}
-use Rattle.claims.proofs.ClosedPlace.{closed-free}
 
 -- a batch's bytes alone
 abbrev alone : Batch → List ℕ → List ℕ
@@ -215,7 +213,6 @@ module _ (setup : Setup) (n : ℕ) (s : State) (S : Sound setup n s) where
     sound = S .ok;
     opens = λ w z. (rw (allowed (opens w) z), opened w z);
     closes = λ client z. (rw (allowed (close client) z), closed client z);
-    closed-place = λ client c e shut. closed-free setup n s S client c e shut;
     after-newest = write-newest (s .engine) (facts setup n s S) few;
     none-ready = write-first (s .engine) (facts setup n s S) few;
     submitted = submitted;

@@ -2,7 +2,7 @@
 use mathlib.Core.Path.{refl}
 use Rattle.ring.specs.Segment.{segment}
 use Rattle.pixel.specs.Colours.{widened, narrowed, unpacked, packed}
-use Rattle.pixel.specs.Alpha.{div255}
+use Rattle.division.specs.Division.{div255}
 use Rattle.pixel.specs.Blending.{blendedChannel, blended}
 use Rattle.transform.specs.Transform.{sourcePixel}
 use Rattle.surface.specs.Surface.{span}

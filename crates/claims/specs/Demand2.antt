@@ -43,7 +43,7 @@ pub record OfBatch (bounds : Bounds) (bank : Bank) (words memory : List ℕ) : T
   -- all its tasks are drawn, each on what the tasks before it left; of a faulty batch those before its fault
   pub drawn : drawBatch bounds bank words memory ≡ drawTasks (tasksDrawn (decodeBatch bounds bank words)) memory
   -- "tasks before the faulty one stand, and the status word carries their number" (02, 5)
-  pub faulty : (tasks : ℕ) (fault : Fault) (offset : ℕ) → verdictOf (decodeBatch bounds bank words) ≡ Faulty tasks fault offset → Standing bounds bank words memory tasks fault offset
+  pub stands : (tasks : ℕ) (fault : Fault) (offset : ℕ) → verdictOf (decodeBatch bounds bank words) ≡ Faulty tasks fault offset → Standing bounds bank words memory tasks fault offset
   -- "no byte outside a task's output rows changes": what is written, with what, and what is not
   pub writes : WriteFrame bounds bank words memory
   -- the task number "is the task-end marks in the batch"

@@ -1,10 +1,12 @@
 -- The queue (01, "Engine, desks, queue"; 02, 6), of the engine after any list of calls from an accepted set up: where a batch is put, whole or by
--- pieces, which one run takes, and that the others wait on with their bytes. proofs/Queue.antt proves `Promise`.
+-- pieces, which one run takes, and that the others wait on with their bytes. proofs/Queue.antt proves `Promise`, and
+-- proofs/ClosedPlaces.antt `ClosedPlacesFree`.
 use mathlib.Core.Path.{_≡_}
 use mathlib.Core.Bool.{true, false}
 use mathlib.Core.List.{List, [], _∷_, _++_}
+use mathlib.Core.Logic.{_⊎_}
 use Prim.Native.Nat.{ℕ, _+_, _-_, _≤_, _<_}
-use lib.ListN.{length, set}
+use lib.ListN.{length}
 use Rattle.word.specs.Word.{words}
 use Rattle.ring.specs.Segment.{segment, wrapOffset}
 use Rattle.record.specs.declared.Batch.{Batch}
@@ -110,22 +112,31 @@ pub record Closed (client : ℕ) (s after : State) : Type 0 where
   pub queue : SameQueue s after
   pub waits : waiting (after .engine) ≡ waiting (s .engine)
 
--- the same record, but for what one place holds
-abbrev pub withPlace : Record → (client : ℕ) → Client → Record
-withPlace engine client c = record {
+-- two lists of clients, place by place: the same client, or two that are closed
+unfoldable pub SameButClosed : List Client → List Client → Type 0
+SameButClosed [] [] = Unit
+SameButClosed [] (d ∷ ds) = ⊥
+SameButClosed (c ∷ cs) [] = ⊥
+SameButClosed (c ∷ cs) (d ∷ ds) = ((c ≡ d) ⊎ ((c .opened ≡ false) × (d .opened ≡ false))) × SameButClosed cs ds
+
+-- the same record, but for its clients
+abbrev pub withClients : Record → List Client → Record
+withClients engine clients = record {
   setup = engine .setup;
-  clients = set (engine .clients) client c;
+  clients = clients;
   slots = engine .slots;
   read = engine .read;
   next = engine .next;
   staged = engine .staged;
 }
 
--- what a closed place holds does not matter: with any other closed client in it, later calls answer the same and leave the same memory
-abbrev pub ClosedPlaceFree : State → Type 0
-ClosedPlaceFree s = (client : ℕ) (c : Client) → clientAt (s .engine) client .opened ≡ false → c .opened ≡ false → (later : List Call) →
-    let other : State = mkState (withPlace (s .engine) client c) (s .ring) (s .memory) in
-    (answersOf later other ≡ answersOf later s) × (memoriesOf later other ≡ memoriesOf later s)
+-- what closed places hold does not matter: of any valid record, whatever calls made it or none, with any other closed clients in any of its closed places, all
+-- calls answer the same and leave the same memory. Four clients, eight slots and a ticket of 32 bits are what a record's type says
+abbrev pub ClosedPlacesFree : Type 0
+ClosedPlacesFree = (s : State) → valid (s .engine) ≡ true → length (s .engine .clients) ≡ 4 → length (s .engine .slots) ≡ 8 → s .engine .next < 4294967296 →
+    (clients : List Client) → SameButClosed (s .engine .clients) clients → (calls : List Call) →
+    let other : State = mkState (withClients (s .engine) clients) (s .ring) (s .memory) in
+    (answersOf calls other ≡ answersOf calls s) × (memoriesOf calls other ≡ memoriesOf calls s)
 
 pub record Queue (s : State) : Type 0 where
   -- the record keeps its rules: 11 never comes
@@ -136,7 +147,6 @@ pub record Queue (s : State) : Type 0 where
   -- 02, 11: "Add closing"; it answers nothing
   pub closes : (client : ℕ) → firstRefusal (refusalTableOf (close client) s) ≡ 0 →
       (performCall (close client) s .answer ≡ done) × Closed client s (performCall (close client) s .after)
-  pub closed-place : ClosedPlaceFree s
   -- "Submit copies the batch into the ring after the newest one (at the read offset if none is ready)"
   pub after-newest : (batches : List Batch) (newest : Batch) → waiting (s .engine) ≡ batches ++ newest ∷ [] →
       writeOffset (s .engine) ≡ wrapOffset (s .engine .setup .ring) (newest .offset + newest .length)

@@ -11,33 +11,33 @@ pub fn set_up(bytes: &mut [u8], ring: usize, memory: usize, common: usize, reset
     }
     let reply = clients::set_up(ring, memory, common, reset);
     let mut none: u32 = 0;
-    telling::tell(bytes, reply, &mut none)
+    results::write_value(bytes, reply, &mut none)
 }
 
 // Opens a client with a window.
 pub fn open(bytes: &mut [u8], start: u32, length: u32, client: &mut u32) -> u32
     ensures { λ r. ⌜ Opens (now (bytes .entry)) (record { start = start; length = length }) r (now (client .exit)) (now (bytes .exit)) ⌝ }
 {
-    let engine = record_bytes::decode(bytes);
+    let engine = record_decoder::decode(bytes);
     let reply = clients::open(engine, start, length);
-    telling::tell(bytes, reply, client)
+    results::write_value(bytes, reply, client)
 }
 
 // Closes a client: its window is filled with zeros, and its id and window are free.
 pub fn close(bytes: &mut [u8], memory: &mut [u8], client: u32) -> u32
     ensures { λ r. ⌜ Closes (now (bytes .entry)) (now (memory .entry)) client r (now (bytes .exit)) (now (memory .exit)) ⌝ }
 {
-    let engine = record_bytes::decode(bytes);
+    let engine = record_decoder::decode(bytes);
     let reply = closing::close(engine, memory, client);
     let mut none: u32 = 0;
-    telling::tell(bytes, reply, &mut none)
+    results::write_value(bytes, reply, &mut none)
 }
 
 // How many batches of a client are ready.
 pub fn pending(bytes: &[u8], client: u32, count: &mut u32) -> u32
     ensures { λ r. ⌜ Pends (now (bytes .entry)) client r (now (count .exit)) ⌝ }
 {
-    let engine = record_bytes::decode(bytes);
+    let engine = record_decoder::decode(bytes);
     let words = answers::answer_words(clients::pending(engine, client));
     *count = words[1];
     words[0]

@@ -1,22 +1,11 @@
 // Close: a client's window filled with zeros, its id and its window free. It has no `requires`: any record and memory may be handed in.
 ghost use mathlib.Core.Path.{_≡_};
-ghost use lib.ListN.{length, replicate};
+ghost use lib.ListN.{length};
 ghost use Rattle.queue.specs.Calls.{closeResult};
 ghost use Rattle.engine.specs.Close.{closeMemory};
 use queue::Answer;
 use queue::Reply;
 use record::Record;
-
-// Fills bytes with zeros.
-fn clear(bytes: &mut [u8])
-    ensures { λ _. ⌜ now (bytes .exit) ≡ replicate (length (now (bytes .entry))) 0 ⌝ }
-{
-    let mut i: usize = 0;
-    while i < bytes.len() {
-        bytes[i] = 0;
-        i += 1;
-    }
-}
 
 // Closes a client: its window is filled with zeros, and its id and window are free. Either engine closes so: nothing is drawn.
 pub fn close(engine: Record, memory: &mut [u8], client: u32) -> Reply
@@ -34,7 +23,8 @@ pub fn close(engine: Record, memory: &mut [u8], client: u32) -> Reply
     let window = clients::window_of(clients, client);
     let start = window.start;
     let end = window.end;
-    clear(&mut memory[start..end]);
+    let size = end - start;
+    byte_rows::clear(&mut memory[start..end], 0, size);
     Reply {
         answer: Answer::Done,
         engine: clients::without_client(engine, client),

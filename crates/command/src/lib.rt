@@ -1,8 +1,8 @@
-// What the programs that people use share: arguments, what is told on standard error, files opened and read, bytes printed. No
+// What the programs that people use share: arguments, what is reported on standard error, files opened and read, bytes printed. No
 // contract can say which bytes are read or written.
 ghost use mathlib.Core.Path.{_≡_};
 ghost use mathlib.Core.Bool.{false, cond};
-ghost use Prim.Native.Nat.{_<_};
+ghost use Prim.Native.Nat.{_+_, _<_};
 ghost use lib.ListN.{length};
 ghost use lib.Dec.{leb};
 ghost use Rattle.io.specs.Counts.{Counts};
@@ -14,13 +14,26 @@ use ppm::Number;
 
 // ---- arguments
 
-// Two texts on standard error: what, and what is wrong with it.
-pub fn complain(what: &[u8], why: &[u8]) {
-    io::write_all(STDERR_FILENO, what);
-    io::write_all(STDERR_FILENO, why);
+// What was handed to the system to write: so many bytes; and whether it took them.
+pub struct Printed {
+    pub size: usize,
+    pub well: bool,
 }
 
-// The number that an argument's text spells; that it spells none is told, with the argument's name. One that was too long for its buffer is an empty
+// Hands two texts to the system, for standard error: what, and what is wrong with it. Whether it took them is the system's, and no
+// contract can say which.
+pub fn complain(what: &[u8], why: &[u8]) -> Printed
+    ensures { λ r. ⌜ r .size ≡ length (now (what .entry)) + length (now (why .entry)) ⌝ }
+{
+    let is_named = io::write_all(STDERR_FILENO, what);
+    let is_explained = io::write_all(STDERR_FILENO, why);
+    Printed {
+        size: what.len() + why.len(),
+        well: is_named & is_explained,
+    }
+}
+
+// The number that an argument's text spells; that it spells none is reported, with the argument's name. One that was too long for its buffer is an empty
 // text (`os::arg`), and so none.
 pub fn number_in(text: &[u8], name: &[u8]) -> Number
     ensures { λ r. ⌜ r ≡ parseNumber (now (text .entry)) ⌝ }
@@ -32,7 +45,7 @@ pub fn number_in(text: &[u8], name: &[u8]) -> Number
     number
 }
 
-// The format that an argument's text names; that it names none is told.
+// The format that an argument's text names; that it names none is reported.
 pub fn format_in(text: &[u8]) -> Named
     ensures { λ r. ⌜ r ≡ formatNamed (now (text .entry)) ⌝ }
 {
@@ -51,7 +64,7 @@ pub struct Opened {
     pub length: usize,
 }
 
-// Opens the file that an argument names, and puts its path at the start of a buffer. What failed is told.
+// Opens the file that an argument names, and puts its path at the start of a buffer. What failed is reported.
 pub fn open_argument(index: usize, path: &mut [u8]) -> Opened
     ensures { λ r. ⌜ Counts (r .length) (now (path .exit)) ⌝ }
 {
@@ -73,7 +86,7 @@ pub struct Piece {
     pub well: bool,
 }
 
-// Reads once. What failed is told, with the file's name.
+// Reads once. What failed is reported, with the file's name.
 pub fn read_piece(fd: i32, name: &[u8], piece: &mut [u8]) -> Piece
     ensures { λ r. ⌜ Counts (r .count) (now (piece .exit)) ⌝ }
 {
@@ -87,13 +100,7 @@ pub fn read_piece(fd: i32, name: &[u8], piece: &mut [u8]) -> Piece
     }
 }
 
-// What was handed to the system to write: so many bytes; and whether it took them.
-pub struct Printed {
-    pub size: usize,
-    pub well: bool,
-}
-
-// Hands the first n bytes of `out` to the system, for standard output. What did fail is told on standard error. Where there are no n
+// Hands the first n bytes of `out` to the system, for standard output. What did fail is reported on standard error. Where there are no n
 // bytes none is handed over, and it did not go well; else whether it did is the system's, and no contract can say which.
 pub fn print(out: &[u8], n: usize) -> Printed
     ensures { λ r. ⌜ (r .size ≡ cond (leb n (length (now (out .entry)))) n 0) × (length (now (out .entry)) < n → r .well ≡ false) ⌝ }

@@ -8,9 +8,11 @@ ghost use Rattle.record.specs.Tickets.{slotOfTicket};
 ghost use Rattle.record.specs.Clients.{noClient};
 ghost use Rattle.record.specs.Queue.{readySlots};
 ghost use Rattle.record.specs.Rules.{valid};
+ghost use Rattle.record.specs.Checking.{checkedOf};
 ghost use Rattle.queue.specs.Refusals.{firstRefusal};
 ghost use Rattle.engine.specs.Run.{runTable, oldestTicket, oldest, boundsOfClient, resetOf, pendingLowered, withoutOldest};
 use record::Batch;
+use record::Checked;
 use record::Client;
 use record::Record;
 use record::Slot;
@@ -18,16 +20,18 @@ use record::SlotState;
 use register::Bank;
 use rules::Bounds;
 
-// What run is refused with, 0 if it takes a batch; `ring` and `memory` are the lengths of what is lent.
-pub fn run_refusal(engine: Record, ring: usize, memory: usize) -> u32
+// What run is refused with, 0 if it takes a batch; `found` is what the check of the record found, `ring` and `memory` are the lengths of what is lent.
+pub fn run_refusal(engine: Record, found: Checked, ring: usize, memory: usize) -> u32
+    requires { ⌜ found ≡ checkedOf engine ⌝ }
     ensures { λ r. ⌜ r ≡ firstRefusal (runTable engine ring memory) ⌝ }
 {
+    if !found.valid {
+        return 11;
+    }
     let setup = engine.setup;
-    let slots = engine.slots;
     let lent = !(ring == setup.ring) | !(memory == setup.memory);
-    let none = record::ready_slots(slots) == 0;
-    let no10 = queue::first_refusal(lent, 10, queue::first_refusal(none, 9, 0));
-    queue::first_refusal(!record::is_valid(engine), 11, no10)
+    let none = found.ready == 0;
+    queue::first_refusal(lent, 10, queue::first_refusal(none, 9, 0))
 }
 
 // What a client may touch: its window, and common.
@@ -69,12 +73,13 @@ fn lower(clients: [Client; 4], client: u32) -> [Client; 4]
     after
 }
 
-// The slot of the oldest batch.
-pub fn oldest_slot(engine: Record) -> usize
-    ensures { λ r. ⌜ (r ≡ slotOfTicket (oldestTicket engine) (engine .slots)) × (length (engine .slots) ≡ 8) ⌝ }
+// The slot of the oldest of so many ready batches.
+pub fn oldest_slot(engine: Record, ready: usize) -> usize
+    requires { ⌜ (readySlots engine ≤ 8) × (ready ≡ readySlots engine) ⌝ }
+    ensures { λ r. ⌜ r ≡ slotOfTicket (oldestTicket engine) (engine .slots) ⌝ }
 {
     let slots = engine.slots;
-    record::slot_of_age(slots, engine.next, record::ready_slots(slots))
+    record::slot_of_age(slots, engine.next, ready)
 }
 
 // The slots with one of them free.

@@ -9,16 +9,14 @@ use lib.ListN.{length, getD, length-set}
 use Rattle.word.specs.Word.{words}
 use Rattle.ring.specs.Segment.{segment, LiesInRing}
 use Rattle.ring.proofs.Segment.{batch-words}
-use Rattle.raster.proofs.Outside.{length-batch}
 use Rattle.record.specs.declared.Batch.{Batch}
 use Rattle.record.specs.declared.Record.{Record}
 use Rattle.record.specs.Slots.{free}
 use Rattle.record.specs.Tickets.{slotOfTicket}
-use Rattle.record.specs.Clients.{noClient, isOpen, openWindows}
+use Rattle.record.specs.Clients.{noClient, isOpen}
 use Rattle.record.specs.Queue.{readySlots, waiting}
 use Rattle.record.specs.Rules.{valid}
 use Rattle.record.proofs.Line.{held}
-use Rattle.record.proofs.Opened.{windows-set}
 use Rattle.record.proofs.Rules.{LengthGood, valid-facts}
 use Rattle.record.proofs.Taken.{first, taken, waiting-first, first-at, taken-valid, taken-waiting}
 use Rattle.queue.proofs.Kept.{Sized}
@@ -26,10 +24,10 @@ use Rattle.queue.proofs.Stays.{unless-keeps}
 use Rattle.engine.specs.declared.Outcome.{Outcome}
 use Rattle.engine.specs.declared.Outcome.the-variants.{Refused, Completed}
 use Rattle.engine.specs.Outcome.{runRefusalOf}
-use Rattle.engine.specs.Run.{runNumber, oldestTicket, oldest, boundsOfClient, oldestWords, resetOf, withoutOldest, outcomeUnlessRefused, runResult, runMemory}
+use Rattle.engine.specs.Run.{runNumber, oldestTicket, oldest, oldestWords, withoutOldest, outcomeUnlessRefused, runResult, runMemory}
 use Rattle.engine.proofs.Oldest.{owner-open, few, first-is, good}
 use Rattle.engine.proofs.Refusals.{RunAllowed, run-allowed}
-use Rattle.engine.proofs.Calls.{completion, drawn, run-refused}
+use Rattle.engine.proofs.Calls.{completion, run-refused}
 
 -- ---- the paper's number
 
@@ -112,10 +110,6 @@ module _ (engine : Record) (s : Sized engine) (given lent : ℕ) (a : RunAllowed
   pub oldest-owner : isOpen engine (oldest engine .client) ≡ true
   oldest-owner = owner-open engine (a .ok) (a .some)
 
-  pub run-windows : openWindows (withoutOldest engine) ≡ openWindows engine
-  unfolding withoutOldest
-  run-windows = windows-set (engine .clients) (oldest engine .client) _
-
 -- ---- the batch in the ring
 
 module _ (engine : Record) (s : Sized engine) (ring : List ℕ) (lent : ℕ) (a : RunAllowed engine (length ring) lent) where
@@ -145,10 +139,3 @@ unfolding runResult
 run-stays engine s ok ring memory =
     unless-keeps (λ e. (valid e ≡ true) × Sized e) (runNumber engine ring memory) engine (withoutOldest engine) (ok, s)
     (λ z. (run-valid engine s (length ring) (length memory) (run-allowed engine (length ring) (length memory) z), run-sized engine s))
-
--- memory keeps its length
-pub run-length : (engine : Record) (ring memory : List ℕ) → length (runMemory engine ring memory) ≡ length memory
-unfolding runMemory
-run-length engine ring memory =
-    unless-keeps (λ m. length m ≡ length memory) (runNumber engine ring memory) memory (drawn engine ring memory) refl
-    (λ z. length-batch (boundsOfClient engine (oldest engine .client)) (resetOf engine) (oldestWords engine ring) memory)

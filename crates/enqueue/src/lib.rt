@@ -2,32 +2,32 @@
 ghost use mathlib.Core.Path.{_≡_};
 ghost use mathlib.Core.Bool.{true};
 ghost use Prim.Native.Nat.{_≤_, _<_};
-ghost use lib.ListN.{length, getD, set};
-ghost use Rattle.record.specs.Slots.{readyWith, readyBatches, lowestFree};
+ghost use lib.ListN.{getD, set};
+ghost use Rattle.record.specs.Slots.{readyWith};
 ghost use Rattle.record.specs.Tickets.{ticketAfter};
 ghost use Rattle.record.specs.Clients.{noClient, clientAt};
-ghost use Rattle.record.specs.Queue.{readySlots, takenSlots, freeBytes, writeOffset};
+ghost use Rattle.record.specs.Queue.{readySlots, readyBytes, takenSlots, freeBytes, writeOffset};
 ghost use Rattle.record.specs.Staged.{stagedSlots};
 ghost use Rattle.record.specs.Rules.{valid};
+ghost use Rattle.record.specs.Checking.{checkedOf};
 ghost use Rattle.queue.specs.Refusals.{firstRefusal, submitTable};
 ghost use Rattle.queue.specs.Calls.{pendingRaised, withBatch};
 use record::Batch;
+use record::Checked;
 use record::Client;
 use record::Record;
 use record::Slot;
 use record::SlotState;
 use record::Staged;
 
-// The ring bytes that are free.
-fn free_bytes(engine: Record) -> usize
-    requires { ⌜ (valid engine ≡ true) × (readySlots engine ≤ 8) ⌝ }
+// The ring bytes that are free; `ready` is how many the ready batches have.
+fn free_bytes(engine: Record, ready: usize) -> usize
+    requires { ⌜ (valid engine ≡ true) × (readySlots engine ≤ 8) × (ready ≡ readyBytes engine) ⌝ }
     ensures { λ r. ⌜ r ≡ freeBytes engine ⌝ }
 {
     let setup = engine.setup;
-    let slots = engine.slots;
     let staged = engine.staged;
     let ring = setup.ring;
-    let ready = record::ready_bytes(slots);
     ring - (ready + staged.total)
 }
 
@@ -38,43 +38,39 @@ fn staged_slots(staged: Staged) -> usize
     if staged.total == 0 { 0 } else { 1 }
 }
 
-// The slots that are taken: each ready batch has one, and so has a staged submission.
-fn taken_slots(engine: Record) -> usize
-    ensures { λ r. ⌜ (r ≡ takenSlots engine) × (readySlots engine ≤ 8) ⌝ }
+// The slots that are taken: each of the ready batches has one, and so has a staged submission.
+fn taken_slots(engine: Record, ready: usize) -> usize
+    requires { ⌜ (readySlots engine ≤ 8) × (ready ≡ readySlots engine) ⌝ }
+    ensures { λ r. ⌜ r ≡ takenSlots engine ⌝ }
 {
-    let slots = engine.slots;
     let staged = engine.staged;
-    let ready = record::ready_slots(slots);
     let held = staged_slots(staged);
     ready + held
 }
 
-// Where the next batch goes, and where the staged one lies: after the newest ready one, at the read offset if none is ready.
-pub fn write_offset(engine: Record) -> usize
-    requires { ⌜ valid engine ≡ true ⌝ }
-    ensures { λ r. ⌜ (r ≡ writeOffset engine) × (readySlots engine ≤ 8) ⌝ }
+// Where the next batch goes, and where the staged one lies: after the newest ready one, at the read offset if none is ready; `ready` is how many ring bytes the ready
+// batches have.
+pub fn write_offset(engine: Record, ready: usize) -> usize
+    requires { ⌜ (valid engine ≡ true) × (readySlots engine ≤ 8) × (ready ≡ readyBytes engine) ⌝ }
+    ensures { λ r. ⌜ r ≡ writeOffset engine ⌝ }
 {
     let setup = engine.setup;
-    let slots = engine.slots;
-    let ready = record::ready_slots(slots);
-    if ready == 0 {
-        return engine.read;
-    }
-    record::wrap(setup.ring, engine.read + record::ready_bytes(slots))
+    record::wrap(setup.ring, engine.read + ready)
 }
 
-// What submit and begin are refused with, 0 if they are not.
-pub fn submit_refusal(engine: Record, given: usize, client: u32, size: usize) -> u32
+// What submit and begin are refused with, 0 if they are not; `found` is what the check of the record found.
+pub fn submit_refusal(engine: Record, found: Checked, given: usize, client: u32, size: usize) -> u32
+    requires { ⌜ (found ≡ checkedOf engine) × (readySlots engine ≤ 8) ⌝ }
     ensures { λ r. ⌜ r ≡ firstRefusal (submitTable engine given client size) ⌝ }
 {
-    if !record::is_valid(engine) {
+    if !found.valid {
         return 11;
     }
     let setup = engine.setup;
     let ring = setup.ring;
     let staged = engine.staged;
-    let taken = taken_slots(engine);
-    let no8 = queue::first_refusal(free_bytes(engine) < size, 8, 0);
+    let taken = taken_slots(engine, found.ready);
+    let no8 = queue::first_refusal(free_bytes(engine, found.bytes) < size, 8, 0);
     let no7 = queue::first_refusal(8 <= taken, 7, no8);
     let no6 = queue::first_refusal(record::bad_length(ring, size), 6, no7);
     let no13 = queue::first_refusal(!(staged.total == 0), 13, no6);
@@ -97,14 +93,6 @@ fn raise(clients: [Client; 4], client: u32) -> [Client; 4]
         opened: old.opened,
     };
     after
-}
-
-// The lowest free slot.
-pub fn lowest_slot(slots: [Slot; 8]) -> usize
-    requires { ⌜ length (readyBatches slots) < 8 ⌝ }
-    ensures { λ r. ⌜ (r ≡ lowestFree slots) × (r < 8) ⌝ }
-{
-    record::lowest_free(slots)
 }
 
 // The batch in a slot.

@@ -3,7 +3,7 @@ use inquiry::Question;
 use inquiry_io::Asked;
 use ppm::Number;
 
-// The ticket that the arguments name. What is wrong with them is told.
+// The ticket that the arguments name. What is wrong with them is reported.
 fn asked() -> Number {
     if os::arg_count() != 3 {
         command::complain(b"fault", b" takes two arguments\n");

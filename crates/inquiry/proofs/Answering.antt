@@ -1,23 +1,22 @@
 -- The answers, a record at a time, and whatever the pieces of the file.
 use mathlib.Core.Path.{_≡_, refl, sym, ap, subst, _∙_}
-use mathlib.Core.Bool.{Bool, true, false, cond, not, _&&_, _||_, false≢true}
+use mathlib.Core.Bool.{Bool, true, false, cond, not, _||_}
 use mathlib.Core.Logic.{_⊎_, inl, inr}
 use mathlib.Core.List.{List, [], _∷_, _++_, append-nil, append-assoc}
-use Prim.Native.Nat.{ℕ, zero, suc, _+_, _-_, _%_, _≤_, _<_}
+use Prim.Native.Nat.{ℕ, _+_, _-_, _%_, _≤_, _<_}
 use native.Mathlib.Nat.{mod-eq-of-lt}
 use native.Mathlib.Omega.{arith}
 use lib.ListN.{length, take, drop, length-drop}
 use lib.Seq.{take-all, take-add}
-use lib.Dec.{eqb, leb, ltb}
-use borrow.Author.Tests.{ltb-true, ltb-false, eqb-false, not-true, lt-ltb, le-ltb, le-leb}
+use lib.Dec.{eqb, ltb}
+use borrow.Author.Tests.{lt-ltb, le-ltb}
 use Rattle.records.specs.declared.Edition.the-variants.{First}
 use Rattle.word.specs.Word.{words}
-use Rattle.word.proofs.Tests.{split, and-true, or-false}
-use Rattle.ring.specs.Segment.{segment, liesInRing, batchWords}
+use Rattle.word.proofs.Tests.{split}
+use Rattle.ring.specs.Segment.{batchWords}
 use Rattle.lines.specs.Lines.{fileReset}
 use Rattle.rules.specs.declared.task.Bounds.{Bounds}
 use Rattle.batch.specs.Batch.{decodeBatch, tasksDrawn}
-use Rattle.model.specs.Refusals.{badLength}
 use Rattle.claims.specs.BatchSemantics.{boundsOf}
 use Rattle.records.specs.declared.Stage.the-variants.{Version}
 use Rattle.records.specs.declared.Found.{Found}
@@ -26,52 +25,21 @@ use Rattle.records.specs.declared.Taken.{Taken}
 use Rattle.records.specs.Records.{Entry, File, records}
 use Rattle.records.specs.Reading.{fileAt, entryIn, onto, Ready, Takes}
 use Rattle.records.proofs.Onward.{ends-here}
-use Rattle.lines.specs.Lines.{setup}
-use Rattle.lines.specs.Answered.{recordRefusal, replayWindow, ticketOfCount, countAfter}
+use Rattle.acceptance.proofs.Taken.{taken-facts, whole-words}
+use Rattle.lines.specs.Answered.{recordRefusal, replayWindow, countAfter}
 use Rattle.provenance.specs.declared.Touched.{Touched}
-use Rattle.provenance.specs.declared.Touched.the-variants.{NotDrawn}
 use Rattle.provenance.specs.declared.Why.{Why}
-use Rattle.provenance.specs.declared.Why.the-variants.{NoFault}
 use Rattle.inquiry.specs.declared.Question.{Question}
 use Rattle.inquiry.specs.declared.Finding.{Finding}
 use Rattle.inquiry.specs.declared.Inquiry.{Inquiry}
 use Rattle.inquiry.specs.declared.Fed.{Fed}
-use Rattle.provenance.specs.Drawn.{Drawn, numbered, readingOf, drawnBy, drawnFrom}
+use Rattle.provenance.specs.Drawn.{Drawn, numbered, drawnBy, drawnFrom}
 use Rattle.provenance.specs.Touched.{lastFrom, touchedBy}
 use Rattle.provenance.specs.Faulted.{explained, whyFrom, faultedBy}
 use Rattle.provenance.specs.Answers.{toldTouched, toldFault, touchedAnswer, faultAnswer}
 use Rattle.inquiry.specs.Inquiry.{findingAfter, findingFrom, nothingYet, Answers, answersOf, Stands, Feeds, findingNext, findingOn}
 
--- ---- a record that submit takes
-
-abbrev taken : (client size : ℕ) → Bool
-taken client size = not (ltb 3 client) && not (eqb size 0 || not (eqb (size % 4) 0) || ltb 32768 size)
-
-refusal-none : (far bad : Bool) → not far && not bad ≡ eqb (cond far 5 (cond bad 6 0)) 0
-refusal-none true bad = refl
-refusal-none false true = refl
-refusal-none false false = refl
-
-pub taken-is : (client : ℕ) (batch : List ℕ) → taken client (length batch) ≡ eqb (recordRefusal (record { client = client; batch = batch })) 0
-taken-is client batch = refusal-none (ltb 3 client) (badLength (setup First) (length batch))
-
-pub taken-facts : (client : ℕ) (batch : List ℕ) → eqb (recordRefusal (record { client = client; batch = batch })) 0 ≡ true → (client ≤ 3) × (0 < length batch)
-taken-facts client batch e =
-    let size : ℕ = length batch in
-    let bad : Bool = eqb size 0 || not (eqb (size % 4) 0) || ltb 32768 size in
-    let both = and-true (not (ltb 3 client)) (not bad) (taken-is client batch ∙ e) in
-    let fine : bad ≡ false = not-true bad (both .1) in
-    let some = eqb-false size 0 (or-false (eqb size 0) (not (eqb (size % 4) 0)) (or-false (eqb size 0 || not (eqb (size % 4) 0)) (ltb 32768 size) fine .0) .0) in
-    (ltb-false 3 client (not-true (ltb 3 client) (both .0)), go (split 0 (length batch)) some)
-  where
-    go : (0 < length batch) ⊎ (length batch ≤ 0) → (length batch ≡ 0 → ⊥) → 0 < length batch
-    go (inl h) some = h
-    go (inr h) some = absurd (some (omega arith))
-
--- a batch that lies by itself in a slice
-whole-words : (xs : List ℕ) → 0 < length xs → batchWords xs 0 (length xs) ≡ words xs
-unfolding batchWords segment
-whole-words xs some = rw (lt-ltb 0 (length xs) some, le-leb (length xs) (length xs) (omega arith), append-nil xs, take-all (length xs) xs (omega arith))
+-- ---- one record more
 
 module _ (q : Question) (f : Finding) (entry : Entry) where
   abbrev size : ℕ
@@ -205,7 +173,7 @@ module _ (q : Question) where
       ∙ ap (λ (xs : List ℕ). answersOf q (findingFrom q nothingYet (records First xs .entries))) (append-nil seen)
       ∙ answers-file (records First seen)
 
--- ---- the answers, as they are told
+-- ---- the answers, with their refusals
 
 module _ (q : Question) (s : Inquiry) (seen held : List ℕ) (S : Stands q seen s held) where
   pub touched-told : toldTouched (s .finding .records) (q .address) (s .finding .touched) ≡ touchedAnswer (records First seen) (q .address)

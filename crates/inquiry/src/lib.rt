@@ -1,29 +1,22 @@
 // Who drew a byte last, and why a batch faulted, of the records of a replay file. The file is handed over in pieces and read in
 // constant memory: no engine is run, and nothing of it is kept but the answers so far.
 ghost use mathlib.Core.Path.{_≡_};
-ghost use mathlib.Core.Bool.{cond, _&&_, _||_};
+ghost use mathlib.Core.Bool.{cond};
 ghost use mathlib.Core.List.{List, [], _++_};
-ghost use Prim.Native.Nat.{ℕ, _+_, _*_, _≤_};
-ghost use lib.ListN.{length, take};
-ghost use lib.Dec.{eqb, ltb};
+ghost use Prim.Native.Nat.{ℕ, _≤_};
+ghost use lib.ListN.{length};
+ghost use lib.Dec.{eqb};
 ghost use Rattle.records.specs.declared.Edition.the-variants.{First};
 ghost use Rattle.ring.specs.Segment.{batchWords};
 ghost use Rattle.lines.specs.Lines.{fileReset};
 ghost use Rattle.batch.specs.Batch.{decodeBatch};
-ghost use Rattle.claims.specs.BatchSemantics.{boundsOf};
-ghost use Rattle.records.specs.Records.{records};
 ghost use Rattle.records.specs.Reading.{Lies};
-ghost use Rattle.lines.specs.Answered.{recordRefusal, replayWindow};
 ghost use Rattle.provenance.specs.Faulted.{explained};
 ghost use Rattle.inquiry.specs.declared.Question.{Question};
 ghost use Rattle.inquiry.specs.Inquiry.{findingNext, findingOn, Stands, Feeds};
-
-pub mod faulted;
-pub mod last;
-
+use acceptance::Submitted;
 use provenance::Touched;
 use provenance::Why;
-use range::Range;
 use records::Edition;
 use records::Found;
 use records::Reader;
@@ -57,31 +50,12 @@ pub struct Fed {
 
 // ---- a record
 
-// Whether submit takes a record of this client with this batch.
-fn is_accepted(client: u32, batch: &[u8]) -> bool
-    ensures { λ r. ⌜ r ≡ eqb (recordRefusal (record { client = client; batch = now (batch .entry) })) 0 ⌝ }
-{
-    let size = batch.len();
-    !(3 < client) & !((size == 0) | !(size % 4 == 0) | (32768 < size))
-}
-
-// What a client may touch.
-fn bounds_of(client: u32) -> Bounds
-    requires { ⌜ client ≤ 3 ⌝ }
-    ensures { λ r. ⌜ r ≡ boundsOf (replayWindow client) 16384 ⌝ }
-{
-    Bounds {
-        window: Range::new(16384 + client * 12288, 12288),
-        common: 16384,
-    }
-}
-
 // Why the batch with the asked ticket faulted, if this is it.
 fn after_why(asked: u32, ticket: u32, batch: &[u8], bounds: Bounds, why: Why) -> Why
     ensures { λ r. ⌜ r ≡ cond (eqb ticket asked) (explained (batchWords (now (batch .entry)) 0 (length (now (batch .entry)))) (decodeBatch bounds (fileReset First) (batchWords (now (batch .entry)) 0 (length (now (batch .entry)))))) why ⌝ }
 {
     if ticket == asked {
-        faulted::explain(batch, 0, batch.len(), bounds)
+        explanation::explain(batch, 0, batch.len(), bounds)
     } else {
         why
     }
@@ -98,30 +72,26 @@ fn after_record(question: Question, finding: Finding, client: u32, batch: &[u8])
     let ticket = finding.accepted;
     let touched = finding.touched;
     let why = finding.why;
-    if !is_accepted(client, batch) {
-        return Finding {
+    let submitted = acceptance::accept(client, batch);
+    match submitted {
+        Submitted::Refused => Finding {
             records: records,
             accepted: ticket,
             touched: touched,
             why: why,
-        };
-    }
-    let bounds = bounds_of(client);
-    let last = last::after_batch(
-        batch,
-        0,
-        batch.len(),
-        bounds,
-        ticket,
-        question.address,
-        touched,
-    );
-    let reason = after_why(question.ticket, ticket, batch, bounds, why);
-    Finding {
-        records: records,
-        accepted: ticket + 1,
-        touched: last,
-        why: reason,
+        },
+        Submitted::Within(bounds) => {
+            let n = batch.len();
+            let address = question.address;
+            let last = last_touch::after_batch(batch, 0, n, bounds, ticket, address, touched);
+            let reason = after_why(question.ticket, ticket, batch, bounds, why);
+            Finding {
+                records: records,
+                accepted: ticket + 1,
+                touched: last,
+                why: reason,
+            }
+        }
     }
 }
 

@@ -1,6 +1,7 @@
 -- What the definitions say of small files and of the paper's lines, computed.
 use mathlib.Core.Path.{_≡_, refl}
 use mathlib.Core.List.{[], _∷_}
+use lib.Ieee.{le, ofBits}
 use Rattle.word.specs.Word.{byteOf, be32At, beBytes}
 use Rattle.record.specs.Slots.{readyBatches, sumOver}
 use Rattle.record.specs.Tickets.{ticketsConsecutive, inTicketOrder}
@@ -10,13 +11,15 @@ use Rattle.queue.specs.Answers.{answerUnlessRefused}
 use Rattle.queue.specs.Refusals.{firstRefusal}
 use Rattle.queue.specs.Calls.{unlessRefused, initialRecord, setUpResult, withClient, openResult}
 use Rattle.model.specs.Calls.{opened}
-use Rattle.claims.specs.Engine.{answerOrRefusal, performCall, answersOf, initialState}
+use Rattle.claims.specs.Engine.{State, answerOrRefusal, performCall, answersOf, initialState}
 use Rattle.text.specs.Hex.{hexByte, hexBytes, hexWord}
 use Rattle.text.specs.Decimal.{digitsIn, decimal}
 use Rattle.records.specs.Records.{whole, badVersion, badRecord, cutRecord, fileEnds, consEntry, recordsFrom, records}
 use Rattle.records.specs.declared.Edition.the-variants.{First, Second}
-use Rattle.editions.specs.Editions.{scored}
-use Rattle.lines.specs.Lines.{completionLine, refusalLine, setup, opening}
+use Rattle.score.specs.Coverage.{isScore}
+use Rattle.score_word.specs.ScoreWord.{isScoreWord}
+use Rattle.editions.specs.Editions.{scored, submissions}
+use Rattle.lines.specs.Lines.{completionLine, refusalLine, badScoreLine, recordLine, recordAfter, setup, opening}
 
 -- `0 0 00010001 0 0`
 pub drawn : completionLine 0 0 (record { status = 0x00010001; fault = 0; offset = 0 })
@@ -67,7 +70,7 @@ pub cut-body : records First (1 ∷ 0 ∷ 0 ∷ 0 ∷ 2 ∷ 3 ∷ []) ≡ fileEn
 unfolding records recordsFrom be32At
 cut-body = refl
 
--- a length of 0, and one of 32,770, told before the body is missed; 32,769 is allowed
+-- a length of 0, and one of 32,770, answered before the body is missed; 32,769 is allowed
 pub no-length : records First (1 ∷ 0 ∷ 0 ∷ 0 ∷ 0 ∷ []) ≡ fileEnds badRecord
 unfolding records recordsFrom be32At
 no-length = refl
@@ -109,3 +112,21 @@ second-longest = refl
 pub second-cut : records Second (2 ∷ 0 ∷ 0 ∷ 0 ∷ 5 ∷ 3 ∷ 63 ∷ []) ≡ fileEnds cutRecord
 unfolding records recordsFrom be32At
 second-cut = refl
+
+-- one record, of client 3, with the bits of 0.5 and one byte; its byte is submitted
+pub second-one : records Second (2 ∷ 0 ∷ 0 ∷ 0 ∷ 6 ∷ 3 ∷ 63 ∷ 0 ∷ 0 ∷ 0 ∷ 9 ∷ []) ≡ consEntry (record { client = 3; batch = 63 ∷ 0 ∷ 0 ∷ 0 ∷ 9 ∷ [] }) (fileEnds whole)
+unfolding records recordsFrom be32At
+second-one = refl
+
+pub second-submitted : submissions Second (record { client = 3; batch = 63 ∷ 0 ∷ 0 ∷ 0 ∷ 9 ∷ [] } ∷ []) ≡ record { client = 3; batch = 9 ∷ [] } ∷ []
+unfolding scored isScoreWord isScore be32At le ofBits
+second-submitted = refl
+
+-- 2.0 is no score: the record's line says so, and nothing is submitted
+pub second-bad-score : (s : State) → recordLine Second (record { client = 3; batch = 64 ∷ 0 ∷ 0 ∷ 0 ∷ 9 ∷ [] }) s ≡ badScoreLine
+unfolding isScoreWord isScore be32At le ofBits
+second-bad-score s = refl
+
+pub second-bad-kept : (s : State) → recordAfter Second (record { client = 3; batch = 64 ∷ 0 ∷ 0 ∷ 0 ∷ 9 ∷ [] }) s ≡ s
+unfolding isScoreWord isScore be32At le ofBits
+second-bad-kept s = refl

@@ -1,8 +1,12 @@
 // Shows a rectangle of the memory that a replay file leaves, as a picture (PPM) on standard output.
+ghost use mathlib.Core.Bool.{false};
+ghost use Rattle.records.specs.declared.Edition.the-variants.{First};
+ghost use Rattle.replay_pieces.specs.Reached.{ReplayedInZeros};
 use ppm::Named;
 use ppm::Number;
 use ppm::Rectangle;
 use records::Edition;
+use replay_io::Replaying;
 use surface::Surface;
 
 // The rectangle that the arguments name. What is wrong with them is reported.
@@ -61,6 +65,18 @@ fn write_picture(memory: &[u8], s: Surface) {
     }
 }
 
+// Replays the file in 65,536 zero bytes and, if nothing failed, writes the picture of the rectangle.
+fn show(s: Surface) -> Replaying
+    ensures { λ r. ⌜ ReplayedInZeros First false (r .handed) (r .well) ⌝ }
+{
+    let mut memory = [0u8; 65536];
+    let came = replay_io::replay_argument(Edition::First, 1, &mut memory, false, false);
+    if came.well {
+        write_picture(&memory, s);
+    }
+    came
+}
+
 // How to give the arguments.
 fn usage() {
     command::complain(
@@ -79,9 +95,5 @@ fn main() {
         usage();
         return;
     };
-    let mut memory = io::large_buffer();
-    let came = replay_io::replay_argument(Edition::First, 1, &mut memory, false, false);
-    if came.well {
-        write_picture(&memory, s);
-    }
+    show(s);
 }

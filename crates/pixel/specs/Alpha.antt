@@ -1,14 +1,11 @@
--- Nearest division by 255, and the alpha modes (01, "Pixels"; 001, alpha modes).
-use Prim.Native.Nat.{ℕ, _+_, _*_, _/_}
+-- The alpha modes (01, "Pixels"; 001, alpha modes).
+use Prim.Native.Nat.{ℕ, _*_}
 use mathlib.Core.Bool.{Bool, cond}
 use lib.Dec.{eqb, leb}
+use Rattle.division.specs.Division.{div255}
 use Rattle.pixel.specs.declared.colour.Colour.{Colour}
 use Rattle.pixel.specs.declared.blend.AlphaMode.{AlphaMode}
 use Rattle.pixel.specs.declared.blend.AlphaMode.the-variants.{Pixel, Global, Mixed}
-
--- the whole part of (n + 127) / 255
-unfoldable pub div255 : ℕ → ℕ
-div255 n = (n + 127) / 255
 
 -- a number is the code of an alpha mode
 abbrev pub isAlphaMode : ℕ → Bool

@@ -6,7 +6,7 @@ use Rattle.pixel.specs.declared.colour.Colour.{Colour}
 use Rattle.pixel.specs.declared.blend.Factor.{Factor}
 use Rattle.pixel.specs.declared.blend.Factor.the-variants.{Zero, One, SourceAlpha, InverseSourceAlpha, DestinationAlpha, InverseDestinationAlpha}
 use Rattle.pixel.specs.declared.blend.Rule.{Rule}
-use Rattle.pixel.specs.Alpha.{div255}
+use Rattle.division.specs.Division.{div255}
 
 -- a number is the code of a factor
 abbrev pub isFactor : ℕ → Bool

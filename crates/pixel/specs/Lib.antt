@@ -2,6 +2,5 @@
 pub mod Formats
 pub mod Colours
 pub mod Alpha
-pub mod Division
 pub mod Blending
 pub mod Rules

@@ -2,7 +2,6 @@
 ghost use mathlib.Core.Path.{_≡_};
 ghost use Prim.Native.Nat.{_*_, _≤_};
 ghost use Rattle.pixel.specs.Alpha.{isAlphaMode, alphaModeOf, effectiveAlpha, withAlpha};
-ghost use Rattle.pixel.specs.Division.{shifted};
 ghost use Rattle.pixel.specs.Blending.{isFactor, factorOf, factorValue, blendedChannel, blended};
 ghost use Rattle.pixel.specs.Rules.{blendModeFactors};
 use crate::colour::Colour;
@@ -46,16 +45,6 @@ pub enum RuleName {
     Add,
 }
 
-// The nearest whole number to n / 255, by shifts and adds. From 65,663 on it may be one too small, but it is never below 255, where
-// sums are held (specs/Division). The sums of two products of bytes stay below 130,051.
-pub fn near(n: u32) -> u32
-    requires { ⌜ n ≤ 130050 ⌝ }
-    ensures { λ r. ⌜ r ≡ shifted n ⌝ }
-{
-    let t = n + 128;
-    (t + (t >> 8)) >> 8
-}
-
 // The product of two bytes.
 fn product(a: u8, b: u8) -> u32
     ensures { λ r. ⌜ (r ≡ a * b) × (r ≤ 65025) ⌝ }
@@ -89,7 +78,7 @@ impl AlphaMode {
         match self {
             AlphaMode::Pixel => pixel,
             AlphaMode::Global => global,
-            AlphaMode::Mixed => near(product(pixel, global)) as u8,
+            AlphaMode::Mixed => division::near(product(pixel, global)) as u8,
         }
     }
 
@@ -256,6 +245,6 @@ impl Rule {
 pub fn blend_channel(s: u8, fs: u8, d: u8, fd: u8) -> u8
     ensures { λ r. ⌜ r ≡ blendedChannel s fs d fd ⌝ }
 {
-    let sum = near(product(s, fs) + product(d, fd));
+    let sum = division::near(product(s, fs) + product(d, fd));
     if sum < 255 { sum as u8 } else { 255 }
 }

@@ -23,7 +23,7 @@ use Rattle.record.proofs.Clients.{closed-is, open-place, place-open}
 use Rattle.record.proofs.Opened.{opened-more, opened-other, none-put, open-more, open-none, open-fewer, counts-put}
 use Rattle.record.proofs.Unfinished.{staged-stays}
 use Rattle.record.proofs.Rules.{ring-good, Valid, valid-facts, valid-made, numbers-kept, sum-waiting}
-use Rattle.queue.specs.Calls.{initialRecord, noSetup, withClient, withoutClient, withStaged}
+use Rattle.queue.specs.Calls.{initialRecord, withClient, withoutClient, withStaged}
 use Rattle.queue.proofs.Refusals.{SetUpAllowed, OpenAllowed, CloseAllowed}
 
 -- what every record of the code has
@@ -46,11 +46,6 @@ unfolding initialRecord valid windowsOf windowsValid readyBatches sumOver ticket
 fresh-valid setup a =
     let good = ring-good setup (a .ring) in
     rw (a .ring, a .memory, lt-ltb 0 (setup .ring) (good .some), le-leb 0 (setup .ring) (omega arith))
-
--- a refused set up hands out a record that every call refuses
-pub no-engine : valid (initialRecord noSetup) ≡ false
-unfolding initialRecord valid
-no-engine = refl
 
 -- nothing waits in it
 pub fresh-waiting : (setup : Setup) → waiting (initialRecord setup) ≡ []
@@ -185,11 +180,6 @@ module _ (engine : Record) (g : Staged) where
   pub staged-sized : Sized engine → Sized (withStaged engine g)
   unfolding withStaged
   staged-sized s = record { clients = s .clients; slots = s .slots; next = s .next }
-
-  -- the batches are as they were
-  pub staged-waiting : waiting (withStaged engine g) ≡ waiting engine
-  unfolding withStaged
-  staged-waiting = refl
 
   rules : Valid engine → (windowsRule (withStaged engine g) ≡ true) × (ticketsRule (withStaged engine g) ≡ true) × (endToEndRule (withStaged engine g) ≡ true) × (lengthsRule (withStaged engine g) ≡ true)
       × (totalLength (waiting (withStaged engine g)) ≤ withStaged engine g .setup .ring) × (pendingRule (withStaged engine g) ≡ true)

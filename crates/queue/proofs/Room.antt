@@ -1,5 +1,5 @@
 -- What a valid record leaves room for.
-use mathlib.Core.Path.{_≡_, sym, ap}
+use mathlib.Core.Path.{_≡_}
 use mathlib.Core.List.{List}
 use mathlib.Core.Bool.{true, false}
 use mathlib.Core.Logic.{⊎-elim}
@@ -15,8 +15,7 @@ use Rattle.record.specs.Clients.{isOpen, clientAt}
 use Rattle.record.specs.Staged.{noStaged, isIdle}
 use Rattle.record.specs.Queue.{readySlots, readyBytes, takenBytes, writeOffset}
 use Rattle.record.specs.Rules.{valid}
-use Rattle.record.specs.Tickets.{inTicketOrder}
-use Rattle.record.proofs.Rules.{Valid, valid-facts, ready-within, write-first}
+use Rattle.record.proofs.Rules.{Valid, valid-facts, ready-within}
 use Rattle.record.proofs.Clients.{open-place}
 use Rattle.record.proofs.Opened.{counts-at, counts-small}
 use Rattle.record.proofs.Unfinished.{Unfinished, staged-cases}
@@ -30,9 +29,6 @@ module _ (engine : Record) (ok : valid engine ≡ true) where
   pub bytes-within : readySlots engine ≤ 8 → readyBytes engine ≤ engine .setup .ring
   bytes-within few = ready-within engine facts few
 
-  pub bytes-small : readySlots engine ≤ 8 → readyBytes engine ≤ 32768
-  bytes-small few = omega (arith, bytes-within few, facts .numbers .ring .small)
-
   -- with the staged submission too
   pub bytes-taken : readySlots engine ≤ 8 → takenBytes engine ≤ engine .setup .ring
   bytes-taken few =
@@ -44,11 +40,6 @@ module _ (engine : Record) (ok : valid engine ≡ true) where
 
   pub offset-small : readySlots engine ≤ 8 → engine .read + readyBytes engine < 65536
   offset-small few = omega (arith, bytes-within few, facts .numbers .ring .small, facts .numbers .below)
-
-  -- with nothing ready the next batch goes to the read offset
-  pub write-none : readySlots engine ≡ 0 → engine .read ≡ writeOffset engine
-  unfolding inTicketOrder
-  write-none e = sym (write-first engine facts (omega arith) (ap (λ (k : ℕ). inTicketOrder k (engine .next) (engine .slots)) e))
 
   module _ (client : ℕ) (owner : isOpen engine client ≡ true) where
     pub client-small : client < 4

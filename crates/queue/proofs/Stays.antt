@@ -16,12 +16,12 @@ use Rattle.record.specs.Rules.{stagedRule, valid}
 use Rattle.record.proofs.Rules.{length-good}
 use Rattle.record.proofs.Unfinished.{unfinished-kept, idle-kept}
 use Rattle.queue.specs.declared.Answer.{Answer}
-use Rattle.queue.specs.declared.Answer.the-variants.{Refused, Done, Opened, Accepted, Ready, Missing}
-use Rattle.queue.specs.Answers.{refusalNumberOf, valueOf, answerUnlessRefused}
-use Rattle.queue.specs.Refusals.{firstRefusal, setUpTable, openTable, submitTable, cancelTable, closeTable, pendingTable}
-use Rattle.queue.specs.Calls.{unlessRefused, setUpResult, withClient, openResult, newBatch, withBatch, submitted, submitNumber, submitResult, submitRing, withStaged, begun, beginResult, more, isLast, pieceNumber, pieceAnswer, afterPiece, pieceResult, pieceRing, cancelResult, withoutClient, closeResult, pendingAnswer}
+use Rattle.queue.specs.declared.Answer.the-variants.{Refused, Done, Opened, Accepted, Missing}
+use Rattle.queue.specs.Answers.{refusalNumberOf, answerUnlessRefused}
+use Rattle.queue.specs.Refusals.{firstRefusal, setUpTable, openTable, submitTable, cancelTable, closeTable}
+use Rattle.queue.specs.Calls.{unlessRefused, setUpResult, withClient, openResult, newBatch, withBatch, submitted, submitNumber, submitResult, submitRing, withStaged, begun, beginResult, more, isLast, pieceNumber, pieceAnswer, afterPiece, pieceResult, pieceRing, cancelResult, withoutClient, closeResult}
 use Rattle.queue.proofs.Refusals.{set-up-allowed, open-allowed, SubmitAllowed, submit-allowed, PieceAllowed, piece-allowed, close-allowed}
-use Rattle.queue.proofs.Calls.{open-refused, submit-refused, begin-refused, piece-refused, cancel-refused, close-refused}
+use Rattle.queue.proofs.Calls.{open-refused, submit-refused, piece-refused}
 use Rattle.queue.proofs.Kept.{Sized, fresh-valid, open-sized, open-valid, staged-sized, staged-valid, close-sized, close-valid}
 use Rattle.queue.proofs.Submitted.{added-sized, added-valid, submit-addable, staged-addable}
 
@@ -31,11 +31,6 @@ number-answered : (n : ℕ) (a : Answer) → refusalNumberOf a ≡ 0 → refusal
 unfolding answerUnlessRefused
 number-answered zero a e = e
 number-answered (suc n) a e = refl
-
--- and the value is the call's own where it is not refused
-pub value-answered : (n : ℕ) (a : Answer) → n ≡ 0 → valueOf (answerUnlessRefused n a) ≡ valueOf a
-unfolding answerUnlessRefused
-value-answered n a e = rw e
 
 pub set-up-number : (setup : Setup) → refusalNumberOf (setUpResult (setup .ring) (setup .memory) (setup .common) (setup .reset) .answer) ≡ firstRefusal (setUpTable setup)
 unfolding setUpResult
@@ -72,10 +67,6 @@ pub close-number : (engine : Record) (memory client : ℕ) → refusalNumberOf (
 unfolding closeResult
 close-number engine memory client = number-answered (firstRefusal (closeTable engine memory client)) Done refl
 
-pub pending-number : (engine : Record) (client : ℕ) → refusalNumberOf (pendingAnswer engine client) ≡ firstRefusal (pendingTable engine client)
-unfolding pendingAnswer
-pending-number engine client = number-answered (firstRefusal (pendingTable engine client)) (Ready _) refl
-
 -- ---- a refusal changes nothing
 
 pub open-same : (engine : Record) (w : Window) → (firstRefusal (openTable engine w) ≡ 0 → ⊥) →
@@ -88,23 +79,11 @@ submit-same engine ring client batch z =
     let both = submit-refused engine ring client batch (submitNumber engine ring client batch) refl z in
     (sym (both .0), sym (both .1))
 
-pub begin-same : (engine : Record) (ring client total : ℕ) → (firstRefusal (submitTable engine ring client total) ≡ 0 → ⊥) →
-    beginResult engine ring client total ≡ record { answer = Refused (firstRefusal (submitTable engine ring client total)); engine = engine }
-begin-same engine ring client total z = sym (begin-refused engine ring client total (firstRefusal (submitTable engine ring client total)) refl z)
-
 pub piece-same : (engine : Record) (ring : List ℕ) (client : ℕ) (piece : List ℕ) → (pieceNumber engine ring client piece ≡ 0 → ⊥) →
     (pieceResult engine ring client piece ≡ record { answer = Refused (pieceNumber engine ring client piece); engine = engine }) × (pieceRing engine ring client piece ≡ ring)
 piece-same engine ring client piece z =
     let both = piece-refused engine ring client piece (pieceNumber engine ring client piece) refl z in
     (sym (both .0), sym (both .1))
-
-pub cancel-same : (engine : Record) (client : ℕ) → (firstRefusal (cancelTable engine client) ≡ 0 → ⊥) →
-    cancelResult engine client ≡ record { answer = Refused (firstRefusal (cancelTable engine client)); engine = engine }
-cancel-same engine client z = sym (cancel-refused engine client (firstRefusal (cancelTable engine client)) refl z)
-
-pub close-same : (engine : Record) (memory client : ℕ) → (firstRefusal (closeTable engine memory client) ≡ 0 → ⊥) →
-    closeResult engine memory client ≡ record { answer = Refused (firstRefusal (closeTable engine memory client)); engine = engine }
-close-same engine memory client z = sym (close-refused engine memory client (firstRefusal (closeTable engine memory client)) refl z)
 
 -- ---- a valid record stays valid
 

@@ -1,5 +1,5 @@
 -- Laws of the open clients, one client at a time.
-use mathlib.Core.Path.{_≡_, refl, sym, ap, _∙_}
+use mathlib.Core.Path.{_≡_, refl, ap, _∙_}
 use mathlib.Core.List.{List, [], _∷_}
 use mathlib.Core.Bool.{Bool, true, false, _&&_, _||_, not, cond}
 use Prim.Native.Nat.{ℕ, zero, suc, _+_, _≤_, _<_}
@@ -18,7 +18,7 @@ use Rattle.record.specs.declared.Client.{Client}
 use Rattle.record.specs.declared.Window.{Window}
 use Rattle.record.specs.declared.Record.{Record}
 use Rattle.record.specs.Slots.{countOf}
-use Rattle.record.specs.Clients.{noClient, clientAt, isOpen, windowsOf, lowestClosed, windowRange, prefixRange, overlapsAny, badWindow, windowsValid, pendingCountsMatch}
+use Rattle.record.specs.Clients.{noClient, clientAt, isOpen, windowsOf, lowestClosed, windowRange, prefixRange, overlapsAny, badWindow, misplaced, windowsValid, pendingCountsMatch}
 
 -- the tests behind a bad window
 pub bad-made : (setup : Setup) (others : List Window) (w : Window) (bytes : Range) (a b c : Bool) → bytes ≡ windowRange w →
@@ -63,30 +63,26 @@ module _ (cs : List Client) (k : ℕ) (h : k < length cs) where
     pub shares-next : (getD cs k noClient .opened && t) ≡ false → overlapsAny bytes (windowsOf (drop (k + 1) cs)) ≡ overlapsAny bytes (windowsOf (drop k cs))
     shares-next e = rw (shares-step, e)
 
-  module _ (setup : Setup) (t : Bool) (told : t ≡ badWindow setup (windowsOf (drop (k + 1) cs)) (getD cs k noClient .window)) where
-    none-step : windowsValid setup (windowsOf (drop k cs)) ≡ (not (getD cs k noClient .opened && t) && windowsValid setup (windowsOf (drop (k + 1) cs)))
+  module _ (setup : Setup) (t : Bool) (told : t ≡ misplaced setup cs k) where
+    none-step : windowsValid setup (windowsOf (drop k cs)) ≡ (not t && windowsValid setup (windowsOf (drop (k + 1) cs)))
     none-step = ap (λ (x : List Client). windowsValid setup (windowsOf x)) head-at ∙ valid-cons setup (getD cs k noClient) (drop (k + 1) cs) ∙ rw told
 
-    pub none-found : (getD cs k noClient .opened && t) ≡ true → false ≡ windowsValid setup (windowsOf (drop k cs))
+    pub none-found : t ≡ true → false ≡ windowsValid setup (windowsOf (drop k cs))
     none-found e = rw (none-step, e)
 
-    pub none-next : (getD cs k noClient .opened && t) ≡ false → windowsValid setup (windowsOf (drop (k + 1) cs)) ≡ windowsValid setup (windowsOf (drop k cs))
+    pub none-next : t ≡ false → windowsValid setup (windowsOf (drop (k + 1) cs)) ≡ windowsValid setup (windowsOf (drop k cs))
     none-next e = rw (none-step, e)
 
-  module _ (bs : List Batch) (m : ℕ) (told : m ≡ countOf k bs) where
-    -- the client is closed, or its count is right
-    abbrev counted : Bool
-    counted = not (getD cs k noClient .opened) || eqb (getD cs k noClient .pending) m
-
-    counts-step : pendingCountsMatch k (drop k cs) bs ≡ (counted && pendingCountsMatch (k + 1) (drop (k + 1) cs) bs)
+  module _ (bs : List Batch) (t : Bool) (told : t ≡ (not (getD cs k noClient .opened) || eqb (getD cs k noClient .pending) (countOf k bs))) where
+    counts-step : pendingCountsMatch k (drop k cs) bs ≡ (t && pendingCountsMatch (k + 1) (drop (k + 1) cs) bs)
     unfolding pendingCountsMatch
     counts-step = rw (head-at, told, add-one k)
 
-    pub counts-found : not counted ≡ true → false ≡ pendingCountsMatch k (drop k cs) bs
-    counts-found e = rw (counts-step, not-true counted e)
+    pub counts-found : not t ≡ true → false ≡ pendingCountsMatch k (drop k cs) bs
+    counts-found e = rw (counts-step, not-true t e)
 
-    pub counts-next : not counted ≡ false → pendingCountsMatch (k + 1) (drop (k + 1) cs) bs ≡ pendingCountsMatch k (drop k cs) bs
-    counts-next e = rw (counts-step, not-false counted e)
+    pub counts-next : not t ≡ false → pendingCountsMatch (k + 1) (drop (k + 1) cs) bs ≡ pendingCountsMatch k (drop k cs) bs
+    counts-next e = rw (counts-step, not-false t e)
 
   pub closed-step : lowestClosed (drop k cs) ≡ cond (getD cs k noClient .opened) (suc (lowestClosed (drop (k + 1) cs))) 0
   unfolding lowestClosed

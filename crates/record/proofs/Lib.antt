@@ -11,3 +11,4 @@ pub mod Rules
 pub mod Unfinished
 pub mod Windows
 pub mod Taken
+pub mod Checking

@@ -1,24 +1,23 @@
 -- Laws of the oldest batch when it is taken: it is the first in ticket order, the others stay, and the record stays valid.
 use mathlib.Core.Path.{_≡_, refl, ap, _∙_}
-use mathlib.Core.List.{List, [], _∷_}
+use mathlib.Core.List.{List, _∷_}
 use mathlib.Core.Bool.{true, cond, _&&_, not}
 use mathlib.Core.Logic.{⊎-elim}
-use Prim.Native.Nat.{ℕ, zero, suc, _+_, _-_, _%_, _≤_, _<_}
+use Prim.Native.Nat.{ℕ, suc, _+_, _-_, _%_, _≤_, _<_}
 use native.Mathlib.Nat.{add-zero}
 use native.Mathlib.Omega.{arith}
 use lib.ListN.{length, getD, set}
 use lib.Dec.{eqb}
-use borrow.Author.Tests.{ltb-true, lt-ltb, eqb-true, eq-eqb, ne-eqb, not-true}
+use borrow.Author.Tests.{lt-ltb, eq-eqb, not-true}
 use Rattle.word.proofs.Tests.{split, and-true}
 use Rattle.ring.specs.Segment.{wrapOffset}
 use Rattle.ring.proofs.Wrapped.{wrapped-in, wrapped-over, wrapped-below}
 use Rattle.record.specs.declared.Batch.{Batch}
 use Rattle.record.specs.declared.Slot.{Slot}
 use Rattle.record.specs.declared.Client.{Client}
-use Rattle.record.specs.declared.Window.{Window}
 use Rattle.record.specs.declared.Record.{Record}
 use Rattle.record.specs.Setup.{badLength}
-use Rattle.record.specs.Slots.{free, readyBatches, sumOver, totalLength, countOf}
+use Rattle.record.specs.Slots.{free, readyBatches, sumOver, totalLength}
 use Rattle.record.specs.Tickets.{ticketBefore, slotOfTicket, batchOfTicket, inTicketOrder}
 use Rattle.record.specs.Clients.{isOpen, noClient}
 use Rattle.record.specs.Queue.{readySlots, waiting}
@@ -54,9 +53,6 @@ module _ (engine : Record) (ok : valid engine ≡ true) (k : ℕ) (some : readyS
 
   found : Oldest (engine .next) k (engine .slots)
   found = oldest (engine .next) k (engine .slots) (omega arith) (rw some at (v .given))
-
-  pub first-place : slotOfTicket ticket (engine .slots) < length (engine .slots)
-  first-place = found .found
 
   left-few : length (readyBatches left) ≡ k
   left-few = omega (arith, found .fewer)

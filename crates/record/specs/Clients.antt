@@ -2,8 +2,8 @@
 -- "Record rules amended for gaps in ids"). What a place that is not open holds is free: no definition looks at it.
 use mathlib.Core.List.{List, [], _∷_}
 use mathlib.Core.Bool.{Bool, true, false, _||_, _&&_, not, cond}
-use Prim.Native.Nat.{ℕ, suc}
-use lib.ListN.{getD}
+use Prim.Native.Nat.{ℕ, suc, _+_}
+use lib.ListN.{drop, getD}
 use lib.Dec.{ltb, eqb}
 use Rattle.range.specs.declared.Range.{Range}
 use Rattle.range.specs.Range.{rangeOf, containedIn, overlaps}
@@ -57,6 +57,10 @@ overlapsAny bytes (w ∷ ws) = overlaps bytes (windowRange w) || overlapsAny byt
 abbrev pub badWindow : Setup → (others : List Window) → Window → Bool
 badWindow setup others w =
     eqb (w .length) 0 || not (containedIn (windowRange w) (prefixRange (setup .memory))) || overlaps (windowRange w) (prefixRange (setup .common)) || overlapsAny (windowRange w) others
+
+-- Internal: the client at a place is open, and its window is bad beside those of the later ones
+abbrev pub misplaced : Setup → List Client → ℕ → Bool
+misplaced setup clients place = getD clients place noClient .opened && badWindow setup (windowsOf (drop (place + 1) clients)) (getD clients place noClient .window)
 
 -- 4 is true of none of the windows. Overlap is symmetric, so each window is compared with the later ones.
 unfoldable pub windowsValid : Setup → List Window → Bool

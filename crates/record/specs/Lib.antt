@@ -6,3 +6,4 @@ pub mod Tickets
 pub mod Clients
 pub mod Queue
 pub mod Rules
+pub mod Checking

@@ -5,7 +5,7 @@ use mathlib.Core.Bool.{Bool, true, false, cond}
 use Prim.Native.Nat.{ℕ, suc, _+_}
 use lib.Dec.{eqb}
 use Rattle.record.specs.declared.Amount.{Amount}
-use Rattle.record.specs.declared.Amount.the-variants.{One, Length, OfClient}
+use Rattle.record.specs.declared.Amount.the-variants.{One, Length, OwnedBy}
 use Rattle.record.specs.declared.Batch.{Batch}
 use Rattle.record.specs.declared.Slot.{Slot}
 use Rattle.record.specs.declared.SlotState.{SlotState}
@@ -52,8 +52,8 @@ unfoldable pub lowestFree : List Slot → ℕ
 lowestFree [] = 0
 lowestFree (s ∷ ss) = cond (isFreeState (s .state)) 0 (suc (lowestFree ss))
 
--- Internal: the amount of a batch that the code sums, by its name; the sum of `Length` is `totalLength`, that of `OfClient` is `countOf`
+-- Internal: the amount of a batch that the code sums, by its name; the sum of `Length` is `totalLength`, that of `OwnedBy` is `countOf`
 abbrev pub amountOf : Amount → Batch → ℕ
 amountOf One = λ b. 1
 amountOf Length = λ b. b .length
-amountOf (OfClient client) = λ b. cond (eqb (b .client) client) 1 0
+amountOf (OwnedBy client) = λ b. cond (eqb (b .client) client) 1 0

@@ -1,6 +1,6 @@
 // The engine record: set-up numbers, clients, slots, read offset and next ticket, and the check of its rules.
 ghost use mathlib.Core.Path.{_≡_};
-ghost use mathlib.Core.Bool.{true, not, _&&_};
+ghost use mathlib.Core.Bool.{true, not, _&&_, _||_};
 ghost use mathlib.Core.List.{[]};
 ghost use Prim.Native.Nat.{_+_, _%_, _≤_, _<_};
 ghost use lib.ListN.{length, drop};
@@ -10,8 +10,10 @@ ghost use Rattle.record.specs.Setup.{badRing, badMemory, badLength};
 ghost use Rattle.record.specs.Slots.{consIfReady, readyBatches, sumOver, amountOf, totalLength, countOf, isFreeState, lowestFree};
 ghost use Rattle.record.specs.Staged.{noStaged, slotHeld};
 ghost use Rattle.record.specs.Tickets.{ticketBefore, hasTicket, slotOfTicket, batchInState};
-ghost use Rattle.record.specs.Clients.{isOpen, windowsOf, lowestClosed, overlapsAny, badWindow, windowsValid, pendingCountsMatch};
+ghost use Rattle.record.specs.Clients.{isOpen, windowsOf, lowestClosed, overlapsAny, badWindow, misplaced, windowsValid, pendingCountsMatch};
+ghost use Rattle.record.specs.Queue.{readySlots};
 ghost use Rattle.record.specs.Rules.{numberRules, batchRules, stagedRule, valid};
+ghost use Rattle.record.specs.Checking.{checkedOf};
 use range::Range;
 use reset::ResetRule;
 
@@ -105,7 +107,7 @@ fn is_free(slot: Slot) -> bool
 pub enum Amount {
     One,
     Length,
-    OfClient(u32),
+    OwnedBy(u32),
 }
 
 fn amount_of(amount: Amount, b: Batch) -> usize
@@ -114,7 +116,7 @@ fn amount_of(amount: Amount, b: Batch) -> usize
     match amount {
         Amount::One => 1,
         Amount::Length => b.length,
-        Amount::OfClient(client) => if b.client == client { 1 } else { 0 },
+        Amount::OwnedBy(client) => if b.client == client { 1 } else { 0 },
     }
 }
 
@@ -177,14 +179,14 @@ fn sum_over(slots: [Slot; 8], amount: Amount) -> usize
 }
 
 // How many slots are ready.
-pub fn ready_slots(slots: [Slot; 8]) -> usize
+fn ready_slots(slots: [Slot; 8]) -> usize
     ensures { λ r. ⌜ (r ≡ length (readyBatches slots)) × (r ≤ 8) × (length slots ≡ 8) ⌝ }
 {
     sum_over(slots, Amount::One)
 }
 
 // How many ring bytes the ready batches have.
-pub fn ready_bytes(slots: [Slot; 8]) -> usize
+fn ready_bytes(slots: [Slot; 8]) -> usize
     requires { ⌜ totalLength (readyBatches slots) ≤ 32768 ⌝ }
     ensures { λ r. ⌜ r ≡ totalLength (readyBatches slots) ⌝ }
 {
@@ -195,7 +197,7 @@ pub fn ready_bytes(slots: [Slot; 8]) -> usize
 pub fn count_of(slots: [Slot; 8], client: u32) -> usize
     ensures { λ r. ⌜ r ≡ countOf client (readyBatches slots) ⌝ }
 {
-    sum_over(slots, Amount::OfClient(client))
+    sum_over(slots, Amount::OwnedBy(client))
 }
 
 // The lowest free slot, 8 if there is none.
@@ -268,20 +270,39 @@ pub fn bad_window(setup: Setup, clients: [Client; 4], from: usize, w: Window) ->
     (w.length == 0) | !mine.is_inside(memory) | mine.shares(common) | crowded
 }
 
+// Whether the client at a place is open, and its window bad beside those of the later ones. A closed one's window is not looked at.
+fn is_misplaced(setup: Setup, clients: [Client; 4], place: usize) -> bool
+    requires { ⌜ place < 4 ⌝ }
+    ensures { λ r. ⌜ r ≡ misplaced setup clients place ⌝ }
+{
+    let client = clients[place];
+    if !client.opened {
+        return false;
+    }
+    bad_window(setup, clients, place + 1, client.window)
+}
+
 fn windows_valid(setup: Setup, clients: [Client; 4]) -> bool
     ensures { λ r. ⌜ r ≡ windowsValid setup (windowsOf clients) ⌝ }
 {
     let mut k: usize = 0;
     while k < 4 {
-        let client = clients[k];
-        let w = client.window;
-        let bad = bad_window(setup, clients, k + 1, w);
-        if client.opened & bad {
+        if is_misplaced(setup, clients, k) {
             return false;
         }
         k += 1;
     }
     true
+}
+
+// Whether a client is closed, or its count is that of its ready batches. Nothing is counted for a closed one: that is a pass over the slots.
+fn count_matches(client: Client, slots: [Slot; 8], id: u32) -> bool
+    ensures { λ r. ⌜ r ≡ (not (client .opened) || eqb (client .pending) (countOf id (readyBatches slots))) ⌝ }
+{
+    if !client.opened {
+        return true;
+    }
+    client.pending as usize == count_of(slots, id)
 }
 
 // Whether each open client's count is that of its ready batches.
@@ -290,9 +311,7 @@ fn pending_counts_match(clients: [Client; 4], slots: [Slot; 8]) -> bool
 {
     let mut k: usize = 0;
     while k < 4 {
-        let client = clients[k];
-        let count = count_of(slots, k as u32);
-        if !(!client.opened | (client.pending as usize == count)) {
+        if !count_matches(clients[k], slots, k as u32) {
             return false;
         }
         k += 1;
@@ -336,16 +355,16 @@ fn fits_in(ring: usize, offset: usize, room: usize, owned: bool, b: Batch) -> bo
     (at == offset) & !bad_length(ring, size) & (size <= room) & owned
 }
 
-// Whether the ready batches, from the oldest on, lie end to end from the read offset and keep their other rules.
-fn batches_valid(engine: Record) -> bool
-    requires { ⌜ (engine .setup .ring ≤ 32768) × (engine .read < engine .setup .ring) ⌝ }
+// Whether the ready batches, so many, from the oldest on lie end to end from the read offset and keep their other rules.
+fn batches_valid(engine: Record, ready: usize) -> bool
+    requires { ⌜ (engine .setup .ring ≤ 32768) × (engine .read < engine .setup .ring) × (ready ≡ readySlots engine) × (ready ≤ 8) × (length (engine .slots) ≡ 8) ⌝ }
     ensures { λ r. ⌜ r ≡ batchRules engine ⌝ }
 {
     let slots = engine.slots;
     let next = engine.next;
     let setup = engine.setup;
     let ring = setup.ring;
-    let mut k = ready_slots(slots);
+    let mut k = ready;
     let mut offset = engine.read;
     let mut room = ring;
     while 0 < k {
@@ -416,8 +435,9 @@ fn staged_valid(engine: Record) -> bool
     owned & !bad_length(ring, total) & (total <= room) & (staged.received < total) & held
 }
 
-// Whether the record keeps every rule.
-pub fn is_valid(engine: Record) -> bool
+// Whether the record, with so many ready slots, keeps every rule.
+fn rules_kept(engine: Record, ready: usize) -> bool
+    requires { ⌜ (ready ≡ readySlots engine) × (ready ≤ 8) × (length (engine .slots) ≡ 8) ⌝ }
     ensures { λ r. ⌜ r ≡ valid engine ⌝ }
 {
     if !numbers_valid(engine) {
@@ -427,10 +447,45 @@ pub fn is_valid(engine: Record) -> bool
     let clients = engine.clients;
     let slots = engine.slots;
     let windows = windows_valid(setup, clients);
-    let batches = batches_valid(engine);
+    let batches = batches_valid(engine, ready);
     let counts = pending_counts_match(clients, slots);
     if !(windows & batches & counts) {
         return false;
     }
     staged_valid(engine)
+}
+
+// What the check of a record finds: whether it keeps every rule, and, if it does, how many slots are ready and how many ring bytes their batches have.
+pub struct Checked {
+    pub valid: bool,
+    pub ready: usize,
+    pub bytes: usize,
+}
+
+// Checks a record. A call does so once and hands on what was found: a pass over the slots, and the copy of them that it takes, cost more than the rest of the call.
+pub fn check(engine: Record) -> Checked
+    ensures { λ r. ⌜ (r ≡ checkedOf engine) × (readySlots engine ≤ 8) × (length (engine .slots) ≡ 8) ⌝ }
+{
+    let slots = engine.slots;
+    let ready = ready_slots(slots);
+    if !rules_kept(engine, ready) {
+        return Checked {
+            valid: false,
+            ready: 0,
+            bytes: 0,
+        };
+    }
+    Checked {
+        valid: true,
+        ready: ready,
+        bytes: ready_bytes(slots),
+    }
+}
+
+// Whether the record keeps every rule.
+pub fn is_valid(engine: Record) -> bool
+    ensures { λ r. ⌜ r ≡ valid engine ⌝ }
+{
+    let found = check(engine);
+    found.valid
 }

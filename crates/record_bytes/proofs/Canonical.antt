@@ -14,7 +14,7 @@ use Rattle.reset.specs.Reset.{isRuleNumber}
 use Rattle.reset.proofs.Numbers.{number-back}
 use Rattle.record.specs.declared.Record.{Record}
 use Rattle.record.specs.declared.Slot.{Slot}
-use Rattle.record_bytes.specs.declared.write.Row.{Row}
+use Rattle.record_bytes.specs.declared.Row.{Row}
 use Rattle.record_bytes.specs.Layout.{wordAt, low}
 use Rattle.record_bytes.specs.Written.{headWords, clientsWords, stagedWords, rowOf, rowWords, rowAt, flagOf, wordsOf, bytesOf}
 use Rattle.record_bytes.specs.Read.{slotRight, slotsRight, fixedRight, isRecord, slotIn, clientsIn, slotsIn, recordIn, recordOf}

@@ -17,7 +17,7 @@ use Rattle.record.specs.declared.SlotState.the-variants.{Free, Ready}
 use Rattle.record.specs.declared.Record.{Record}
 use Rattle.record.specs.Slots.{free}
 use Rattle.record.specs.Clients.{noClient}
-use Rattle.record_bytes.specs.declared.write.Row.{Row}
+use Rattle.record_bytes.specs.declared.Row.{Row}
 use Rattle.record_bytes.specs.Layout.{wordAt, low}
 use Rattle.record_bytes.specs.Written.{tagOf, flagOf, rowOf, rowAt, wordsOf, bytesOf}
 use Rattle.record_bytes.specs.Read.{slotRight, slotsRight, fixedRight, isRecord, setupIn, clientIn, slotIn, clientsIn, slotsIn, stagedIn, recordIn, noRecord, recordOf}

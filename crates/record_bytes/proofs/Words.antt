@@ -19,7 +19,7 @@ use Rattle.record.specs.declared.Staged.{Staged}
 use Rattle.record.specs.declared.Record.{Record}
 use Rattle.record.specs.Slots.{free}
 use Rattle.record.specs.Clients.{noClient}
-use Rattle.record_bytes.specs.declared.write.Row.{Row}
+use Rattle.record_bytes.specs.declared.Row.{Row}
 use Rattle.record_bytes.specs.Layout.{low}
 use Rattle.record_bytes.specs.Written.{flagOf, rowOf, stagedWords, wordsOf, bytesOf}
 use Rattle.record_bytes.specs.RoundTrip.{AllClients, AllSlots, ClientTyped, StateTyped, Typed}

@@ -16,7 +16,7 @@ use Rattle.record.specs.declared.Staged.{Staged}
 use Rattle.record.specs.Slots.{free}
 use Rattle.record.specs.Tickets.{batchInState}
 use Rattle.record.specs.Clients.{noClient}
-use Rattle.record_bytes.specs.declared.write.Row.{Row}
+use Rattle.record_bytes.specs.declared.Row.{Row}
 use Rattle.record_bytes.specs.Layout.{low}
 
 abbrev pub headWords : Record → List ℕ

@@ -1,6 +1,10 @@
-// An engine record as 272 bytes, for callers that are not Rattle. The layout is that of specs/Layout.
-mod read;
-mod write;
+// An engine record as 272 bytes, for callers that are not Rattle: definitions and laws. The layout is that of specs/Layout.
 
-pub use read::decode;
-pub use write::encode;
+// The words of a slot.
+pub struct Row {
+    pub tag: u32,
+    pub client: u32,
+    pub ticket: u32,
+    pub offset: u32,
+    pub length: u32,
+}

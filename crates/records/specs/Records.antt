@@ -21,7 +21,7 @@ pub record Entry : Type 0 where
   pub client : ℕ
   pub batch : List ℕ
 
--- how a file ends: after a whole record, or after the version byte; or with what is told of it
+-- how a file ends: after a whole record, or after the version byte; or with what its last line says
 pub data FileEnd : Type 0 where
   whole : FileEnd
   badVersion : FileEnd

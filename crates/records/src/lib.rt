@@ -3,7 +3,7 @@ ghost use mathlib.Core.Path.{_≡_};
 ghost use Prim.Native.Nat.{_+_, _≤_, _<_};
 ghost use lib.ListN.{length, take};
 ghost use Rattle.records.specs.declared.Stage.the-variants.{Version, Records};
-ghost use Rattle.records.specs.Records.{versionOf, badSize, lengthField};
+ghost use Rattle.records.specs.Records.{versionOf, badSize};
 ghost use Rattle.word.specs.Splice.{spliced};
 ghost use Rattle.records.specs.Reading.{roomOf, batchStart, missing, Ready, Takes, Lies, undecided, decided, versionTaken, keptIn, recordTaken, takenBy, heldAfter};
 

@@ -28,7 +28,8 @@ use Rattle.lines.specs.Answered.{submitAndRunAll}
 use Rattle.lines.proofs.Start.{started-engine, starting-engine, started-state, starting-state}
 use Rattle.replay.specs.declared.Replay.{Replay}
 use Rattle.replay.specs.declared.Fed.{Fed}
-use Rattle.replay.specs.Calls.{stateOf, atStart, Prints, foundText, foundState, fedStep, FeedContract, finishedText}
+use Rattle.replay.specs.Calls.{stateOf, atStart, foundText, foundState, fedStep, FeedContract, finishedText}
+use Rattle.record_lines.specs.Prints.{Prints}
 use Rattle.replay.specs.Chunking.{Stands, concatChunks, FeedTrace, finishing, onto as passing, feeding, ChunkingIrrelevant}
 
 -- what was written is the text

@@ -1,30 +1,26 @@
 -- Laws of feed and finish, as the code takes them.
-use mathlib.Core.Path.{_≡_, refl, sym, ap, subst, _∙_}
-use mathlib.Core.Bool.{Bool, true, false, cond}
+use mathlib.Core.Path.{_≡_, refl, sym}
 use mathlib.Core.List.{List, []}
-use Prim.Native.Nat.{ℕ, zero, suc, _-_, _≤_, _<_}
+use Prim.Native.Nat.{ℕ, zero, suc, _≤_, _<_}
 use native.Mathlib.Omega.{arith}
-use lib.ListN.{length, getD, take, drop}
+use lib.ListN.{length}
 use borrow.Author.Tests.{le-leb, lt-leb}
 use Rattle.records.specs.declared.Edition.{Edition}
-use Rattle.records.specs.declared.Edition.the-variants.{First, Second}
-use Rattle.records.specs.declared.Stage.{Stage}
 use Rattle.records.specs.declared.Stage.the-variants.{Version, Records, Ended}
 use Rattle.records.specs.declared.Found.{Found}
 use Rattle.records.specs.declared.Found.the-variants.{Nothing, Record as OneRecord, BadVersion, BadRecord}
 use Rattle.records.specs.declared.Taken.{Taken}
-use Rattle.records.specs.Records.{Entry, badVersion, badRecord, cutRecord}
-use Rattle.records.specs.Reading.{batchStart, entryIn, Ready, Takes, endingAt, nothingTaken, takenBy, heldAfter}
+use Rattle.records.specs.Records.{badVersion, badRecord, cutRecord}
+use Rattle.records.specs.Reading.{entryIn, Ready, Takes, endingAt, takenBy, heldAfter}
 use Rattle.record.specs.declared.Record.{Record}
 use Rattle.claims.specs.Engine.{State, mkState}
-use Rattle.editions.specs.Editions.{scoreHolds, submission, scoreIn}
-use Rattle.editions.proofs.Records.{score-in, submission-in}
-use Rattle.lines.specs.Lines.{endingLine, badScoreLine, submitAndRun, entryLine, recordLine, recordAfter}
+use Rattle.lines.specs.Lines.{endingLine, recordLine, recordAfter}
 use Rattle.replay.specs.declared.Replay.{Replay}
-use Rattle.replay.specs.declared.Fed.{Fed}
-use Rattle.replay.specs.declared.Served.{Served}
-use Rattle.replay.specs.Calls.{stateOf, Prints, foundText, foundState, fedStep, fedHeld, FeedContract, finishedText, Serves}
-use Rattle.replay.proofs.Printing.{prints-none}
+use Rattle.serving.specs.declared.Served.{Served}
+use Rattle.replay.specs.Calls.{stateOf, foundText, foundState, fedStep, fedHeld, FeedContract, finishedText}
+use Rattle.record_lines.specs.Prints.{Prints}
+use Rattle.serving.specs.Serves.{Serves}
+use Rattle.record_lines.proofs.Printing.{prints-none}
 
 -- ---- what was found
 
@@ -49,34 +45,6 @@ module _ (edition : Edition) (engine : Record) (ring memory held line : List ℕ
   pub found-bad : (written : ℕ) (line′ : List ℕ) → found ≡ BadRecord → Prints (endingLine badRecord) line written line′
       → Found-serves (record { engine = engine; written = written }) ring memory line′
   found-bad written line′ e prints = rw e (record { engine-is = refl; ring-is = refl; memory-is = refl; prints = prints })
-
--- ---- a record
-
--- there is a byte for its client
-pub lies-some : (edition : Edition) (end room : ℕ) → (batchStart edition ≤ end) × (end ≤ room) → 5 ≤ room
-lies-some First end room lies = omega arith
-lies-some Second end room lies = omega arith
-
-module _ (edition : Edition) (engine : Record) (ring memory held line : List ℕ) (end : ℕ) (lies : (batchStart edition ≤ end) × (end ≤ length held)) where
-  abbrev begun : State
-  begun = mkState engine ring memory
-
-  abbrev Record-serves : Served → (ring′ memory′ line′ : List ℕ) → Type 0
-  Record-serves s ring′ memory′ line′ = Serves (recordLine edition (entryIn held end) begun) (recordAfter edition (entryIn held end) begun) line s ring′ memory′ line′
-
-  holds : (b good : Bool) → good ≡ scoreIn edition held end → good ≡ b → scoreHolds edition (entryIn held end) ≡ b
-  holds b good is e = sym (score-in edition held end lies) ∙ sym is ∙ e
-
-  -- its score is bad
-  pub record-bad : (good : Bool) (written : ℕ) (line′ : List ℕ) → good ≡ scoreIn edition held end → good ≡ false → Prints badScoreLine line written line′
-      → Record-serves (record { engine = engine; written = written }) ring memory line′
-  record-bad good written line′ is e prints = rw (holds false good is e) (record { engine-is = refl; ring-is = refl; memory-is = refl; prints = prints })
-
-  -- it is submitted
-  pub record-good : (good : Bool) (start : ℕ) (s : Served) (ring′ memory′ line′ : List ℕ) → good ≡ scoreIn edition held end → good ≡ true → start ≡ batchStart edition
-      → let entry : Entry = record { client = getD held 4 0; batch = take (end - start) (drop start held) } in
-      Serves (entryLine entry begun) (submitAndRun entry begun .after) line s ring′ memory′ line′ → Record-serves s ring′ memory′ line′
-  record-good good start s ring′ memory′ line′ is e at serves = rw (holds true good is e, submission-in edition held end lies, ← at) serves
 
 -- ---- feed
 

@@ -5,7 +5,6 @@ use mathlib.Core.Bool.{cond}
 use Prim.Native.Nat.{ℕ, _≤_}
 use lib.ListN.{length}
 use lib.Dec.{leb}
-use Rattle.word.specs.Splice.{spliced}
 use Rattle.claims.specs.Engine.{State, mkState}
 use Rattle.records.specs.declared.Edition.{Edition}
 use Rattle.records.specs.declared.Stage.the-variants.{Version}
@@ -17,7 +16,7 @@ use Rattle.records.specs.Reading.{entryIn, Ready, Takes, endingAt, nothingTaken
 use Rattle.lines.specs.Lines.{endingLine, recordLine, recordAfter, replayStart}
 use Rattle.replay.specs.declared.Replay.{Replay}
 use Rattle.replay.specs.declared.Fed.{Fed}
-use Rattle.replay.specs.declared.Served.{Served}
+use Rattle.record_lines.specs.Prints.{Prints}
 
 -- the engine of a replay, with the ring and memory that are lent with it
 abbrev pub stateOf : Replay → (ring memory : List ℕ) → State
@@ -25,11 +24,6 @@ stateOf r ring memory = mkState (r .engine) ring memory
 
 abbrev pub atStart : Edition → Replay
 atStart edition = record { edition = edition; engine = replayStart edition .engine; reader = record { stage = Version; held = 0 } }
-
--- a text at the start of a line's buffer; other bytes are as they were
-pub record Prints (text line : List ℕ) (written : ℕ) (line′ : List ℕ) : Type 0 where
-  pub size : written ≡ length text
-  pub bytes : line′ ≡ spliced 0 text line
 
 -- ---- what the reading found (crate records): what is printed of it, and the engine after it
 
@@ -72,12 +66,3 @@ pub record FeedContract (r : Replay) (held ring memory input line : List ℕ) (f
 -- what it prints: nothing into a line that may be too short
 abbrev pub finishedText : Replay → (line : List ℕ) → List ℕ
 finishedText r line = cond (leb 128 (length line)) (endingLine (endingAt (r .reader .stage) (r .reader .held))) []
-
--- ---- of a record, and of what was found
-
--- Internal: what the call that serves a record leaves
-pub record Serves (text : List ℕ) (next : State) (line : List ℕ) (s : Served) (ring′ memory′ line′ : List ℕ) : Type 0 where
-  pub engine-is : s .engine ≡ next .engine
-  pub ring-is : ring′ ≡ next .ring
-  pub memory-is : memory′ ≡ next .memory
-  pub prints : Prints text line (s .written) line′

@@ -13,7 +13,8 @@ use Rattle.lines.specs.Lines.{engineOpened, linesFrom, lines}
 use Rattle.lines.specs.Answered.{submitAndRunAll}
 use Rattle.replay.specs.declared.Replay.{Replay}
 use Rattle.replay.specs.declared.Fed.{Fed}
-use Rattle.replay.specs.Calls.{stateOf, atStart, Prints, FeedContract, finishedText}
+use Rattle.replay.specs.Calls.{stateOf, atStart, FeedContract, finishedText}
+use Rattle.record_lines.specs.Prints.{Prints}
 
 -- ---- where a replay stands
 

@@ -1,7 +1,6 @@
 // Replay files of either edition read from a descriptor and replayed, and their lines written to standard output. No contract can say
 // which bytes the system reads, or what it does with those that it is to write; that the memory is what some bytes make of it is proved,
 // and how many bytes were handed over to be written: as many as the lines of those bytes have.
-ghost use mathlib.Core.Path.{_≡_};
 ghost use Rattle.claims.specs.Engine.{State};
 ghost use Rattle.records.specs.declared.Edition.{Edition};
 ghost use Rattle.replay_pieces.specs.Reached.{Reached, Replayed};
@@ -85,7 +84,7 @@ pub struct Replaying {
     pub well: bool,
 }
 
-// Replays what a descriptor reads, to its end, in memory, which is to be 65,536 zero bytes. Shows the lines or not, by the slow engine
+// Replays what a descriptor reads, to its end, in memory, which is to be 65,536 bytes. Shows the lines or not, by the slow engine
 // or by the fast one. What failed is reported on standard error.
 pub fn replay_from(
     edition: Edition,
@@ -139,64 +138,4 @@ pub fn replay_argument(
     let came = replay_from(edition, fd, &path[..opened.length], memory, shows, slow);
     libc::close(fd);
     came
-}
-
-// ---- the programs
-
-fn is_slow(text: &[u8]) -> bool {
-    if text.len() != 6 {
-        return false;
-    }
-    (text[0] == b'-')
-        & (text[1] == b'-')
-        & (text[2] == b's')
-        & (text[3] == b'l')
-        & (text[4] == b'o')
-        & (text[5] == b'w')
-}
-
-// Whether the first argument asks for the slow engine. One that is missing or too long for the buffer counts as empty.
-fn asks_slow() -> bool {
-    let mut text = io::buffer();
-    let n = os::arg(1, &mut text);
-    is_slow(&text[..n])
-}
-
-// Replays standard input, or the file that an argument names.
-fn replay_one(
-    edition: Edition,
-    is_input: bool,
-    is_file: bool,
-    index: usize,
-    slow: bool,
-    usage: &[u8],
-) {
-    let mut memory = io::large_buffer();
-    if is_input {
-        replay_from(
-            edition,
-            libc::STDIN_FILENO,
-            b"standard input",
-            &mut memory,
-            true,
-            slow,
-        );
-        return;
-    }
-    if is_file {
-        replay_argument(edition, index, &mut memory, true, slow);
-        return;
-    }
-    io::write_all(libc::STDERR_FILENO, usage);
-}
-
-// Prints the lines of a replay file of an edition: the one that the program's argument names, or standard input. With --slow before it the
-// file is run by the slow engine, which prints the same lines. With other arguments `usage` is told on standard error.
-pub fn print_lines(edition: Edition, usage: &[u8]) {
-    let count = os::arg_count();
-    if asks_slow() {
-        replay_one(edition, count == 2, count == 3, 2, true, usage);
-        return;
-    }
-    replay_one(edition, count == 1, count == 2, 1, false, usage);
 }

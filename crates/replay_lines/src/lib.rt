@@ -6,7 +6,8 @@ use replay::Replay;
 // The longest line has room in so many bytes.
 pub const LINE: usize = 128;
 
-// Feeds what the lines have room for: the bytes used of the input, and those written of `out`, line after line.
+// Feeds what the lines have room for: the bytes used of the input, and those written of `out`, line after line. It stops where nothing is
+// used, which happens only where `held` is too short.
 pub fn feed_lines(
     replay: Replay,
     held: &mut [u8],
@@ -16,8 +17,7 @@ pub fn feed_lines(
     out: &mut [u8],
     slow: bool,
 ) -> Fed
-    ensures { λ r. ⌜ FeedLinesContract replay (now (held .entry)) (now (ring .entry)) (now (memory .entry)) (now (input .entry)) (now (out .entry))
-        r (now (held .exit)) (now (ring .exit)) (now (memory .exit)) (now (out .exit)) ⌝ }
+    ensures { λ r. ⌜ FeedLinesContract replay (now (held .entry)) (now (ring .entry)) (now (memory .entry)) (now (input .entry)) (now (out .entry)) r (now (held .exit)) (now (ring .exit)) (now (memory .exit)) (now (out .exit)) ⌝ }
 {
     let mut now = replay;
     let mut used = 0;
@@ -37,7 +37,6 @@ pub fn feed_lines(
         now = after;
         written += fed.written;
         used += taken;
-        // It happens only where `held` is too short.
         if taken == 0 {
             break;
         }

@@ -22,7 +22,8 @@ use Rattle.lines.specs.Answered.{submitAndRunAll}
 use Rattle.lines.proofs.Start.{started-state}
 use Rattle.replay.specs.declared.Replay.{Replay}
 use Rattle.replay.specs.declared.Fed.{Fed}
-use Rattle.replay.specs.Calls.{atStart, Prints, finishedText}
+use Rattle.record_lines.specs.Prints.{Prints}
+use Rattle.replay.specs.Calls.{atStart, finishedText}
 use Rattle.replay.specs.Chunking.{Stands}
 use Rattle.replay.proofs.Chunking.{chunking}
 use Rattle.replay_lines.specs.Gather.{FeedLinesContract}

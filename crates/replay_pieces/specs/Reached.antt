@@ -4,7 +4,7 @@ use mathlib.Core.Path.{_≡_}
 use mathlib.Core.Bool.{Bool, true, cond}
 use mathlib.Core.List.{List, _++_}
 use Prim.Native.Nat.{ℕ, _%_, _^_}
-use lib.ListN.{length, take}
+use lib.ListN.{length, take, replicate}
 use Rattle.claims.specs.Engine.{State}
 use Rattle.records.specs.declared.Edition.{Edition}
 use Rattle.records.specs.Records.{records}
@@ -12,7 +12,8 @@ use Rattle.editions.specs.Editions.{submissions}
 use Rattle.lines.specs.Lines.{engineOpened, linesFrom}
 use Rattle.lines.specs.Answered.{submitAndRunAll}
 use Rattle.replay.specs.declared.Replay.{Replay}
-use Rattle.replay.specs.Calls.{Prints, finishedText}
+use Rattle.record_lines.specs.Prints.{Prints}
+use Rattle.replay.specs.Calls.{finishedText}
 use Rattle.replay.specs.Chunking.{Stands}
 
 -- how many bytes of this text are handed over, if lines are shown; counted modulo 2 to the 64th
@@ -50,3 +51,8 @@ pub record Replayed (edition : Edition) (memory : List ℕ) (shows : Bool) (hand
   pub seen : List ℕ
   pub left : memory′ ≡ submitAndRunAll (submissions edition (records edition seen .entries)) (engineOpened edition ring memory) .memory
   pub lines : well ≡ true → handed ≡ handedOf shows (linesFrom edition (engineOpened edition ring memory) (records edition seen))
+
+-- the same of a program's own memory: 65,536 zero bytes at the start
+pub record ReplayedInZeros (edition : Edition) (shows : Bool) (handed : ℕ) (well : Bool) : Type 0 where
+  pub memory : List ℕ
+  pub replayed : Replayed edition (replicate 65536 0) shows handed well memory

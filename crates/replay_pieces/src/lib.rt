@@ -33,7 +33,7 @@ fn show(shows: bool, out: &[u8], n: usize) -> Printed
     }
 }
 
-// Feeds a piece of the file, whole.
+// Feeds a piece of the file, whole. It fails where nothing is used, which happens only where a buffer is too short.
 pub fn feed_piece(
     replay: Replay,
     held: &mut [u8],
@@ -45,9 +45,7 @@ pub fn feed_piece(
     slow: bool,
 ) -> Progress
     ensures { λ r. ⌜ ((engine : State) (seen text : List ℕ) → Stands engine seen text replay (now (held .entry)) (now (ring .entry)) (now (memory .entry))
-        → handed ≡ handedOf shows text
-        → PieceFed (replay .edition) engine seen text (now (piece .entry)) shows (r .replay) (r .handed) (r .well)
-        (now (held .exit)) (now (ring .exit)) (now (memory .exit))) ⌝ }
+        → handed ≡ handedOf shows text → PieceFed (replay .edition) engine seen text (now (piece .entry)) shows (r .replay) (r .handed) (r .well) (now (held .exit)) (now (ring .exit)) (now (memory .exit))) ⌝ }
 {
     let mut out = io::large_buffer();
     let mut now = replay;
@@ -63,7 +61,6 @@ pub fn feed_piece(
         let printed = show(shows, &out, fed.written);
         sum = std::num::wrapping_add_u64(sum, printed.size as u64);
         well = printed.well;
-        // It happens only where a buffer is too short.
         if count == 0 {
             well = false;
             break;

@@ -12,7 +12,8 @@ pub fn run_by(engine: Record, ring: &[u8], memory: &mut [u8], slow: bool) -> Ran
     ensures { λ r. ⌜ (r ≡ runResult engine (now (ring .entry)) (now (memory .entry)))
         × (now (memory .exit) ≡ runMemory engine (now (ring .entry)) (now (memory .entry))) ⌝ }
 {
-    let number = dequeue::run_refusal(engine, ring.len(), memory.len());
+    let found = record::check(engine);
+    let number = dequeue::run_refusal(engine, found, ring.len(), memory.len());
     if number != 0 {
         return Ran {
             outcome: Outcome::Refused(number),
@@ -20,7 +21,7 @@ pub fn run_by(engine: Record, ring: &[u8], memory: &mut [u8], slow: bool) -> Ran
         };
     }
     let slots = engine.slots;
-    let at = dequeue::oldest_slot(engine);
+    let at = dequeue::oldest_slot(engine, found.ready);
     let batch = record::batch_of(slots[at]);
     let bounds = dequeue::bounds_for(engine, batch.client);
     let verdict = walk::run_batch(

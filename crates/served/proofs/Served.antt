@@ -33,7 +33,7 @@ use Rattle.record_bytes.specs.RoundTrip.{Typed}
 use Rattle.record_bytes.proofs.RoundTrip.{back}
 use Rattle.record_bytes.proofs.Fitting.{fits}
 use Rattle.calls.specs.Calls.{setUpNumber, SetsUp, Told, Opens, Submits, Done as Silent, Begins, ToldTwo, HandsOver, Cancels, Closes, Reports, Runs}
-use Rattle.calls.proofs.Telling.{unless-zero}
+use Rattle.calls.proofs.Results.{unless-zero}
 use Rattle.served.specs.Served.{Lent, ServesOpen, ServesSubmit, ServesRun, ServesPending, ServesBegin, ofPiece, ServesPiece, ServesCancel, ServesClose, Serves, ServesAll, none, first, Plain, AllPlain, Promise}
 use Rattle.served.proofs.Typed.{sized, fresh-typed, open-typed, submit-typed, begin-typed, piece-typed, cancel-typed, close-typed, run-typed}
 

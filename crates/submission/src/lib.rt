@@ -5,11 +5,13 @@ ghost use lib.ListN.{length};
 ghost use Rattle.record.specs.Clients.{clientAt};
 ghost use Rattle.record.specs.Queue.{writeOffset};
 ghost use Rattle.record.specs.Staged.{missingBytes};
+ghost use Rattle.record.specs.Checking.{checkedOf};
 ghost use Rattle.queue.specs.Refusals.{firstRefusal, pieceTable, cancelTable};
 ghost use Rattle.queue.specs.Calls.{newBatch, withBatch, submitResult, submitRing, withStaged, withReceived, beginResult, pieceResult, pieceRing, cancelResult};
 use queue::Answer;
 use queue::Reply;
 use record::Batch;
+use record::Checked;
 use record::Record;
 use record::Staged;
 
@@ -19,7 +21,8 @@ pub fn submit(engine: Record, ring: &mut [u8], client: u32, batch: &[u8]) -> Rep
         × (now (ring .exit) ≡ submitRing engine (now (ring .entry)) client (now (batch .entry))) ⌝ }
 {
     let size = batch.len();
-    let refusal = enqueue::submit_refusal(engine, ring.len(), client, size);
+    let found = record::check(engine);
+    let refusal = enqueue::submit_refusal(engine, found, ring.len(), client, size);
     if refusal != 0 {
         return Reply {
             answer: Answer::Refused(refusal),
@@ -27,7 +30,7 @@ pub fn submit(engine: Record, ring: &mut [u8], client: u32, batch: &[u8]) -> Rep
         };
     }
     let next = engine.next;
-    let offset = enqueue::write_offset(engine);
+    let offset = enqueue::write_offset(engine, found.bytes);
     ring::copy_in(ring, offset, batch);
     let added = Batch {
         client: client,
@@ -36,7 +39,7 @@ pub fn submit(engine: Record, ring: &mut [u8], client: u32, batch: &[u8]) -> Rep
         length: size,
     };
     let slots = engine.slots;
-    let at = enqueue::lowest_slot(slots);
+    let at = record::lowest_free(slots);
     let after = enqueue::with_batch(engine, at, added);
     Reply {
         answer: Answer::Accepted(next),
@@ -57,7 +60,8 @@ fn with_staged(engine: Record, staged: Staged) -> Record
 pub fn begin(engine: Record, ring: &[u8], client: u32, total: usize) -> Reply
     ensures { λ r. ⌜ r ≡ beginResult engine (length (now (ring .entry))) client total ⌝ }
 {
-    let number = enqueue::submit_refusal(engine, ring.len(), client, total);
+    let found = record::check(engine);
+    let number = enqueue::submit_refusal(engine, found, ring.len(), client, total);
     if number != 0 {
         return Reply {
             answer: Answer::Refused(number),
@@ -91,7 +95,8 @@ fn missing_bytes(staged: Staged) -> usize
     }
 }
 
-fn piece_refusal(engine: Record, given: usize, client: u32, size: usize) -> u32
+fn piece_refusal(engine: Record, found: Checked, given: usize, client: u32, size: usize) -> u32
+    requires { ⌜ found ≡ checkedOf engine ⌝ }
     ensures { λ r. ⌜ r ≡ firstRefusal (pieceTable engine given client size) ⌝ }
 {
     let setup = engine.setup;
@@ -101,7 +106,7 @@ fn piece_refusal(engine: Record, given: usize, client: u32, size: usize) -> u32
     let no14 = queue::first_refusal(!own | (left < size), 14, 0);
     let no5 = queue::first_refusal(!record::is_open(engine, client), 5, no14);
     let no10 = queue::first_refusal(!(given == setup.ring), 10, no5);
-    queue::first_refusal(!record::is_valid(engine), 11, no10)
+    queue::first_refusal(!found.valid, 11, no10)
 }
 
 // The record with the staged batch ready at its offset.
@@ -134,7 +139,8 @@ pub fn piece(engine: Record, ring: &mut [u8], client: u32, piece: &[u8]) -> Repl
         × (now (ring .exit) ≡ pieceRing engine (now (ring .entry)) client (now (piece .entry))) ⌝ }
 {
     let size = piece.len();
-    let number = piece_refusal(engine, ring.len(), client, size);
+    let found = record::check(engine);
+    let number = piece_refusal(engine, found, ring.len(), client, size);
     if number != 0 {
         return Reply {
             answer: Answer::Refused(number),
@@ -143,7 +149,7 @@ pub fn piece(engine: Record, ring: &mut [u8], client: u32, piece: &[u8]) -> Repl
     }
     let setup = engine.setup;
     let staged = engine.staged;
-    let offset = enqueue::write_offset(engine);
+    let offset = enqueue::write_offset(engine, found.bytes);
     let at = record::wrap(setup.ring, offset + staged.received);
     ring::copy_in(ring, at, piece);
     let received = staged.received + size;

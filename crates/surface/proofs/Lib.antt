@@ -15,7 +15,3 @@ pub mod Outside
 pub mod Window
 -- a pixel stored, drawn, and loaded again
 pub mod Loaded
--- rows that meet, and surfaces that do not
-pub mod Meet
--- two columns on one page
-pub mod Columns

@@ -3,4 +3,3 @@ pub mod Surface
 pub mod Memory
 pub mod Rows
 pub mod Drawn
-pub mod Meet

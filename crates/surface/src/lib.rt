@@ -6,7 +6,6 @@ ghost use Rattle.word.specs.Word.{byteOf};
 ghost use Rattle.pixel.specs.Formats.{bytesPerPixel};
 ghost use Rattle.range.specs.Range.{containedIn, overlaps};
 ghost use Rattle.surface.specs.Surface.{rowLength, rowStart, pixelStart, span};
-ghost use Rattle.surface.specs.Meet.{rowsOverlap, surfacesOverlap, StartsNoLater};
 ghost use Rattle.surface.specs.Memory.{mapi, littleEndian, pixelAt};
 ghost use Rattle.surface.specs.Drawn.{loadPixel, storePixel};
 use pixel::Colour;
@@ -70,51 +69,6 @@ impl Surface {
         ensures { λ r. ⌜ r ≡ overlaps (span self) (span other) ⌝ }
     {
         self.span().shares(other.span())
-    }
-
-    // Whether a row of this surface and a row of a later one share a byte. The later one has the same stride, so that its further
-    // rows lie as its first does, only further down: that one and a single row of this surface tell.
-    fn meets_later(self, later: Surface) -> bool
-        requires { ⌜ StartsNoLater self later ⌝ }
-        ensures { λ r. ⌜ r ≡ rowsOverlap self later ⌝ }
-    {
-        let start = self.address as usize;
-        let end = start + self.row_length();
-        let from = later.address as usize;
-        let to = from + later.row_length();
-        let stride = self.stride as usize;
-        // the first row that ends past the later one's first byte; 0 where all rows lie at one place
-        let y = if from < end {
-            0
-        } else if stride == 0 {
-            0
-        } else {
-            (from - end) / stride + 1
-        };
-        let down = y * stride;
-        let row = Range {
-            start: start + down,
-            end: end + down,
-        };
-        (y < self.height as usize)
-            & (0 < later.height)
-            & row.shares(Range {
-                start: from,
-                end: to,
-            })
-    }
-
-    // Whether two surfaces meet: with equal strides some byte lies in rows of both, else in both spans.
-    pub fn meets(self, other: Surface) -> bool
-        ensures { λ r. ⌜ r ≡ surfacesOverlap self other ⌝ }
-    {
-        if self.stride != other.stride {
-            return self.shares(other);
-        }
-        if self.address <= other.address {
-            return self.meets_later(other);
-        }
-        other.meets_later(self)
     }
 }
 

@@ -15,7 +15,7 @@ use Rattle.pixel.specs.Colours.{packed}
 use Rattle.pixel.proofs.Stored.{Bytes}
 use Rattle.pixel.proofs.Channels.{narrowed-byte}
 use Rattle.pixel.proofs.Kept.{word-colour}
-use Rattle.pixel.proofs.Products.{scaled-byte}
+use Rattle.division.proofs.Products.{scaled-byte}
 use Rattle.gradient.specs.declared.Steps.{Steps}
 use Rattle.register.specs.declared.bank.Bank.{Bank}
 use Rattle.rules.specs.declared.task.Bounds.{Bounds}

@@ -8,7 +8,7 @@ use Rattle.pixel.specs.declared.colour.Colour.{Colour}
 use Rattle.pixel.specs.declared.format.Format.the-variants.{Argb8888}
 use Rattle.pixel.specs.Formats.{layoutOf}
 use Rattle.pixel.specs.Colours.{packed}
-use Rattle.pixel.specs.Alpha.{div255}
+use Rattle.division.specs.Division.{div255}
 use Rattle.encoder.specs.declared.fields.SurfaceFields.{SurfaceFields}
 use Rattle.encoder.specs.declared.fields.Fields.{Fields}
 use Rattle.encoder.specs.Solid.{resetAlpha, solidSource}

@@ -3,7 +3,7 @@
 ghost use mathlib.Core.Path.{_≡_};
 ghost use Prim.Native.Nat.{_*_};
 ghost use lib.ListN.{length};
-ghost use Rattle.pixel.specs.Alpha.{div255};
+ghost use Rattle.division.specs.Division.{div255};
 ghost use Rattle.tint.specs.Tint.{tintColour, tintFields, numberOf, answerOf, bufferAfter};
 use encoder::AlphaFields;
 use encoder::BlendingFields;
@@ -45,7 +45,7 @@ impl Answer {
 fn channel_of(channel: u8, coverage: u8) -> u8
     ensures { λ r. ⌜ r ≡ div255 (channel * coverage) ⌝ }
 {
-    pixel::blend::near((channel as u32) * (coverage as u32)) as u8
+    division::near((channel as u32) * (coverage as u32)) as u8
 }
 
 // The colour that is laid over the rectangle.

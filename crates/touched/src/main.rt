@@ -6,7 +6,7 @@ use ppm::Named;
 use ppm::Number;
 use ppm::Pixel;
 
-// The first byte of the pixel that the arguments name, of a page that begins at an address. What is wrong with them is told.
+// The first byte of the pixel that the arguments name, of a page that begins at an address. What is wrong with them is reported.
 fn pixel(address: u32) -> Pixel {
     let mut text = io::buffer();
     let n = os::arg(3, &mut text);

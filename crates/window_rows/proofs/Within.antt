@@ -12,7 +12,7 @@ use borrow.Rule.Slice.PartMut.{midOf, putMid}
 use Rattle.word.proofs.Tests.{and-true}
 use Rattle.range.specs.declared.Range.{Range}
 use Rattle.range.specs.Range.{containedIn}
-use Rattle.pixel.specs.Alpha.{div255}
+use Rattle.division.specs.Division.{div255}
 use Rattle.pixel.specs.Blending.{factorValue, blendedChannel, blended}
 use Rattle.pixel.specs.declared.blend.AlphaMode.{AlphaMode}
 use Rattle.pixel.specs.declared.blend.AlphaMode.the-variants.{Pixel, Global, Mixed}

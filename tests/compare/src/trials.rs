@@ -82,30 +82,30 @@ impl Trials {
 
     /// Encodes a task by both, and answers its bytes if it is not refused.
     pub fn encode(&mut self, fields: &Fields, buffer: &[u8]) -> Agreed<Option<Vec<u8>>> {
-        let told = writer::written(fields, buffer.len());
+        let expected = writer::written(fields, buffer.len());
         let found = linked::encode(fields, buffer, self.guards);
-        self.encoded("encode", format!("{fields:?}"), told, found, buffer)
+        self.encoded("encode", format!("{fields:?}"), expected, found, buffer)
     }
 
     /// The same in the second form, with steps.
     pub fn encode_shaded(&mut self, fields: &Fields, steps: &Steps, buffer: &[u8]) -> Agreed<Option<Vec<u8>>> {
-        let told = writer::shaded_written(fields, steps, buffer.len());
+        let expected = writer::shaded_written(fields, steps, buffer.len());
         let found = linked::encode_shaded(fields, steps, buffer, self.guards);
-        self.encoded("encode shaded", format!("{fields:?} {steps:?}"), told, found, buffer)
+        self.encoded("encode shaded", format!("{fields:?} {steps:?}"), expected, found, buffer)
     }
 
-    /// What was told and what was found of a task that both encoded in a buffer.
+    /// What was expected and what was found of a task that both encoded in a buffer.
     fn encoded(
         &mut self,
         what: &str,
         of: String,
-        told: Result<Vec<u8>, u32>,
+        expected: Result<Vec<u8>, u32>,
         found: Option<(u32, Vec<u8>)>,
         buffer: &[u8],
     ) -> Agreed<Option<Vec<u8>>> {
-        let number = *told.as_ref().err().unwrap_or(&0);
+        let number = *expected.as_ref().err().unwrap_or(&0);
         let mut after = buffer.to_vec();
-        if let Ok(bytes) = &told {
+        if let Ok(bytes) = &expected {
             after[..bytes.len()].copy_from_slice(bytes);
         }
         if found.as_ref() != Some(&(number, after)) {
@@ -113,7 +113,7 @@ impl Trials {
             return Err(format!("{what} {of} in {} bytes: {number} expected, {found}, or other bytes", buffer.len()));
         }
         self.counted(what, number, 0);
-        Ok(told.ok())
+        Ok(expected.ok())
     }
 
     /// Encodes a task and draws it, on buffers that stay as they are.

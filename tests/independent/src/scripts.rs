@@ -1,4 +1,4 @@
-//! Random lists of calls, with all that they are played on. On the way a book is told every call, but draws nothing: it says which
+//! Random lists of calls, with all that they are played on. On the way a book is given every call, but draws nothing: it says which
 //! windows are open, so that batches fit them, and which clients can be closed.
 use crate::engine::{Book, Numbers};
 use crate::made_batches;

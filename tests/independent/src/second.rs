@@ -102,7 +102,7 @@ mod tests {
         for bits in [0x3F80_0001, 0x7F80_0000, 0x7FC0_0000, 0x8000_0001, 0xBF00_0000, 0xFF80_0000, u32::MAX] {
             assert!(!is_score(bits), "{bits:08X}");
         }
-        // A bad score takes no ticket, and is told before submit could refuse.
+        // A bad score takes no ticket, and is reported before submit could refuse.
         let worked = bytes(&WORKED);
         let good = record(0, HALF, &worked);
         assert_eq!(

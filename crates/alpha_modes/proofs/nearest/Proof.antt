@@ -1,4 +1,4 @@
-use Rattle.pixel.specs.Alpha.{div255}
+use Rattle.division.specs.Division.{div255}
 use borrow.Author.Needs.{needs}
 use Rattle.alpha_modes.proofs.nearest.Statement.{statement}
 use Rattle.alpha_modes.proofs.nearest.Tie as tie

@@ -2,55 +2,17 @@ use borrow.Author.Needs.{needs}
 use Rattle.answers.proofs.answer_words.Statement.{statement}
 use Rattle.answers.proofs.answer_words.Tie as tie
 
-enum-known-answer : tie.Need-enum-known-answer
-enum-known-answer c = search needs
+piece-words-requires : tie.Need-piece-words-requires
+piece-words-requires c κs = search needs
 
-enum-told : tie.Need-enum-told
-enum-told c = search needs
+array-read-t6 : tie.Need-array-read-t6
+array-read-t6 c = search needs
 
-enum-known-answer-2 : tie.Need-enum-known-answer-2
-enum-known-answer-2 c = search needs
-
-enum-known-answer-3 : tie.Need-enum-known-answer-3
-enum-known-answer-3 c = search needs
-
-enum-known-answer-4 : tie.Need-enum-known-answer-4
-enum-known-answer-4 c = search needs
-
-enum-known-answer-5 : tie.Need-enum-known-answer-5
-enum-known-answer-5 c = search needs
+array-read-t9 : tie.Need-array-read-t9
+array-read-t9 c = search needs
 
 returns : tie.Need-returns
-returns c = rw (c .before .answer .given .1)
-
-returns-2 : tie.Need-returns-2
-returns-2 c = rw (c .enum-told .given .1)
-
-returns-3 : tie.Need-returns-3
-returns-3 c = rw (c .before .answer2 .given .1)
-
-returns-4 : tie.Need-returns-4
-returns-4 c = rw (c .before .answer3 .given .1)
-
-returns-5 : tie.Need-returns-5
-returns-5 c = rw (c .before .answer4 .given .1)
-
-returns-6 : tie.Need-returns-6
-returns-6 c = rw (c .before .answer5 .given .1)
+returns c = rw (c .piece-words .ensures)
 
 pub answer-words-spec : {M : Type 1} → statement M
-answer-words-spec =
-    tie.close
-    (tie.spec
-    enum-known-answer
-    enum-told
-    enum-known-answer-2
-    enum-known-answer-3
-    enum-known-answer-4
-    enum-known-answer-5
-    returns
-    returns-2
-    returns-3
-    returns-4
-    returns-5
-    returns-6)
+answer-words-spec = tie.close (tie.spec piece-words-requires array-read-t6 array-read-t9 returns)

@@ -1,4 +1,4 @@
-use Rattle.calls.proofs.Telling.{begin-told}
+use Rattle.calls.proofs.Results.{begin-told}
 use borrow.Author.Needs.{needs}
 use Rattle.batch_calls.proofs.begin.Statement.{statement}
 use Rattle.batch_calls.proofs.begin.Tie as tie
@@ -9,14 +9,14 @@ decode-requires c κs = search needs
 begin-requires : tie.Need-begin-requires
 begin-requires c κs = search needs
 
-tell-requires : tie.Need-tell-requires
-tell-requires c κs = search needs
+write-value-requires : tie.Need-write-value-requires
+write-value-requires c κs = search needs
 
 same-length : tie.Need-same-length
 same-length c = search needs
 
 returns : tie.Need-returns
-returns c = begin-told _ _ (c .before .before .before .before .before .before .decode .ensures) _ _ _ _ _ _ _ (c .before .before .before .before .before .begin .ensures) (c .before .before .tell .ensures)
+returns c = begin-told _ _ (c .before .before .before .before .before .before .decode .ensures) _ _ _ _ _ _ _ (c .before .before .before .before .before .begin .ensures) (c .before .before .write-value .ensures)
 
 pub begin-spec : {M : Type 1} → statement M
-begin-spec = tie.close (tie.spec decode-requires begin-requires tell-requires same-length returns)
+begin-spec = tie.close (tie.spec decode-requires begin-requires write-value-requires same-length returns)

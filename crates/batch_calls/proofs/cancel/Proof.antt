@@ -1,4 +1,4 @@
-use Rattle.calls.proofs.Telling.{cancel-told}
+use Rattle.calls.proofs.Results.{cancel-told}
 use borrow.Author.Needs.{needs}
 use Rattle.batch_calls.proofs.cancel.Statement.{statement}
 use Rattle.batch_calls.proofs.cancel.Tie as tie
@@ -9,15 +9,15 @@ decode-requires c κs = search needs
 cancel-requires : tie.Need-cancel-requires
 cancel-requires c κs = search needs
 
-tell-requires : tie.Need-tell-requires
-tell-requires c κs = search needs
+write-value-requires : tie.Need-write-value-requires
+write-value-requires c κs = search needs
 
 same-length : tie.Need-same-length
 same-length c = search needs
 
 returns : tie.Need-returns
-returns c = cancel-told _ _ (c .before .before .before .before .before .before .decode .ensures) _ _ _ _ _ (c .before .before .before .before .before .cancel .ensures) (c .before .before .tell .ensures)
+returns c = cancel-told _ _ (c .before .before .before .before .before .before .decode .ensures) _ _ _ _ _ (c .before .before .before .before .before .cancel .ensures) (c .before .before .write-value .ensures)
 
 pub cancel-spec : {M : Type 1} → statement M
 cancel-spec =
-    tie.close (tie.spec decode-requires cancel-requires tell-requires same-length returns)
+    tie.close (tie.spec decode-requires cancel-requires write-value-requires same-length returns)

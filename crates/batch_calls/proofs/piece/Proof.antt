@@ -1,4 +1,4 @@
-use Rattle.calls.proofs.Telling.{piece-told}
+use Rattle.calls.proofs.Results.{piece-told}
 use borrow.Author.Needs.{needs}
 use Rattle.batch_calls.proofs.piece.Statement.{statement}
 use Rattle.batch_calls.proofs.piece.Tie as tie
@@ -9,8 +9,8 @@ decode-requires c κs = search needs
 piece-requires : tie.Need-piece-requires
 piece-requires c κs = search needs
 
-tell-two-requires : tie.Need-tell-two-requires
-tell-two-requires c κs = search needs
+write-progress-requires : tie.Need-write-progress-requires
+write-progress-requires c κs = search needs
 
 same-length : tie.Need-same-length
 same-length c = search needs
@@ -19,9 +19,9 @@ same-length-2 : tie.Need-same-length-2
 same-length-2 c = search needs
 
 returns : tie.Need-returns
-returns c = piece-told _ _ (c .before .before .before .before .before .before .before .before .before .decode .ensures) _ _ _ _ _ _ _ _ (c .before .before .before .before .before .before .before .piece .ensures .0) (c .before .before .before .before .before .before .before .piece .ensures .1) (c .before .before .tell-two .ensures)
+returns c = piece-told _ _ (c .before .before .before .before .before .before .before .before .before .decode .ensures) _ _ _ _ _ _ _ _ (c .before .before .before .before .before .before .before .piece .ensures .0) (c .before .before .before .before .before .before .before .piece .ensures .1) (c .before .before .write-progress .ensures)
 
 pub piece-spec : {M : Type 1} → statement M
 piece-spec =
     tie.close
-    (tie.spec decode-requires piece-requires tell-two-requires same-length same-length-2 returns)
+    (tie.spec decode-requires piece-requires write-progress-requires same-length same-length-2 returns)

@@ -9,8 +9,8 @@ decode-requires c κs = search needs
 run-requires : tie.Need-run-requires
 run-requires c κs = search needs
 
-report-requires : tie.Need-report-requires
-report-requires c κs = ran-small _ _ _ _ (c .before .before .before .before .run .ensures .0)
+write-completion-requires : tie.Need-write-completion-requires
+write-completion-requires c κs = ran-small _ _ _ _ (c .before .before .before .before .run .ensures .0)
 
 same-length : tie.Need-same-length
 same-length c = search needs
@@ -19,9 +19,9 @@ same-length-2 : tie.Need-same-length-2
 same-length-2 c = search needs
 
 returns : tie.Need-returns
-returns c = run-told _ _ _ _ _ _ _ _ _ (c .before .before .before .before .before .before .before .before .before .decode .ensures) (c .before .before .before .before .before .before .before .run .ensures .0) (c .before .before .before .before .before .before .before .run .ensures .1) (c .before .before .report .ensures)
+returns c = run-told _ _ _ _ _ _ _ _ _ (c .before .before .before .before .before .before .before .before .before .decode .ensures) (c .before .before .before .before .before .before .before .run .ensures .0) (c .before .before .before .before .before .before .before .run .ensures .1) (c .before .before .write-completion .ensures)
 
 pub run-spec : {M : Type 1} → statement M
 run-spec =
     tie.close
-    (tie.spec decode-requires run-requires report-requires same-length same-length-2 returns)
+    (tie.spec decode-requires run-requires write-completion-requires same-length same-length-2 returns)

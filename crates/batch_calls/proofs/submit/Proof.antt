@@ -1,4 +1,4 @@
-use Rattle.calls.proofs.Telling.{submit-told}
+use Rattle.calls.proofs.Results.{submit-told}
 use borrow.Author.Needs.{needs}
 use Rattle.batch_calls.proofs.submit.Statement.{statement}
 use Rattle.batch_calls.proofs.submit.Tie as tie
@@ -9,8 +9,8 @@ decode-requires c κs = search needs
 submit-requires : tie.Need-submit-requires
 submit-requires c κs = search needs
 
-tell-requires : tie.Need-tell-requires
-tell-requires c κs = search needs
+write-value-requires : tie.Need-write-value-requires
+write-value-requires c κs = search needs
 
 same-length : tie.Need-same-length
 same-length c = search needs
@@ -19,9 +19,9 @@ same-length-2 : tie.Need-same-length-2
 same-length-2 c = search needs
 
 returns : tie.Need-returns
-returns c = submit-told _ _ (c .before .before .before .before .before .before .before .before .before .decode .ensures) _ _ _ _ _ _ _ _ (c .before .before .before .before .before .before .before .submit .ensures .0) (c .before .before .before .before .before .before .before .submit .ensures .1) (c .before .before .tell .ensures)
+returns c = submit-told _ _ (c .before .before .before .before .before .before .before .before .before .decode .ensures) _ _ _ _ _ _ _ _ (c .before .before .before .before .before .before .before .submit .ensures .0) (c .before .before .before .before .before .before .before .submit .ensures .1) (c .before .before .write-value .ensures)
 
 pub submit-spec : {M : Type 1} → statement M
 submit-spec =
     tie.close
-    (tie.spec decode-requires submit-requires tell-requires same-length same-length-2 returns)
+    (tie.spec decode-requires submit-requires write-value-requires same-length same-length-2 returns)

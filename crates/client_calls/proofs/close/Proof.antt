@@ -1,4 +1,4 @@
-use Rattle.calls.proofs.Telling.{close-told}
+use Rattle.calls.proofs.Results.{close-told}
 use borrow.Author.Needs.{needs}
 use Rattle.client_calls.proofs.close.Statement.{statement}
 use Rattle.client_calls.proofs.close.Tie as tie
@@ -9,8 +9,8 @@ decode-requires c κs = search needs
 close-requires : tie.Need-close-requires
 close-requires c κs = search needs
 
-tell-requires : tie.Need-tell-requires
-tell-requires c κs = search needs
+write-value-requires : tie.Need-write-value-requires
+write-value-requires c κs = search needs
 
 same-length : tie.Need-same-length
 same-length c = search needs
@@ -19,8 +19,8 @@ same-length-2 : tie.Need-same-length-2
 same-length-2 c = search needs
 
 returns : tie.Need-returns
-returns c = close-told _ _ (c .before .before .before .before .before .before .before .before .before .decode .ensures) _ _ _ _ _ _ _ (c .before .before .before .before .before .before .before .close .ensures .0) (c .before .before .before .before .before .before .before .close .ensures .1) (c .before .before .tell .ensures)
+returns c = close-told _ _ (c .before .before .before .before .before .before .before .before .before .decode .ensures) _ _ _ _ _ _ _ (c .before .before .before .before .before .before .before .close .ensures .0) (c .before .before .before .before .before .before .before .close .ensures .1) (c .before .before .write-value .ensures)
 
 pub close-spec : {M : Type 1} → statement M
 close-spec =
-    tie.close (tie.spec decode-requires close-requires tell-requires same-length same-length-2 returns)
+    tie.close (tie.spec decode-requires close-requires write-value-requires same-length same-length-2 returns)

@@ -1,4 +1,4 @@
-use Rattle.calls.proofs.Telling.{open-told}
+use Rattle.calls.proofs.Results.{open-told}
 use borrow.Author.Needs.{needs}
 use Rattle.client_calls.proofs.open.Statement.{statement}
 use Rattle.client_calls.proofs.open.Tie as tie
@@ -9,14 +9,14 @@ decode-requires c κs = search needs
 open-requires : tie.Need-open-requires
 open-requires c κs = search needs
 
-tell-requires : tie.Need-tell-requires
-tell-requires c κs = search needs
+write-value-requires : tie.Need-write-value-requires
+write-value-requires c κs = search needs
 
 same-length : tie.Need-same-length
 same-length c = search needs
 
 returns : tie.Need-returns
-returns c = open-told _ _ (c .before .before .before .before .before .before .decode .ensures) _ _ _ _ _ (c .before .before .before .before .before .open .ensures) (c .before .before .tell .ensures)
+returns c = open-told _ _ (c .before .before .before .before .before .before .decode .ensures) _ _ _ _ _ (c .before .before .before .before .before .open .ensures) (c .before .before .write-value .ensures)
 
 pub open-spec : {M : Type 1} → statement M
-open-spec = tie.close (tie.spec decode-requires open-requires tell-requires same-length returns)
+open-spec = tie.close (tie.spec decode-requires open-requires write-value-requires same-length returns)

@@ -1,4 +1,4 @@
-use Rattle.calls.proofs.Telling.{pending-told}
+use Rattle.calls.proofs.Results.{pending-told}
 use borrow.Author.Needs.{needs}
 use Rattle.client_calls.proofs.pending.Statement.{statement}
 use Rattle.client_calls.proofs.pending.Tie as tie

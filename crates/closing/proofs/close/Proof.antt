@@ -1,13 +1,13 @@
-use mathlib.Core.Path.{_≡_, sym, ap, _∙_}
+use mathlib.Core.Path.{sym, _∙_}
 use lib.ListN.{length}
 use native.Mathlib.Omega.{arith}
 use denote.Ref.{now}
-use Prim.Native.Nat.{ℕ, _≤_}
-use Rattle.range.specs.declared.Range.{Range}
+use borrow.Rule.Slice.PartMut.{mid-len}
+use Prim.Native.Nat.{_≤_}
 use Rattle.queue.proofs.Room.{client-small}
 use Rattle.queue.proofs.Refusals.{CloseAllowed, close-allowed}
 use Rattle.queue.proofs.Calls.{close-refused, close-done}
-use Rattle.engine.proofs.Zeros.{close-left, close-made, window-inside}
+use Rattle.engine.proofs.Zeros.{zeros-all, close-left, close-made, window-inside}
 use borrow.Author.Needs.{needs}
 use Rattle.closing.proofs.close.Statement.{statement}
 use Rattle.closing.proofs.close.Tie as tie
@@ -35,6 +35,9 @@ window-of-requires c κs =
     let a = c .before .before .before .before .args in
     let o = allowed (c .before) in
     client-small (a .engine) (o .ok) (a .client) (o .owner)
+
+sub-size : tie.Need-sub-size
+sub-size c = inside c .0
 
 sub-clear : tie.Need-sub-clear
 sub-clear c = inside c .0
@@ -66,7 +69,8 @@ returns-2 c =
     let f = c .before .before .before .clear in
     let z = sym (r .ensures) ∙ e .if1 .left in (
       close-done (a .engine) (length (now (a .memory))) (a .client) (r .result) (r .ensures) (e .if1 .left) (c .without-client .result) (c .without-client .ensures),
-      close-made (a .engine) (now (a .memory)) (a .client) z (w .window-of .result) (w .window-of .ensures .0) (inside w .1) (f .last .0) (f .ensures),
+      close-made (a .engine) (now (a .memory)) (a .client) z (w .window-of .result) (w .window-of .ensures .0) (f .last .0)
+          (zeros-all _ (f .last .0) _ (f .kept .0 ∙ mid-len (w .window-of .result .start) (w .window-of .result .end) (now (a .memory)) (inside w .1)) (f .ensures)),
     )
 
 pub close-spec : {M : Type 1} → statement M
@@ -76,6 +80,7 @@ close-spec =
     close-refusal-requires
     returns
     window-of-requires
+    sub-size
     sub-clear
     part-clear-start
     part-clear-end

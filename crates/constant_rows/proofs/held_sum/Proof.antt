@@ -1,4 +1,4 @@
-use Rattle.pixel.specs.Alpha.{div255}
+use Rattle.division.specs.Division.{div255}
 use Rattle.pixel.specs.Blending.{blendedChannel}
 use borrow.Author.Needs.{needs}
 use Rattle.constant_rows.proofs.held_sum.Statement.{statement}

@@ -1,10 +1,23 @@
-use Rattle.queue.specs.Refusals.{firstRefusal}
+use mathlib.Core.Path.{_≡_, sym, _∙_}
+use mathlib.Core.Bool.{true}
 use borrow.Author.Needs.{needs}
+use borrow.Author.Tests.{not-true, not-false}
+use Rattle.record.specs.Rules.{valid}
+use Rattle.record.proofs.Checking.{checked-valid, checked-ready}
+use Rattle.queue.specs.Refusals.{firstRefusal}
+use Rattle.queue.proofs.Refusals.{eleven}
 use Rattle.dequeue.proofs.run_refusal.Statement.{statement}
 use Rattle.dequeue.proofs.run_refusal.Tie as tie
 
-ready-slots-requires : tie.Need-ready-slots-requires
-ready-slots-requires c κs = search needs
+-- the test of the record
+tested : (c : tie.Start) → c .args .found .valid ≡ valid (c .args .engine)
+tested c = checked-valid (c .args .engine) (c .args .found) (c .pre)
+
+right : (c : tie.Else1) → valid (c .before .before .args .engine) ≡ true
+right c = sym (tested (c .before .before)) ∙ not-false _ (c .if1 .left)
+
+returns : tie.Need-returns
+returns c = eleven _ (valid (c .before .before .args .engine)) (sym (tested (c .before .before)) ∙ not-true _ (c .if1 .taken))
 
 first-refusal-requires : tie.Need-first-refusal-requires
 first-refusal-requires c κs = search needs
@@ -12,23 +25,19 @@ first-refusal-requires c κs = search needs
 first-refusal-requires-2 : tie.Need-first-refusal-requires-2
 first-refusal-requires-2 c κs = search needs
 
-is-valid-requires : tie.Need-is-valid-requires
-is-valid-requires c κs = search needs
-
-first-refusal-requires-3 : tie.Need-first-refusal-requires-3
-first-refusal-requires-3 c κs = search needs
-
-returns : tie.Need-returns
+returns-2 : tie.Need-returns-2
 unfolding firstRefusal
-returns c = rw (c .first-refusal3 .ensures, c .before .is-valid .ensures, c .before .before .first-refusal2 .ensures, c .before .before .before .first-refusal .ensures, c .before .before .before .before .ready-slots .ensures .0)
+returns-2 c =
+    let nine = c .before in
+    let e = nine .before .before .before .before .before in
+    let st = e .before .before in
+    rw (right e, c .first-refusal2 .ensures, nine .first-refusal .ensures, checked-ready (st .args .engine) (st .args .found) (st .pre) (right e))
 
 pub run-refusal-spec : {M : Type 1} → statement M
 run-refusal-spec =
     tie.close
     (tie.spec
-    ready-slots-requires
+    returns
     first-refusal-requires
     first-refusal-requires-2
-    is-valid-requires
-    first-refusal-requires-3
-    returns)
+    returns-2)

@@ -1,6 +1,5 @@
 use borrow.Author.Tests.{eq-eqb, ne-eqb}
 use native.Mathlib.Omega.{arith}
-use borrow.Author.Needs.{needs}
 use Rattle.enqueue.proofs.staged_slots.Statement.{statement}
 use Rattle.enqueue.proofs.staged_slots.Tie as tie
 

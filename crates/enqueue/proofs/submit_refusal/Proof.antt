@@ -2,26 +2,34 @@ use mathlib.Core.Path.{_≡_, sym, _∙_}
 use mathlib.Core.Bool.{true}
 use borrow.Author.Tests.{not-true, not-false}
 use Rattle.record.specs.Rules.{valid}
+use Rattle.record.proofs.Checking.{checked-valid, checked-ready, checked-bytes}
 use Rattle.queue.proofs.Refusals.{eleven}
 use Rattle.queue.specs.Refusals.{firstRefusal}
 use borrow.Author.Needs.{needs}
 use Rattle.enqueue.proofs.submit_refusal.Statement.{statement}
 use Rattle.enqueue.proofs.submit_refusal.Tie as tie
 
-right : (c : tie.Else1) → valid (c .before .before .args .engine) ≡ true
-right c = sym (c .before .is-valid .ensures) ∙ not-false _ (c .if1 .left)
+-- the test of the record
+tested : (c : tie.Start) → c .args .found .valid ≡ valid (c .args .engine)
+tested c = checked-valid (c .args .engine) (c .args .found) (c .pre .0)
 
-is-valid-requires : tie.Need-is-valid-requires
-is-valid-requires c κs = search needs
+right : (c : tie.Else1) → valid (c .before .before .args .engine) ≡ true
+right c = sym (tested (c .before .before)) ∙ not-false _ (c .if1 .left)
 
 returns : tie.Need-returns
-returns c = eleven _ (valid (c .before .before .args .engine)) (sym (c .before .is-valid .ensures) ∙ not-true _ (c .if1 .taken))
+returns c = eleven _ (valid (c .before .before .args .engine)) (sym (tested (c .before .before)) ∙ not-true _ (c .if1 .taken))
 
 taken-slots-requires : tie.Need-taken-slots-requires
-taken-slots-requires c κs = search needs
+taken-slots-requires c κs =
+    let e = c .before .before in
+    let st = e .before .before in
+    (st .pre .1, checked-ready (st .args .engine) (st .args .found) (st .pre .0) (right e))
 
 free-bytes-requires : tie.Need-free-bytes-requires
-free-bytes-requires c κs = (right (c .before .before .before), c .taken-slots .ensures .1)
+free-bytes-requires c κs =
+    let e = c .before .before .before in
+    let st = e .before .before in
+    (right e, st .pre .1, checked-bytes (st .args .engine) (st .args .found) (st .pre .0) (right e))
 
 first-refusal-requires : tie.Need-first-refusal-requires
 first-refusal-requires c κs = search needs
@@ -49,13 +57,12 @@ first-refusal-requires-6 c κs = search needs
 
 returns-2 : tie.Need-returns-2
 unfolding firstRefusal
-returns-2 c = rw (right (c .before .before .before .before .before .before .before .before .before .before .before .before .before), c .first-refusal6 .ensures, c .before .first-refusal5 .ensures, c .before .before .is-open .ensures, c .before .before .before .first-refusal4 .ensures, c .before .before .before .before .before .first-refusal3 .ensures, c .before .before .before .before .before .before .bad-length .ensures, c .before .before .before .before .before .before .before .first-refusal2 .ensures, c .before .before .before .before .before .before .before .before .first-refusal .ensures, c .before .before .before .before .before .before .before .before .before .free-bytes .ensures, c .before .before .before .before .before .before .before .before .before .before .taken-slots .ensures .0)
+returns-2 c = rw (right (c .before .before .before .before .before .before .before .before .before .before .before .before .before), c .first-refusal6 .ensures, c .before .first-refusal5 .ensures, c .before .before .is-open .ensures, c .before .before .before .first-refusal4 .ensures, c .before .before .before .before .before .first-refusal3 .ensures, c .before .before .before .before .before .before .bad-length .ensures, c .before .before .before .before .before .before .before .first-refusal2 .ensures, c .before .before .before .before .before .before .before .before .first-refusal .ensures, c .before .before .before .before .before .before .before .before .before .free-bytes .ensures, c .before .before .before .before .before .before .before .before .before .before .taken-slots .ensures)
 
 pub submit-refusal-spec : {M : Type 1} → statement M
 submit-refusal-spec =
     tie.close
     (tie.spec
-    is-valid-requires
     returns
     taken-slots-requires
     free-bytes-requires

@@ -3,23 +3,14 @@ use borrow.Author.Needs.{needs}
 use Rattle.enqueue.proofs.taken_slots.Statement.{statement}
 use Rattle.enqueue.proofs.taken_slots.Tie as tie
 
-ready-slots-requires : tie.Need-ready-slots-requires
-ready-slots-requires c κs = search needs
-
 staged-slots-requires : tie.Need-staged-slots-requires
 staged-slots-requires c κs = search needs
 
 add-result : tie.Need-add-result
-add-result c = omega (arith, c .staged-slots .ensures .1, c .before .ready-slots .ensures .1)
+add-result c = omega (arith, c .staged-slots .ensures .1, c .before .before .pre .0, c .before .before .pre .1)
 
 returns : tie.Need-returns
-returns c = (rw (c .staged-slots .ensures .0, c .before .ready-slots .ensures .0), rw (c .before .ready-slots .ensures .0) at (c .before .ready-slots .ensures .1))
+returns c = rw (c .staged-slots .ensures .0, c .before .before .pre .1)
 
 pub taken-slots-spec : {M : Type 1} → statement M
-taken-slots-spec =
-    tie.close
-    (tie.spec
-    ready-slots-requires
-    staged-slots-requires
-    add-result
-    returns)
+taken-slots-spec = tie.close (tie.spec staged-slots-requires add-result returns)

@@ -1,12 +1,12 @@
 use Prim.Native.Nat.{_≤_}
-use mathlib.Core.Path.{_≡_, sym, ap, _∙_}
-use mathlib.Core.Bool.{_||_}
+use mathlib.Core.Path.{_≡_}
 use native.Mathlib.Omega.{arith}
 use lib.Dec.{ltb}
-use lib.ListN.{length}
-use borrow.Author.Tests.{ltb-false, not-true, not-false}
+use borrow.Author.Tests.{ltb-false}
 use Rattle.word.proofs.Tests.{or-false}
-use Rattle.inquiry.proofs.Answering.{taken-facts, after-refused, after-accepted}
+use Rattle.records.specs.Records.{Entry}
+use Rattle.acceptance.proofs.Taken.{refused-none, within-taken}
+use Rattle.inquiry.proofs.Answering.{after-refused, after-accepted}
 use borrow.Author.Needs.{needs}
 use Rattle.inquiry.proofs.after_record.Statement.{statement}
 use Rattle.inquiry.proofs.after_record.Tie as tie
@@ -24,28 +24,39 @@ returns c = rw (c .if1 .taken)
 add-records : tie.Need-add-records
 add-records c = omega (arith, few (c .before))
 
+accept-requires : tie.Need-accept-requires
+accept-requires c κs = search needs
+
+enum-told : tie.Need-enum-told
+enum-told c = search needs
+
+enum-known-submitted : tie.Need-enum-known-submitted
+enum-known-submitted c = search needs
+
+after-batch-requires : tie.Need-after-batch-requires
+after-batch-requires c κs = search needs
+
+after-why-requires : tie.Need-after-why-requires
+after-why-requires c κs = search needs
+
+add-t19 : tie.Need-add-t19
+add-t19 c = omega (arith, few (c .before .before .before .before .before .before .before))
+
 returns-2 : tie.Need-returns-2
 returns-2 c =
-    let e = c .before .before .before in
+    let e = c .before .before .before .before in
     let a = e .before .before .before .before .args in
-    let no = sym (c .before .is-accepted .ensures) ∙ not-true (c .before .is-accepted .result) (c .if2 .taken) in
-    rw (e .if1 .left) (after-refused (a .question) (a .finding) (record { client = a .client; batch = a .batch .now }) no)
-
-bounds-of-requires : tie.Need-bounds-of-requires
-bounds-of-requires c κs =
-    let a = c .before .before .before .before .before .before .before .args in
-    taken-facts (a .client) (a .batch .now) (sym (c .before .is-accepted .ensures) ∙ not-false (c .before .is-accepted .result) (c .if2 .left)) .0
-
-add-t16 : tie.Need-add-t16
-add-t16 c = omega (arith, few (c .before .before .before .before .before .before))
+    let entry : Entry = record { client = a .client; batch = a .batch .now } in
+    rw (e .if1 .left) (after-refused (a .question) (a .finding) entry (refused-none entry _ (c .before .before .accept .ensures) (c .enum-told .given .1)))
 
 returns-3 : tie.Need-returns-3
 returns-3 c =
-    let e = c .before .before .before .before .before .before in
+    let s = c .before .before .before in
+    let e = s .before .before .before .before in
     let a = e .before .before .before .before .args in
-    let is = c .before .before .before .before .is-accepted in
-    let took = sym (is .ensures) ∙ not-false (is .result) (c .before .before .before .if2 .left) in
-    rw (e .if1 .left) (after-accepted (a .question) (a .finding) (record { client = a .client; batch = a .batch .now }) _ _ _ took (few e .1) (c .before .before .bounds-of .ensures) (c .before .after-batch .ensures) (c .after-why .ensures))
+    let entry : Entry = record { client = a .client; batch = a .batch .now } in
+    let took = within-taken entry _ (s .before .before .accept .ensures) _ (s .submitted .given .1) in
+    rw (e .if1 .left) (after-accepted (a .question) (a .finding) entry _ _ _ (took .0) (few e .1) (took .1) (c .before .after-batch .ensures) (c .after-why .ensures))
 
 pub after-record-spec : {M : Type 1} → statement M
 after-record-spec =
@@ -53,10 +64,11 @@ after-record-spec =
     (tie.spec
     returns
     add-records
-    (λ c κs. search needs)
+    accept-requires
+    enum-told
+    enum-known-submitted
+    after-batch-requires
+    after-why-requires
+    add-t19
     returns-2
-    bounds-of-requires
-    (λ c κs. search needs)
-    (λ c κs. search needs)
-    add-t16
     returns-3)

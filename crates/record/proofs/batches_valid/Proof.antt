@@ -12,32 +12,29 @@ use Rattle.record.proofs.batches_valid.Statement.{statement}
 use Rattle.record.proofs.batches_valid.Tie as tie
 
 abbrev Inv-loop : tie.InvT-loop
-Inv-loop engine slots next ring k₀ offset₀ room₀ k offset room = (k ≤ 8) × (offset < ring) × (room ≤ ring) × (walk ring (isOpen engine) k next slots offset room ≡ walk ring (isOpen engine) k₀ next slots offset₀ room₀)
+Inv-loop engine ready slots next ring k₀ offset₀ room₀ k offset room = (k ≤ 8) × (offset < ring) × (room ≤ ring) × (walk ring (isOpen engine) k next slots offset room ≡ walk ring (isOpen engine) k₀ next slots offset₀ room₀)
 
 abbrev μ-loop : tie.MeasureT-loop
-μ-loop engine slots next ring k₀ offset₀ room₀ k offset room = k
+μ-loop engine ready slots next ring k₀ offset₀ room₀ k offset room = k
 
 -- the walk from the start on decides the rules
-decided : (c : tie.After-ready-slots Inv-loop μ-loop) →
-    walk (c .before .before .before .args .engine .setup .ring) (isOpen (c .before .before .before .args .engine)) (c .ready-slots .result) (c .before .before .before .args .engine .next) (c .before .before .before .args .engine .slots) (c .before .before .before .args .engine .read) (c .before .before .before .args .engine .setup .ring)
-    ≡ batchRules (c .before .before .before .args .engine)
-decided c = rw (c .ready-slots .ensures .0) (walk-rules (c .before .before .before .args .engine) _ _ _ _ _ _)
+decided : (c : tie.Start Inv-loop μ-loop) →
+    walk (c .args .engine .setup .ring) (isOpen (c .args .engine)) (c .args .ready) (c .args .engine .next) (c .args .engine .slots) (c .args .engine .read) (c .args .engine .setup .ring)
+    ≡ batchRules (c .args .engine)
+decided c = rw (c .pre .2) (walk-rules (c .args .engine) _ _ _ _ _ _)
 
 -- what the test of a batch tells
-told : (c : tie.After-fits-in Inv-loop μ-loop) → c .fits-in .result ≡ fitsIn (c .before .before .before .before .before .before .before .before .before .before .before .args .engine .setup .ring) (isOpen (c .before .before .before .before .before .before .before .before .before .before .before .args .engine)) (c .before .before .before .before .before .before .before .loop .offset) (c .before .before .before .before .before .before .before .loop .room) (c .before .before .batch-of .result)
+told : (c : tie.After-fits-in Inv-loop μ-loop) → c .fits-in .result ≡ fitsIn (c .before .before .before .before .before .before .before .before .before .before .args .engine .setup .ring) (isOpen (c .before .before .before .before .before .before .before .before .before .before .args .engine)) (c .before .before .before .before .before .before .before .loop .offset) (c .before .before .before .before .before .before .before .loop .room) (c .before .before .batch-of .result)
 told c = c .fits-in .ensures ∙ rw (c .before .is-open .ensures)
 
-fit : (c : tie.Else2 Inv-loop μ-loop) → fitsIn (c .before .before .before .before .before .before .before .before .before .before .before .before .args .engine .setup .ring) (isOpen (c .before .before .before .before .before .before .before .before .before .before .before .before .args .engine)) (c .before .before .before .before .before .before .before .before .loop .offset) (c .before .before .before .before .before .before .before .before .loop .room) (c .before .before .before .batch-of .result) ≡ true
+fit : (c : tie.Else2 Inv-loop μ-loop) → fitsIn (c .before .before .before .before .before .before .before .before .before .before .before .args .engine .setup .ring) (isOpen (c .before .before .before .before .before .before .before .before .before .before .before .args .engine)) (c .before .before .before .before .before .before .before .before .loop .offset) (c .before .before .before .before .before .before .before .before .loop .room) (c .before .before .before .batch-of .result) ≡ true
 fit c = sym (told (c .before)) ∙ not-false _ (c .if2 .left)
 
-fits : (c : tie.Else2 Inv-loop μ-loop) → Fitting (c .before .before .before .before .before .before .before .before .before .before .before .before .args .engine .setup .ring) (isOpen (c .before .before .before .before .before .before .before .before .before .before .before .before .args .engine)) (c .before .before .before .before .before .before .before .before .loop .offset) (c .before .before .before .before .before .before .before .before .loop .room) (c .before .before .before .batch-of .result)
+fits : (c : tie.Else2 Inv-loop μ-loop) → Fitting (c .before .before .before .before .before .before .before .before .before .before .before .args .engine .setup .ring) (isOpen (c .before .before .before .before .before .before .before .before .before .before .before .args .engine)) (c .before .before .before .before .before .before .before .before .loop .offset) (c .before .before .before .before .before .before .before .before .loop .room) (c .before .before .before .batch-of .result)
 fits c = fitting _ _ _ _ _ (fit c)
 
-ready-slots-requires : tie.Need-ready-slots-requires Inv-loop μ-loop
-ready-slots-requires c κs = search needs
-
 loop-holds : tie.Need-loop-holds Inv-loop μ-loop
-loop-holds c = (c .ready-slots .ensures .1, c .before .before .before .pre .1, omega arith, refl)
+loop-holds c = (c .before .before .pre .3, c .before .before .pre .1, omega arith, refl)
 
 slot-of-age-requires : tie.Need-slot-of-age-requires Inv-loop μ-loop
 slot-of-age-requires c κs = omega arith
@@ -45,7 +42,7 @@ slot-of-age-requires c κs = omega arith
 returns : tie.Need-returns Inv-loop μ-loop
 returns c = let l = c .before .before .before in
     let p = c .before .slot-of-age in
-    walk-missing _ _ _ _ _ _ _ (c .before .before .loop-test .taken) (p .result) (p .ensures) (omega (arith, c .before .before .before .before .ready-slots .ensures .2)) ∙ l .loop .inv .3 ∙ decided (c .before .before .before .before)
+    walk-missing _ _ _ _ _ _ _ (c .before .before .loop-test .taken) (p .result) (p .ensures) (omega (arith, c .before .before .before .before .before .before .pre .4)) ∙ l .loop .inv .3 ∙ decided (c .before .before .before .before .before .before)
 
 mul-batch-of : tie.Need-mul-batch-of Inv-loop μ-loop
 mul-batch-of c = omega arith
@@ -67,7 +64,7 @@ returns-2 c = let l = c .before .before .before .before .before .before .before 
     let p = c .before .before .before .before .before .before .slot-of-age in
     let j = c .before .before .before .batch-of in
     let e = sym (told (c .before)) ∙ not-true _ (c .if2 .taken) in
-    walk-unfit _ _ _ _ _ _ _ (c .before .before .before .before .before .before .before .loop-test .taken) (p .result) (p .ensures) (omega (arith, c .before .before .before .before .before .before .before .before .before .ready-slots .ensures .2)) (j .result) (j .ensures) e ∙ l .loop .inv .3 ∙ decided (c .before .before .before .before .before .before .before .before .before)
+    walk-unfit _ _ _ _ _ _ _ (c .before .before .before .before .before .before .before .loop-test .taken) (p .result) (p .ensures) (omega (arith, c .before .before .before .before .before .before .before .before .before .before .before .pre .4)) (j .result) (j .ensures) e ∙ l .loop .inv .3 ∙ decided (c .before .before .before .before .before .before .before .before .before .before .before)
 
 add-wrap : tie.Need-add-wrap Inv-loop μ-loop
 add-wrap c = let f = fits c .within in omega arith
@@ -89,15 +86,15 @@ loop-again c = let l = c .before .before .before .before .before .before .before
     let p = c .before .before .before .before .before .before .before .slot-of-age in
     let j = c .before .before .before .before .batch-of in
     let f = fits (c .before) .within in
-    let small = c .before .before .before .before .before .before .before .before .before .before .before .before .before .pre in (
+    let small = c .before .before .before .before .before .before .before .before .before .before .before .before .pre in (
       omega arith,
-      rw (c .wrap .ensures) (wrapped-below (c .before .before .before .before .before .before .before .before .before .before .before .before .before .args .engine .setup .ring) (l .loop .offset + j .result .length) (omega arith)),
+      rw (c .wrap .ensures) (wrapped-below (c .before .before .before .before .before .before .before .before .before .before .before .before .args .engine .setup .ring) (l .loop .offset + j .result .length) (omega arith)),
       omega arith,
-      walk-next _ _ _ _ _ _ _ (c .before .before .before .before .before .before .before .before .loop-test .taken) (p .result) (p .ensures) (omega (arith, c .before .before .before .before .before .before .before .before .before .before .ready-slots .ensures .2)) (j .result) (j .ensures) (fit (c .before)) (c .wrap .result) (c .wrap .ensures) ∙ l .loop .inv .3,
+      walk-next _ _ _ _ _ _ _ (c .before .before .before .before .before .before .before .before .loop-test .taken) (p .result) (p .ensures) (omega (arith, c .before .before .before .before .before .before .before .before .before .before .before .before .pre .4)) (j .result) (j .ensures) (fit (c .before)) (c .wrap .result) (c .wrap .ensures) ∙ l .loop .inv .3,
     )
 
 returns-3 : tie.Need-returns-3 Inv-loop μ-loop
-returns-3 c = walk-done _ _ _ _ _ _ _ (c .loop-test .left) ∙ c .before .loop .inv .3 ∙ decided (c .before .before)
+returns-3 c = walk-done _ _ _ _ _ _ _ (c .loop-test .left) ∙ c .before .loop .inv .3 ∙ decided (c .before .before .before .before)
 
 pub batches-valid-spec : {M : Type 1} → statement M
 batches-valid-spec =
@@ -105,7 +102,6 @@ batches-valid-spec =
     (tie.spec
     Inv-loop
     μ-loop
-    ready-slots-requires
     loop-holds
     slot-of-age-requires
     returns

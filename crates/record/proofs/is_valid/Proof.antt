@@ -1,61 +1,13 @@
-use mathlib.Core.Path.{_≡_, sym, _∙_}
-use mathlib.Core.Bool.{true, _&&_}
 use borrow.Author.Needs.{needs}
-use borrow.Author.Tests.{not-true, not-false}
-use Rattle.record.proofs.Rules.{numbers, valid-not, valid-not-settled, valid-rest, settled}
-use Rattle.word.proofs.Tests.{and-true}
-use Rattle.record.specs.declared.Record.{Record}
-use Rattle.record.specs.Rules.{numberRules, windowsRule, batchRules, pendingRule}
+use Rattle.record.proofs.Checking.{checked-valid}
 use Rattle.record.proofs.is_valid.Statement.{statement}
 use Rattle.record.proofs.is_valid.Tie as tie
 
-right : (c : tie.Else1) → numberRules (c .before .before .args .engine) ≡ true
-right c = sym (c .before .numbers-valid .ensures) ∙ not-false _ (c .if1 .left)
-
-numbers-valid-requires : tie.Need-numbers-valid-requires
-numbers-valid-requires c κs = search needs
+check-requires : tie.Need-check-requires
+check-requires c κs = search needs
 
 returns : tie.Need-returns
-returns c = valid-not (c .before .before .args .engine) (sym (c .before .numbers-valid .ensures) ∙ not-true _ (c .if1 .taken))
-
-windows-valid-requires : tie.Need-windows-valid-requires
-windows-valid-requires c κs = search needs
-
-batches-valid-requires : tie.Need-batches-valid-requires
-batches-valid-requires c κs = let n = numbers (c .before .before .before .before .before .before .args .engine) (right (c .before .before .before .before)) in
-    (n .ring .small, n .below)
-
-pending-counts-match-requires : tie.Need-pending-counts-match-requires
-pending-counts-match-requires c κs = search needs
-
--- the tests together
-tested : (c : tie.After-pending-counts-match) → (c .before .before .windows-valid .result && c .before .batches-valid .result && c .pending-counts-match .result)
-    ≡ settled (c .before .before .before .before .before .before .before .before .args .engine)
-tested c = rw (c .pending-counts-match .ensures, c .before .batches-valid .ensures, c .before .before .windows-valid .ensures)
-
-returns-2 : tie.Need-returns-2
-returns-2 c = valid-not-settled (c .before .before .before .before .before .before .before .before .before .args .engine) (right (c .before .before .before .before .before .before .before)) (sym (tested (c .before)) ∙ not-true _ (c .if2 .taken))
-
-all : (c : tie.Else2) → settled (c .before .before .before .before .before .before .before .before .before .args .engine) ≡ true
-all c = sym (tested (c .before)) ∙ not-false _ (c .if2 .left)
-
-staged-valid-requires : tie.Need-staged-valid-requires
-staged-valid-requires c κs = let engine : Record = c .before .before .before .before .before .before .before .before .before .args .engine in
-    let x = and-true (windowsRule engine && batchRules engine) (pendingRule engine) (all c) in
-    (right (c .before .before .before .before .before .before .before), and-true (windowsRule engine) (batchRules engine) (x .0) .1)
-
-returns-3 : tie.Need-returns-3
-returns-3 c = c .staged-valid .ensures ∙ valid-rest (c .before .before .before .before .before .before .before .before .before .before .args .engine) (right (c .before .before .before .before .before .before .before .before)) (all (c .before))
+returns c = checked-valid (c .before .args .engine) (c .check .result) (c .check .ensures .0)
 
 pub is-valid-spec : {M : Type 1} → statement M
-is-valid-spec =
-    tie.close
-    (tie.spec
-    numbers-valid-requires
-    returns
-    windows-valid-requires
-    batches-valid-requires
-    pending-counts-match-requires
-    returns-2
-    staged-valid-requires
-    returns-3)
+is-valid-spec = tie.close (tie.spec check-requires returns)

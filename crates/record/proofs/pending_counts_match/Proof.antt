@@ -18,26 +18,25 @@ abbrev μ-loop : tie.MeasureT-loop
 loop-holds : tie.Need-loop-holds Inv-loop μ-loop
 loop-holds c = refl
 
-mul-client : tie.Need-mul-client Inv-loop μ-loop
-mul-client c = omega arith
+mul-count-matches : tie.Need-mul-count-matches Inv-loop μ-loop
+mul-count-matches c = omega arith
 
-array-copy-out-client : tie.Need-array-copy-out-client Inv-loop μ-loop
-array-copy-out-client c = omega arith
+array-copy-out-count-matches : tie.Need-array-copy-out-count-matches Inv-loop μ-loop
+array-copy-out-count-matches c = omega arith
 
-cast-if1 : tie.Need-cast-if1 Inv-loop μ-loop
-cast-if1 c = search needs
+cast-count-matches : tie.Need-cast-count-matches Inv-loop μ-loop
+cast-count-matches c = omega arith
 
-cast-count-of : tie.Need-cast-count-of Inv-loop μ-loop
-cast-count-of c = omega arith
-
-count-of-requires : tie.Need-count-of-requires Inv-loop μ-loop
-count-of-requires c κs = search needs
+count-matches-requires : tie.Need-count-matches-requires Inv-loop μ-loop
+count-matches-requires c κs = search needs
 
 returns : tie.Need-returns Inv-loop μ-loop
-returns c = let st = c .before .before .before .before .before .before .before in
-    let l = c .before .before .before .before .before .before in
+returns c =
+    let m = c .before in
+    let l = m .before .before .before in
+    let st = l .before in
     let g = st .good .0 .1 .0 .1 in
-    counts-found (st .args .t1) (l .loop .k) (omega arith) (readyBatches (st .args .slots)) (c .before .before .before .count-of .result) (c .before .before .before .count-of .ensures) (c .if1 .taken) ∙ l .loop .inv
+    counts-found (st .args .t1) (l .loop .k) (omega arith) (readyBatches (st .args .slots)) (m .count-matches .result) (m .count-matches .ensures) (c .if1 .taken) ∙ l .loop .inv
 
 add-k : tie.Need-add-k Inv-loop μ-loop
 add-k c = omega arith
@@ -46,10 +45,12 @@ loop-less : tie.Need-loop-less Inv-loop μ-loop
 loop-less c = omega arith
 
 loop-again : tie.Need-loop-again Inv-loop μ-loop
-loop-again c = let st = c .before .before .before .before .before .before .before in
-    let l = c .before .before .before .before .before .before in
+loop-again c =
+    let m = c .before in
+    let l = m .before .before .before in
+    let st = l .before in
     let g = st .good .0 .1 .0 .1 in
-    counts-next (st .args .t1) (l .loop .k) (omega arith) (readyBatches (st .args .slots)) (c .before .before .before .count-of .result) (c .before .before .before .count-of .ensures) (c .if1 .left) ∙ l .loop .inv
+    counts-next (st .args .t1) (l .loop .k) (omega arith) (readyBatches (st .args .slots)) (m .count-matches .result) (m .count-matches .ensures) (c .if1 .left) ∙ l .loop .inv
 
 returns-2 : tie.Need-returns-2 Inv-loop μ-loop
 returns-2 c = let g = c .before .before .good .0 .1 .0 .1 in
@@ -62,11 +63,10 @@ pending-counts-match-spec =
     Inv-loop
     μ-loop
     loop-holds
-    mul-client
-    array-copy-out-client
-    cast-count-of
-    count-of-requires
-    cast-if1
+    mul-count-matches
+    array-copy-out-count-matches
+    cast-count-matches
+    count-matches-requires
     returns
     add-k
     loop-less

@@ -2,7 +2,6 @@ use mathlib.Core.Path.{_≡_, refl, sym, _∙_}
 use Prim.Native.Nat.{_-_}
 use lib.ListN.{drop}
 use native.Mathlib.Omega.{arith}
-use borrow.Author.Needs.{needs}
 use Rattle.record.specs.Clients.{windowsOf, windowsValid}
 use Rattle.record.proofs.Clients.{none-found, none-next, none-end}
 use Rattle.record.proofs.windows_valid.Statement.{statement}
@@ -17,23 +16,16 @@ abbrev μ-loop : tie.MeasureT-loop
 loop-holds : tie.Need-loop-holds Inv-loop μ-loop
 loop-holds c = refl
 
-mul-client : tie.Need-mul-client Inv-loop μ-loop
-mul-client c = omega arith
-
-array-copy-out-client : tie.Need-array-copy-out-client Inv-loop μ-loop
-array-copy-out-client c = omega arith
-
-add-bad-window : tie.Need-add-bad-window Inv-loop μ-loop
-add-bad-window c = omega arith
-
-bad-window-requires : tie.Need-bad-window-requires Inv-loop μ-loop
-bad-window-requires c κs = search needs
+is-misplaced-requires : tie.Need-is-misplaced-requires Inv-loop μ-loop
+is-misplaced-requires c κs = omega arith
 
 returns : tie.Need-returns Inv-loop μ-loop
-returns c = let st = c .before .before .before .before .before .before .before in
-    let l = c .before .before .before .before .before .before in
+returns c =
+    let m = c .before in
+    let l = m .before .before in
+    let st = l .before in
     let g = st .good .1 .0 .1 .0 .1 in
-    none-found (st .args .t2) (l .loop .k) (omega arith) (st .args .setup) (c .before .before .bad-window .result) (c .before .before .bad-window .ensures) (c .if1 .taken) ∙ l .loop .inv
+    none-found (st .args .clients) (l .loop .k) (omega arith) (st .args .setup) (m .is-misplaced .result) (m .is-misplaced .ensures) (c .if1 .taken) ∙ l .loop .inv
 
 add-k : tie.Need-add-k Inv-loop μ-loop
 add-k c = omega arith
@@ -42,14 +34,16 @@ loop-less : tie.Need-loop-less Inv-loop μ-loop
 loop-less c = omega arith
 
 loop-again : tie.Need-loop-again Inv-loop μ-loop
-loop-again c = let st = c .before .before .before .before .before .before .before in
-    let l = c .before .before .before .before .before .before in
+loop-again c =
+    let m = c .before in
+    let l = m .before .before in
+    let st = l .before in
     let g = st .good .1 .0 .1 .0 .1 in
-    none-next (st .args .t2) (l .loop .k) (omega arith) (st .args .setup) (c .before .before .bad-window .result) (c .before .before .bad-window .ensures) (c .if1 .left) ∙ l .loop .inv
+    none-next (st .args .clients) (l .loop .k) (omega arith) (st .args .setup) (m .is-misplaced .result) (m .is-misplaced .ensures) (c .if1 .left) ∙ l .loop .inv
 
 returns-2 : tie.Need-returns-2 Inv-loop μ-loop
 returns-2 c = let g = c .before .before .good .1 .0 .1 .0 .1 in
-    sym (none-end (c .before .before .args .t2) (c .before .loop .k) (omega arith) _) ∙ c .before .loop .inv
+    sym (none-end (c .before .before .args .clients) (c .before .loop .k) (omega arith) _) ∙ c .before .loop .inv
 
 pub windows-valid-spec : {M : Type 1} → statement M
 windows-valid-spec =
@@ -58,10 +52,7 @@ windows-valid-spec =
     Inv-loop
     μ-loop
     loop-holds
-    mul-client
-    array-copy-out-client
-    add-bad-window
-    bad-window-requires
+    is-misplaced-requires
     returns
     add-k
     loop-less

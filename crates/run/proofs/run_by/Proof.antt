@@ -4,6 +4,7 @@ use lib.ListN.{length}
 use denote.Ref.{now}
 use Prim.Native.Nat.{_<_}
 use Rattle.record.specs.declared.Batch.{Batch}
+use Rattle.record.proofs.Checking.{checked-ready}
 use Rattle.engine.specs.Run.{oldest}
 use Rattle.engine.proofs.Oldest.{slot-below, owner-small, oldest-room}
 use Rattle.engine.proofs.Refusals.{RunAllowed, run-allowed}
@@ -12,29 +13,36 @@ use borrow.Author.Needs.{needs}
 use Rattle.run.proofs.run_by.Statement.{statement}
 use Rattle.run.proofs.run_by.Tie as tie
 
-allowed : (c : tie.Else1) → RunAllowed (c .before .before .before .before .args .engine) (length (now (c .before .before .before .before .args .ring))) (length (now (c .before .before .before .before .args .memory)))
-allowed c = let a = c .before .before .before .before .args in run-allowed (a .engine) (length (now (a .ring))) (length (now (a .memory))) (sym (c .before .run-refusal .ensures) ∙ c .if1 .left)
+allowed : (c : tie.Else1) → RunAllowed (c .before .before .before .before .before .args .engine) (length (now (c .before .before .before .before .before .args .ring))) (length (now (c .before .before .before .before .before .args .memory)))
+allowed c = let a = c .before .before .before .before .before .args in run-allowed (a .engine) (length (now (a .ring))) (length (now (a .memory))) (sym (c .before .run-refusal .ensures) ∙ c .if1 .left)
 
 -- the slot is one of the eight
 slot : (c : tie.After-oldest-slot) → c .oldest-slot .result < 8
 slot c =
-    let a = allowed (c .before .before) in
-    omega (arith, slot-below (c .before .before .before .before .before .before .args .engine) (a .ok) (a .some) (c .oldest-slot .ensures .1), c .oldest-slot .ensures .0)
+    let e = c .before .before in
+    let a = allowed e in
+    omega (arith, slot-below (c .before .before .before .before .before .before .before .args .engine) (a .ok) (a .some) (e .before .before .check .ensures .2), c .oldest-slot .ensures)
 
 -- its batch is the oldest
-taken : (c : tie.After-batch-of) → c .batch-of .result ≡ oldest (c .before .before .before .before .before .before .before .before .args .engine)
-taken c = c .batch-of .ensures ∙ rw (c .before .before .oldest-slot .ensures .0)
+taken : (c : tie.After-batch-of) → c .batch-of .result ≡ oldest (c .before .before .before .before .before .before .before .before .before .args .engine)
+taken c = c .batch-of .ensures ∙ rw (c .before .before .oldest-slot .ensures)
+
+check-requires : tie.Need-check-requires
+check-requires c κs = search needs
 
 run-refusal-requires : tie.Need-run-refusal-requires
-run-refusal-requires c κs = search needs
+run-refusal-requires c κs = c .check .ensures .0
 
 returns : tie.Need-returns
 returns c =
-    let a = c .before .before .before .before .args in
+    let a = c .before .before .before .before .before .args in
     run-refused (a .engine) (now (a .ring)) (now (a .memory)) (c .before .run-refusal .result) (c .before .run-refusal .ensures) (c .if1 .taken)
 
 oldest-slot-requires : tie.Need-oldest-slot-requires
-oldest-slot-requires c κs = search needs
+oldest-slot-requires c κs =
+    let e = c .before in
+    let f = e .before .before in
+    (f .check .ensures .1, checked-ready (f .before .before .before .args .engine) (f .check .result) (f .check .ensures .0) (allowed e .ok))
 
 mul-batch-of : tie.Need-mul-batch-of
 mul-batch-of c = let h = slot c in omega arith
@@ -48,7 +56,7 @@ batch-of-requires c κs = search needs
 bounds-for-requires : tie.Need-bounds-for-requires
 bounds-for-requires c κs =
     let a = allowed (c .before .before .before .before) in
-    let one = owner-small (c .before .before .before .before .before .before .before .before .args .engine) (a .ok) (a .some) in
+    let one = owner-small (c .before .before .before .before .before .before .before .before .before .args .engine) (a .ok) (a .some) in
     omega (arith, ap (λ (b : Batch). b .client) (taken c))
 
 bank-for-requires : tie.Need-bank-for-requires
@@ -58,16 +66,18 @@ run-batch-requires : tie.Need-run-batch-requires
 run-batch-requires c κs =
     let f = c .before .before .bounds-for in
     let b = c .before .before .before in
-    let a = allowed (b .before .before .before .before) in
-    let s = b .before .before .before .before .before .before .before .before in
+    let e = b .before .before .before .before in
+    let a = allowed e in
+    let s = e .before .before .before .before .before in
     oldest-room (s .args .engine) (a .ok) (a .some) _ (a .memory) (b .batch-of .result) (taken b) (f .result) (f .ensures .0)
 
 without-oldest-requires : tie.Need-without-oldest-requires
 without-oldest-requires c κs =
     let b = c .before .before .before .before .before .before in
     let o = b .before .before .oldest-slot in
-    let a = allowed (b .before .before .before .before) in
-    (a .ok, a .some, c .before .before .before .before .before .bounds-for .ensures .1, o .ensures .1, o .ensures .0, taken b)
+    let e = b .before .before .before .before in
+    let a = allowed e in
+    (a .ok, a .some, c .before .before .before .before .before .bounds-for .ensures .1, e .before .before .check .ensures .2, o .ensures, taken b)
 
 same-length : tie.Need-same-length
 same-length c = search needs
@@ -77,7 +87,7 @@ returns-2 c =
     let b = c .before .before .before .before .before .before .before in
     let f = c .before .before .before .before .before .before .bounds-for in
     let e = b .before .before .before .before in
-    let s = b .before .before .before .before .before .before .before .before in
+    let s = e .before .before .before .before .before in
     let d = c .before .before .before .run-batch in
     let r = c .before .before .before .before .bank-for in
     run-made (s .args .engine) (now (s .args .ring)) (now (s .args .memory)) (sym (e .before .run-refusal .ensures) ∙ e .if1 .left)
@@ -88,6 +98,7 @@ pub run-by-spec : {M : Type 1} → statement M
 run-by-spec =
     tie.close
     (tie.spec
+    check-requires
     run-refusal-requires
     returns
     oldest-slot-requires

@@ -1,4 +1,3 @@
-use mathlib.Core.Path.{_∙_}
 use Rattle.queue.proofs.Calls.{cancel-refused, cancel-done}
 use borrow.Author.Needs.{needs}
 use Rattle.submission.proofs.cancel.Statement.{statement}

@@ -1,7 +1,10 @@
 use mathlib.Core.Path.{refl, sym, _∙_}
+use Prim.Native.Nat.{_≤_}
 use lib.ListN.{length}
 use native.Mathlib.Omega.{arith}
-use Rattle.queue.specs.declared.Answer.the-variants.{Accepted, Missing}
+use Rattle.record.specs.Queue.{readySlots}
+use Rattle.record.proofs.Checking.{checked-bytes}
+use Rattle.queue.specs.declared.Answer.the-variants.{Accepted}
 use Rattle.queue.proofs.Calls.{piece-refused, piece-done, last-answer, last-record, more-answer, more-record}
 use Rattle.queue.proofs.Refusals.{PieceAllowed, piece-allowed}
 use Rattle.queue.proofs.Room.{client-small, pending-small, piece-lies, piece-small, piece-offset-small}
@@ -9,54 +12,64 @@ use borrow.Author.Needs.{needs}
 use Rattle.submission.proofs.piece.Statement.{statement}
 use Rattle.submission.proofs.piece.Tie as tie
 
-allowed : (c : tie.Else1) → PieceAllowed (c .before .before .before .before .args .engine) (length (c .before .before .before .before .args .ring .now)) (c .before .before .before .before .args .client) (length (c .before .before .before .before .args .piece .now))
-allowed c = piece-allowed (c .before .before .before .before .args .engine) (length (c .before .before .before .before .args .ring .now)) (c .before .before .before .before .args .client) (length (c .before .before .before .before .args .piece .now)) (sym (c .before .piece-refusal .ensures) ∙ c .if1 .left)
+allowed : (c : tie.Else1) → PieceAllowed (c .before .before .before .before .before .args .engine) (length (c .before .before .before .before .before .args .ring .now)) (c .before .before .before .before .before .args .client) (length (c .before .before .before .before .before .args .piece .now))
+allowed c = piece-allowed (c .before .before .before .before .before .args .engine) (length (c .before .before .before .before .before .args .ring .now)) (c .before .before .before .before .before .args .client) (length (c .before .before .before .before .before .args .piece .now)) (sym (c .before .piece-refusal .ensures) ∙ c .if1 .left)
+
+check-requires : tie.Need-check-requires
+check-requires c κs = search needs
 
 piece-refusal-requires : tie.Need-piece-refusal-requires
-piece-refusal-requires c κs = search needs
+piece-refusal-requires c κs = c .check .ensures .0
 
 returns : tie.Need-returns
-returns c = piece-refused (c .before .before .before .before .args .engine) (c .before .before .before .before .args .ring .now) (c .before .before .before .before .args .client) (c .before .before .before .before .args .piece .now) (c .before .piece-refusal .result) (c .before .piece-refusal .ensures) (c .if1 .taken)
+returns c = piece-refused (c .before .before .before .before .before .args .engine) (c .before .before .before .before .before .args .ring .now) (c .before .before .before .before .before .args .client) (c .before .before .before .before .before .args .piece .now) (c .before .piece-refusal .result) (c .before .piece-refusal .ensures) (c .if1 .taken)
+
+few : (c : tie.Else1) → readySlots (c .before .before .before .before .before .args .engine) ≤ 8
+few c = c .before .before .check .ensures .1
 
 write-offset-requires : tie.Need-write-offset-requires
-write-offset-requires c κs = allowed (c .before .before) .own .ok
+write-offset-requires c κs =
+    let e = c .before .before in
+    let f = e .before .before in
+    let ok = allowed e .own .ok in
+    (ok, few e, checked-bytes (f .before .before .before .args .engine) (f .check .result) (f .check .ensures .0) ok)
 
 add-wrap : tie.Need-add-wrap
 add-wrap c = let w = c .before .write-offset .ensures in
-    let e = c .before .before .before .before .before .before .before .before .args in
-    omega (arith, w .0, piece-offset-small (e .engine) (length (e .ring .now)) (e .client) (length (e .piece .now)) (w .1) (allowed (c .before .before .before .before)))
+    let e = c .before .before .before .before .before .before .before .before .before .args in
+    omega (arith, w, piece-offset-small (e .engine) (length (e .ring .now)) (e .client) (length (e .piece .now)) (few (c .before .before .before .before)) (allowed (c .before .before .before .before)))
 
 wrap-requires : tie.Need-wrap-requires
 wrap-requires c κs = search needs
 
 copy-in-requires : tie.Need-copy-in-requires
-copy-in-requires c κs = rw (c .before .wrap .ensures, c .before .before .before .write-offset .ensures .0) (piece-lies (c .before .before .before .before .before .before .before .before .before .before .args .engine) (c .before .before .before .before .before .before .before .before .before .before .args .ring .now) (c .before .before .before .before .before .before .before .before .before .before .args .client) (length (c .before .before .before .before .before .before .before .before .before .before .args .piece .now)) (c .before .before .before .write-offset .ensures .1) (allowed (c .before .before .before .before .before .before)))
+copy-in-requires c κs = rw (c .before .wrap .ensures, c .before .before .before .write-offset .ensures) (piece-lies (c .before .before .before .before .before .before .before .before .before .before .before .args .engine) (c .before .before .before .before .before .before .before .before .before .before .before .args .ring .now) (c .before .before .before .before .before .before .before .before .before .before .before .args .client) (length (c .before .before .before .before .before .before .before .before .before .before .before .args .piece .now)) (few (c .before .before .before .before .before .before)) (allowed (c .before .before .before .before .before .before)))
 
 add-received : tie.Need-add-received
-add-received c = omega (arith, piece-small (c .before .before .before .before .before .before .before .before .before .before .before .before .before .before .args .engine) (length (c .before .before .before .before .before .before .before .before .before .before .before .before .before .before .args .ring .now)) (c .before .before .before .before .before .before .before .before .before .before .before .before .before .before .args .client) (length (c .before .before .before .before .before .before .before .before .before .before .before .before .before .before .args .piece .now)) (allowed (c .before .before .before .before .before .before .before .before .before .before)) .0)
+add-received c = omega (arith, piece-small (c .before .before .before .before .before .before .before .before .before .before .before .before .before .before .before .args .engine) (length (c .before .before .before .before .before .before .before .before .before .before .before .before .before .before .before .args .ring .now)) (c .before .before .before .before .before .before .before .before .before .before .before .before .before .before .before .args .client) (length (c .before .before .before .before .before .before .before .before .before .before .before .before .before .before .before .args .piece .now)) (allowed (c .before .before .before .before .before .before .before .before .before .before)) .0)
 
 finished-requires : tie.Need-finished-requires
 finished-requires c κs = let a = allowed (c .before .before .before .before .before .before .before .before .before .before .before) in
-    let e = c .before .before .before .before .before .before .before .before .before .before .before .before .before .before .before .args .engine in
+    let e = c .before .before .before .before .before .before .before .before .before .before .before .before .before .before .before .before .args .engine in
     let u = a .own .unfinished in
-    (c .before .before .before .before .before .before .before .before .write-offset .ensures .0, client-small e (a .own .ok) (e .staged .client) (u .owner), omega (arith, pending-small e (a .own .ok) (e .staged .client) (u .owner), c .before .before .before .before .before .before .before .before .write-offset .ensures .1), u .slot)
+    (c .before .before .before .before .before .before .before .before .write-offset .ensures, client-small e (a .own .ok) (e .staged .client) (u .owner), omega (arith, pending-small e (a .own .ok) (e .staged .client) (u .owner), few (c .before .before .before .before .before .before .before .before .before .before .before)), u .slot)
 
 same-length : tie.Need-same-length
 same-length c = search needs
 
 returns-2 : tie.Need-returns-2
-returns-2 c = let e = c .before .before .before .before .before .before .before .before .before .before .before .before .before .before .before .before .args in
+returns-2 c = let e = c .before .before .before .before .before .before .before .before .before .before .before .before .before .before .before .before .before .args in
     let size = length (e .piece .now) in
     piece-done (e .engine) (e .ring .now) (e .client) (e .piece .now) (c .before .before .before .before .before .before .before .before .before .before .before .before .before .piece-refusal .result) (c .before .before .before .before .before .before .before .before .before .before .before .before .before .piece-refusal .ensures) (c .before .before .before .before .before .before .before .before .before .before .before .before .if1 .left) (Accepted (e .engine .next)) (c .finished .result) _
     (last-answer (e .engine) size (c .before .if2 .taken))
     (c .finished .ensures ∙ last-record (e .engine) size (c .before .if2 .taken))
-    (rw (c .before .before .before .before .before .before .before .wrap .ensures, c .before .before .before .before .before .before .before .before .before .write-offset .ensures .0) at (c .before .before .before .before .before .copy-in .ensures))
+    (rw (c .before .before .before .before .before .before .before .wrap .ensures, c .before .before .before .before .before .before .before .before .before .write-offset .ensures) at (c .before .before .before .before .before .copy-in .ensures))
 
 sub-left : tie.Need-sub-left
 sub-left c = allowed (c .before .before .before .before .before .before .before .before .before .before .before) .fits
 
 cast-missing : tie.Need-cast-missing
-cast-missing c = omega (arith, piece-small (c .before .before .before .before .before .before .before .before .before .before .before .before .before .before .before .args .engine) (length (c .before .before .before .before .before .before .before .before .before .before .before .before .before .before .before .args .ring .now)) (c .before .before .before .before .before .before .before .before .before .before .before .before .before .before .before .args .client) (length (c .before .before .before .before .before .before .before .before .before .before .before .before .before .before .before .args .piece .now)) (allowed (c .before .before .before .before .before .before .before .before .before .before .before)) .1)
+cast-missing c = omega (arith, piece-small (c .before .before .before .before .before .before .before .before .before .before .before .before .before .before .before .before .args .engine) (length (c .before .before .before .before .before .before .before .before .before .before .before .before .before .before .before .before .args .ring .now)) (c .before .before .before .before .before .before .before .before .before .before .before .before .before .before .before .before .args .client) (length (c .before .before .before .before .before .before .before .before .before .before .before .before .before .before .before .before .args .piece .now)) (allowed (c .before .before .before .before .before .before .before .before .before .before .before)) .1)
 
 continued-requires : tie.Need-continued-requires
 continued-requires c κs = search needs
@@ -65,17 +78,18 @@ same-length-2 : tie.Need-same-length-2
 same-length-2 c = search needs
 
 returns-3 : tie.Need-returns-3
-returns-3 c = let e = c .before .before .before .before .before .before .before .before .before .before .before .before .before .before .before .before .args in
+returns-3 c = let e = c .before .before .before .before .before .before .before .before .before .before .before .before .before .before .before .before .before .args in
     let size = length (e .piece .now) in
     piece-done (e .engine) (e .ring .now) (e .client) (e .piece .now) (c .before .before .before .before .before .before .before .before .before .before .before .before .before .piece-refusal .result) (c .before .before .before .before .before .before .before .before .before .before .before .before .before .piece-refusal .ensures) (c .before .before .before .before .before .before .before .before .before .before .before .before .if1 .left) _ (c .continued .result) _
     (more-answer (e .engine) size (c .before .if2 .left) _ refl)
     (c .continued .ensures ∙ more-record (e .engine) size (c .before .if2 .left))
-    (rw (c .before .before .before .before .before .before .before .wrap .ensures, c .before .before .before .before .before .before .before .before .before .write-offset .ensures .0) at (c .before .before .before .before .before .copy-in .ensures))
+    (rw (c .before .before .before .before .before .before .before .wrap .ensures, c .before .before .before .before .before .before .before .before .before .write-offset .ensures) at (c .before .before .before .before .before .copy-in .ensures))
 
 pub piece-spec : {M : Type 1} → statement M
 piece-spec =
     tie.close
     (tie.spec
+    check-requires
     piece-refusal-requires
     returns
     write-offset-requires

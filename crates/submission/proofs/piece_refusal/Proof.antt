@@ -1,4 +1,5 @@
 use Rattle.queue.specs.Refusals.{firstRefusal}
+use Rattle.record.proofs.Checking.{checked-valid}
 use borrow.Author.Needs.{needs}
 use Rattle.submission.proofs.piece_refusal.Statement.{statement}
 use Rattle.submission.proofs.piece_refusal.Tie as tie
@@ -21,15 +22,19 @@ first-refusal-requires-2 c κs = search needs
 first-refusal-requires-3 : tie.Need-first-refusal-requires-3
 first-refusal-requires-3 c κs = search needs
 
-is-valid-requires : tie.Need-is-valid-requires
-is-valid-requires c κs = search needs
-
 first-refusal-requires-4 : tie.Need-first-refusal-requires-4
 first-refusal-requires-4 c κs = search needs
 
 returns : tie.Need-returns
 unfolding firstRefusal
-returns c = rw (c .first-refusal4 .ensures, c .before .is-valid .ensures, c .before .before .first-refusal3 .ensures, c .before .before .before .before .first-refusal2 .ensures, c .before .before .before .before .before .is-open .ensures, c .before .before .before .before .before .before .first-refusal .ensures, c .before .before .before .before .before .before .before .missing-bytes .ensures, c .before .before .before .before .before .before .before .before .staged-by .ensures)
+returns c =
+    let r3 = c .before .before in
+    let r2 = r3 .before .before in
+    let r1 = r2 .before .before in
+    let l = r1 .before in
+    let o = l .before in
+    let st = o .before .before .before in
+    rw (c .first-refusal4 .ensures, checked-valid (st .args .engine) (st .args .found) (st .pre), r3 .first-refusal3 .ensures, r2 .first-refusal2 .ensures, r2 .before .is-open .ensures, r1 .first-refusal .ensures, l .missing-bytes .ensures, o .staged-by .ensures)
 
 pub piece-refusal-spec : {M : Type 1} → statement M
 piece-refusal-spec =
@@ -41,6 +46,5 @@ piece-refusal-spec =
     is-open-requires
     first-refusal-requires-2
     first-refusal-requires-3
-    is-valid-requires
     first-refusal-requires-4
     returns)

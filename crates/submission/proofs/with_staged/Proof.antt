@@ -1,6 +1,5 @@
 use mathlib.Core.Path.{refl}
 use Rattle.queue.specs.Calls.{withStaged}
-use borrow.Author.Needs.{needs}
 use Rattle.submission.proofs.with_staged.Statement.{statement}
 use Rattle.submission.proofs.with_staged.Tie as tie
 

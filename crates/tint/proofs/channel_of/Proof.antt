@@ -2,9 +2,9 @@ use mathlib.Core.Path.{_≡_, _∙_}
 use Prim.Native.Nat.{_*_, _≤_}
 use native.Mathlib.Omega.{arith}
 use borrow.Author.Needs.{needs}
-use Rattle.pixel.specs.Alpha.{div255}
-use Rattle.pixel.proofs.Division.{division}
-use Rattle.pixel.proofs.Products.{product-small}
+use Rattle.division.specs.Division.{div255}
+use Rattle.division.proofs.Division.{division}
+use Rattle.division.proofs.Products.{product-small}
 use Rattle.tint.proofs.channel_of.Statement.{statement}
 use Rattle.tint.proofs.channel_of.Tie as tie
 

@@ -1,4 +1,4 @@
-//! Every fault at every place of a batch, in a ring that it wraps in, and which of two faults is told.
+//! Every fault at every place of a batch, in a ring that it wraps in, and which of two faults is answered.
 use super::rules::{passing, written};
 use crate::bench::{bench, read_from, under};
 use crate::trials::{Agreed, Trials};

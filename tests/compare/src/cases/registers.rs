@@ -4,7 +4,7 @@ use crate::bench::bench;
 use crate::trials::{Agreed, Trials};
 use independent::engine::Numbers;
 
-/// A register is written by the only group of a batch. What an allowed word does is then told by 25.
+/// A register is written by the only group of a batch. Fault 25 then shows what an allowed word does.
 const SMALL: Numbers = Numbers { ring: 128, memory: 32, common: 8 };
 
 pub fn compare(trials: &mut Trials) -> Agreed {

@@ -1,5 +1,5 @@
 use Rattle.plan.proofs.Factors.{source-is, destination-is, source-small, destination-small}
-use Rattle.pixel.specs.Alpha.{div255}
+use Rattle.division.specs.Division.{div255}
 use Rattle.pixel.specs.Blending.{blendedChannel}
 use mathlib.Core.Path.{_∙_}
 use native.Mathlib.Omega.{arith}

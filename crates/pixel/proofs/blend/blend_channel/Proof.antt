@@ -2,8 +2,8 @@ use mathlib.Core.Path.{_≡_, ap, _∙_}
 use Prim.Native.Nat.{min}
 use native.Mathlib.Omega.{arith}
 use Rattle.pixel.specs.Blending.{blendedChannel}
-use Rattle.pixel.specs.Alpha.{div255}
-use Rattle.pixel.proofs.Division.{division}
+use Rattle.division.specs.Division.{div255}
+use Rattle.division.proofs.Division.{division}
 use borrow.Author.Needs.{needs}
 use Rattle.pixel.proofs.blend.blend_channel.Statement.{statement}
 use Rattle.pixel.proofs.blend.blend_channel.Tie as tie

@@ -8,8 +8,8 @@ unfolding outputOverlaps
 returns c =
     simp (
       c .before .before .before .before .is-buffer .ensures,
-      c .before .before .before .meets .ensures,
-      c .before .before .meets2 .ensures,
+      c .before .before .before .surfaces-overlap .ensures,
+      c .before .before .surfaces-overlap2 .ensures,
       c .is-alias .ensures,
     )
 

@@ -1,7 +1,7 @@
 use mathlib.Core.Path.{_≡_, ap, _∙_}
 use native.Mathlib.Omega.{arith}
-use Rattle.pixel.specs.Alpha.{div255}
-use Rattle.pixel.proofs.Division.{division}
+use Rattle.division.specs.Division.{div255}
+use Rattle.division.proofs.Division.{division}
 use borrow.Author.Needs.{needs}
 use Rattle.pixel.proofs.blend.AlphaMode.alpha.Statement.{statement}
 use Rattle.pixel.proofs.blend.AlphaMode.alpha.Tie as tie

@@ -1,0 +1,2 @@
+-- Nearest division by 255.
+pub mod Division

@@ -1,0 +1,2 @@
+-- A batch, a step at a time.
+pub mod Batch

@@ -1,0 +1,5 @@
+-- Laws of surfaces that overlap, and of those that do not.
+-- rows that share a byte, and the one row that tells
+pub mod Overlap
+-- two columns on one page
+pub mod Columns

@@ -1,0 +1,2 @@
+-- Whether two surfaces share a byte.
+pub mod Overlap

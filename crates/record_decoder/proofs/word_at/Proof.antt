@@ -1,0 +1,18 @@
+use Rattle.word.proofs.Words.{getD-words}
+use native.Mathlib.Omega.{arith}
+use mathlib.Core.Path.{sym, _∙_}
+use borrow.Author.Needs.{needs}
+use Rattle.record_decoder.proofs.word_at.Statement.{statement}
+use Rattle.record_decoder.proofs.word_at.Tie as tie
+
+mul-read-le32 : tie.Need-mul-read-le32
+mul-read-le32 c = search needs
+
+read-le32-requires : tie.Need-read-le32-requires
+read-le32-requires c κs = search needs
+
+returns : tie.Need-returns
+returns c = c .read-le32 .ensures ∙ sym (getD-words (c .before .before .args .k) (c .before .before .args .bytes .now) (omega arith))
+
+pub word-at-spec : {M : Type 1} → statement M
+word-at-spec = tie.close (tie.spec mul-read-le32 read-le32-requires returns)

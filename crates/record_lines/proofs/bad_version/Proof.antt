@@ -1,0 +1,25 @@
+use native.Mathlib.Omega.{arith}
+use Rattle.records.specs.Records.{badVersion}
+use Rattle.lines.specs.Lines.{endingLine}
+use Rattle.record_lines.proofs.Printing.{prints-typed}
+use borrow.Author.Needs.{needs}
+use Rattle.record_lines.proofs.bad_version.Statement.{statement}
+use Rattle.record_lines.proofs.bad_version.Tie as tie
+
+slice-aggregate-copy : tie.Need-slice-aggregate-copy
+slice-aggregate-copy c = search needs
+
+copy-requires : tie.Need-copy-requires
+copy-requires c κs = search needs
+
+same-length : tie.Need-same-length
+same-length c = search needs
+
+returns : tie.Need-returns
+unfolding endingLine
+returns c =
+    let s = c .before .before .before .before .before .before in
+    prints-typed (endingLine badVersion) (s .args .line .now) _ _ (omega arith) (s .pre) (c .before .before .copy .ensures)
+
+pub bad-version-spec : {M : Type 1} → statement M
+bad-version-spec = tie.close (tie.spec slice-aggregate-copy copy-requires same-length returns)

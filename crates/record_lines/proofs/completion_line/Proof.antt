@@ -1,0 +1,73 @@
+use mathlib.Core.Path.{ap, _∙_}
+use Rattle.batch.specs.Batch.{statusWordOf, faultNumberOf, faultOffsetOf}
+use Rattle.text.specs.Hex.{hexWord}
+use Rattle.record_lines.proofs.Printing.{hex-rest, completion-prints}
+use borrow.Author.Needs.{needs}
+use Rattle.record_lines.proofs.completion_line.Statement.{statement}
+use Rattle.record_lines.proofs.completion_line.Tie as tie
+
+decimal-requires : tie.Need-decimal-requires
+decimal-requires c κs = search needs
+
+field-requires : tie.Need-field-requires
+field-requires c κs = search needs
+
+push-requires : tie.Need-push-requires
+push-requires c κs = search needs
+
+status-requires : tie.Need-status-requires
+status-requires c κs = search needs
+
+hex-word-requires : tie.Need-hex-word-requires
+hex-word-requires c κs = search needs
+
+number-requires : tie.Need-number-requires
+number-requires c κs = search needs
+
+cast-field : tie.Need-cast-field
+cast-field c = search needs
+
+field-requires-2 : tie.Need-field-requires-2
+field-requires-2 c κs = search needs
+
+offset-requires : tie.Need-offset-requires
+offset-requires c κs = search needs
+
+field-requires-3 : tie.Need-field-requires-3
+field-requires-3 c κs = search needs
+
+push-requires-2 : tie.Need-push-requires-2
+push-requires-2 c κs = search needs
+
+same-length : tie.Need-same-length
+same-length c = search needs
+
+returns : tie.Need-returns
+returns c =
+    let s = c .before .before .before .before .before .before .before .before .before .before .before .before .before .before .before .before .before .before .before .before .before .before .before .before .before .before .before .before .before .before .before .before in
+    let v = s .args .verdict in
+    let client = c .before .before .before .before .before .before .before .before .before .before .before .before .before .before .before .before .before .before .before .before .before .before .before .before .before .before .before .before .before .decimal .ensures in
+    let ticket = c .before .before .before .before .before .before .before .before .before .before .before .before .before .before .before .before .before .before .before .before .before .before .before .before .before .field .ensures in
+    let fault = c .before .before .before .before .before .before .before .before .before .before .before .field2 .ensures in
+    let offset = c .before .before .before .before .before .before .field3 .ensures in
+    completion-prints _ _ _ (s .pre) (s .args .client) (s .args .ticket) (record { status = statusWordOf v; fault = faultNumberOf v; offset = faultOffsetOf v }) _ _ _ _ _ _ _ _ _
+    (client .1) (ticket .1) (fault .1) (offset .1) (ap hexWord (c .before .before .before .before .before .before .before .before .before .before .before .before .before .before .before .before .before .status .ensures) ∙ hex-rest (statusWordOf v)) (c .before .before .before .before .before .before .before .before .before .before .before .before .number .ensures) (c .before .before .before .before .before .before .before .offset .ensures)
+    (client .0) (ticket .0) (c .before .before .before .before .before .before .before .before .before .before .before .before .before .before .before .before .before .before .before .before .before .push .ensures) (c .before .before .before .before .before .before .before .before .before .before .before .before .before .before .before .before .hex-word .ensures) (fault .0) (offset .0) (c .before .before .push2 .ensures)
+
+pub completion-line-spec : {M : Type 1} → statement M
+completion-line-spec =
+    tie.close
+    (tie.spec
+    decimal-requires
+    field-requires
+    push-requires
+    status-requires
+    hex-word-requires
+    number-requires
+    cast-field
+    field-requires-2
+    offset-requires
+    field-requires-3
+    push-requires-2
+    same-length
+    returns)

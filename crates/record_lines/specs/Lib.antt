@@ -1,0 +1,2 @@
+-- A line printed into a buffer that is lent.
+pub mod Prints

@@ -1,0 +1,2 @@
+-- Laws of a record submitted and run.
+pub mod Serving

@@ -1,0 +1,95 @@
+use native.Mathlib.Omega.{arith}
+use lib.ListN.{length}
+use borrow.Author.Tests.{not-true, not-false}
+use Rattle.lines.specs.Lines.{badScoreLine}
+use Rattle.record_lines.proofs.Printing.{prints-typed}
+use Rattle.serving.proofs.Serving.{lies-some, record-bad, record-good}
+use borrow.Author.Needs.{needs}
+use Rattle.serving.proofs.serve_record.Statement.{statement}
+use Rattle.serving.proofs.serve_record.Tie as tie
+use Rattle.serving.proofs.serve_record.Reads as reads
+use Rattle.serving.proofs.serve_record.Lts as lts
+use Rattle.editions.proofs.score_in.Reads as score-in-reads
+use Rattle.records.proofs.Edition.batch_start.Reads as batch-start-reads
+use Rattle.serving.proofs.serve.Reads as serve-reads
+use Rattle.text.proofs.line.copy.Reads as copy-reads
+
+score-in-requires : tie.Need-score-in-requires
+score-in-requires c κs = search needs
+
+slice-aggregate-copy : tie.Need-slice-aggregate-copy
+slice-aggregate-copy c = search needs
+
+copy-requires : tie.Need-copy-requires
+copy-requires c κs = search needs
+
+same-length : tie.Need-same-length
+same-length c = search needs
+
+returns : tie.Need-returns
+unfolding badScoreLine
+returns c =
+    let s = c .before .before .before .before .before .before .before .before .before .before .before in
+    let a = s .args in
+    let score = c .before .before .before .before .before .before .score-in in
+    record-bad (a .edition) (a .engine) (a .ring .now) (a .memory .now) (a .held .now) (a .line .now) (a .end) (s .pre .0) (score .result) _ _ (score .ensures) (not-true (score .result) (c .before .before .before .before .before .if1 .taken)) (prints-typed badScoreLine (a .line .now) _ _ (omega arith) (s .pre .1) (c .before .before .copy .ensures))
+
+batch-start-requires : tie.Need-batch-start-requires
+batch-start-requires c κs = search needs
+
+shared-slice-read-serve : tie.Need-shared-slice-read-serve
+shared-slice-read-serve c =
+    let s = c .before .before .before .before .before .before .before .before .before .before in
+    omega (arith, lies-some (s .args .edition) (s .args .end) (length (s .args .held .now)) (s .pre .0))
+
+cast-serve : tie.Need-cast-serve
+cast-serve c = omega (arith, c .shared-slice-known2 .given 4)
+
+sub-serve : tie.Need-sub-serve
+sub-serve c = search needs
+
+part-serve-start : tie.Need-part-serve-start
+part-serve-start c = search needs
+
+part-serve-end : tie.Need-part-serve-end
+part-serve-end c = search needs
+
+serve-requires : tie.Need-serve-requires
+serve-requires c κs = search needs
+
+same-length-2 : tie.Need-same-length-2
+same-length-2 c = search needs
+
+same-length-3 : tie.Need-same-length-3
+same-length-3 c = search needs
+
+same-length-4 : tie.Need-same-length-4
+same-length-4 c = search needs
+
+returns-2 : tie.Need-returns-2
+returns-2 c =
+    let s = c .before .before .before .before .before .before .before .before .before .before .before .before .before .before .before .before .before .before .before in
+    let a = s .args in
+    let score = c .before .before .before .before .before .before .before .before .before .before .before .before .before .before .score-in in
+    record-good (a .edition) (a .engine) (a .ring .now) (a .memory .now) (a .held .now) (a .line .now) (a .end) (s .pre .0) (score .result) _ _ _ _ _ (score .ensures) (not-false (score .result) (c .before .before .before .before .before .before .before .before .before .before .before .before .before .if1 .left)) (c .before .before .before .before .before .before .before .before .before .before .before .before .batch-start .ensures) (c .before .before .before .before .before .before .serve .ensures)
+
+pub serve-record-spec : {M : Type 1} → statement M
+serve-record-spec =
+    tie.close
+    (tie.spec
+    score-in-requires
+    slice-aggregate-copy
+    copy-requires
+    same-length
+    returns
+    batch-start-requires
+    shared-slice-read-serve
+    cast-serve
+    sub-serve
+    part-serve-start
+    part-serve-end
+    serve-requires
+    same-length-2
+    same-length-3
+    same-length-4
+    returns-2)

@@ -1,0 +1,2 @@
+-- What the call that serves a record leaves.
+pub mod Serves
