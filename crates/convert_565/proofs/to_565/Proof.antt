@@ -1,79 +1,60 @@
 use Rattle.pixel.specs.declared.format.Format.the-variants.{Rgb565}
-use Rattle.word.specs.Word.{le32At}
+use Rattle.lanes.specs.Lanes.{Done}
+use Rattle.lanes.proofs.Passes.{none-done}
 use Rattle.rows.specs.Row.{colourIn}
+use Rattle.row_colours.specs.Line.{pixelByte}
 use Rattle.row_colours.proofs.Colours.{Row}
 use Rattle.row_colours.proofs.Stored.{row-done}
-use Rattle.convert_565.proofs.Pixels.{odd-more, narrow-is}
-use Prim.Native.Nat.{ℕ, _+_, _*_, _/_}
-use mathlib.Core.Path.{_≡_, ap, _∙_}
+use Rattle.convert_565.proofs.Pixels.{two-more, narrow-is}
+use Prim.Native.Nat.{_*_, _-_, _≤_}
+use mathlib.Core.Path.{_≡_, _∙_}
 use native.Mathlib.Omega.{arith}
-use denote.Ref.{now}
 use borrow.Author.Needs.{needs}
+use lib.ListN.{length}
+use denote.Ref.{now}
 use Rattle.convert_565.proofs.to_565.Statement.{statement}
 use Rattle.convert_565.proofs.to_565.Tie as tie
 
-narrow-pairs-requires : tie.Need-narrow-pairs-requires
-narrow-pairs-requires c κs = search needs
+abbrev Inv-loop : tie.InvT-loop
+Inv-loop d₀ s width x₀ d x = ((x ≤ width) × (length d ≡ length d₀)) × Done (pixelByte Rgb565 (λ k. colourIn s k)) d₀ d 0 (x * 2)
 
-same-length : tie.Need-same-length
-same-length c = search needs
+abbrev μ-loop : tie.MeasureT-loop
+μ-loop d₀ s width x₀ d x = width - x
 
-returns : tie.Need-returns
-returns c =
-    let f = c .before .before .before in
-    row-done _ _ _ _ _ (f .narrow-pairs .kept .0) (omega arith) (f .narrow-pairs .ensures)
-
-mul-put2 : tie.Need-mul-put2
-mul-put2 c = search needs
-
-mul-read-le32 : tie.Need-mul-read-le32
-mul-read-le32 c = search needs
-
-read-le32-requires : tie.Need-read-le32-requires
-read-le32-requires c κs = search needs
-
-narrow-requires : tie.Need-narrow-requires
-narrow-requires c κs = search needs
-
-cast-put2 : tie.Need-cast-put2
-cast-put2 c = search needs
-
-put2-requires : tie.Need-put2-requires
-put2-requires c κs = search needs
-
-same-length-2 : tie.Need-same-length-2
-same-length-2 c = search needs
-
-returns-2 : tie.Need-returns-2
-returns-2 c =
+loop-again : tie.Need-loop-again Inv-loop μ-loop
+loop-again c =
     let f = c .before .before in
     let v = f .before in
     let r = v .before in
-    let g = r .before .before .before in
-    let q = g .before .before in
-    let k = q .before .before in
+    let b = r .before .before .before in
+    let k = b .before in
     let a = k .before .before in
     let s = now (a .args .s) in
-    let n : ℕ = a .args .width / 2 in
-    let in-s : Row s = λ j. omega (arith, k .shared-slice-known .given j) in
-    let i : n * 8 ≡ n * 2 * 4 = omega arith in
-    row-done Rgb565 (λ x. colourIn s x) (now (a .args .d)) (f .put2 .last .0) (n * 4 + 2) (f .put2 .kept .0 ∙ q .narrow-pairs .kept .0) (omega arith)
-    (odd-more (λ x. colourIn s x) (now (a .args .d)) (q .narrow-pairs .last .0) (f .put2 .last .0) (n * 4) (n * 2) (v .narrow .result) (omega arith)
-    (v .narrow .ensures .0 ∙ narrow-is s (n * 2) (r .read-le32 .result) in-s (omega arith) (r .read-le32 .ensures ∙ ap (le32At s) i)) (v .narrow .ensures .1)
-    (f .put2 .ensures .0) (f .put2 .ensures .1 .0) (f .put2 .ensures .1 .1 .0) (f .put2 .ensures .1 .1 .1) (q .narrow-pairs .ensures))
+    let in-s : Row s = λ j. omega (arith, k .shared-slice-known .given j) in (
+      search needs,
+      two-more (λ n. colourIn s n) (now (a .args .d)) (b .loop .d) (f .put2 .last .0) (b .loop .x) (v .narrow .result)
+          (v .narrow .ensures .0 ∙ narrow-is s (b .loop .x) (r .read-le32 .result) in-s (omega arith) (r .read-le32 .ensures)) (v .narrow .ensures .1)
+          (f .put2 .ensures .0) (f .put2 .ensures .1 .0) (f .put2 .ensures .1 .1 .0) (f .put2 .ensures .1 .1 .1) (b .loop .inv .1),
+    )
+
+returns : tie.Need-returns Inv-loop μ-loop
+returns c = row-done _ _ _ _ _ (c .before .loop .inv .0 .1) (omega arith) (c .before .loop .inv .1)
 
 pub to-565-spec : {M : Type 1} → statement M
 to-565-spec =
     tie.close
     (tie.spec
-    narrow-pairs-requires
-    same-length
-    returns
-    mul-put2
-    mul-read-le32
-    read-le32-requires
-    narrow-requires
-    cast-put2
-    put2-requires
-    same-length-2
-    returns-2)
+    Inv-loop
+    μ-loop
+    (λ c. (search needs, none-done _ _ _))
+    (λ c. search needs)
+    (λ c. search needs)
+    (λ c κs. search needs)
+    (λ c κs. search needs)
+    (λ c. search needs)
+    (λ c κs. search needs)
+    (λ c. search needs)
+    (λ c. search needs)
+    loop-again
+    (λ c. search needs)
+    returns)
