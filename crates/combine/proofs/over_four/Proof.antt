@@ -1,5 +1,5 @@
 use Rattle.pixel.specs.Rules.{blendModeFactors}
-use Rattle.pixel.specs.declared.blend.RuleName.the-variants.{SrcOver}
+use Rattle.pixel.specs.declared.blend.BlendMode.the-variants.{SrcOver}
 use Rattle.plan.proofs.Blends.{Bytes}
 use Rattle.combine.proofs.Fours.{over-two, four-done}
 use mathlib.Core.Path.{_∙_}

@@ -4,7 +4,7 @@ use borrow.Author.Needs.{needs}
 use borrow.Author.Tests.{not-true, not-false}
 use Rattle.record.proofs.Rules.{numbers, valid-not, valid-not-settled, valid-rest, settled}
 use Rattle.word.proofs.Tests.{and-true}
-use Rattle.record.specs.declared.Record.{Record}
+use Rattle.record.specs.declared.EngineRecord.{EngineRecord}
 use Rattle.record.specs.Rules.{numberRules, windowsRule, batchRules, pendingRule}
 use Rattle.record.proofs.rules_kept.Statement.{statement}
 use Rattle.record.proofs.rules_kept.Tie as tie
@@ -41,7 +41,7 @@ all : (c : tie.Else2) → settled (c .before .before .before .before .before .be
 all c = sym (tested (c .before)) ∙ not-false _ (c .if2 .left)
 
 staged-valid-requires : tie.Need-staged-valid-requires
-staged-valid-requires c κs = let engine : Record = c .before .before .before .before .before .before .before .before .before .args .engine in
+staged-valid-requires c κs = let engine : EngineRecord = c .before .before .before .before .before .before .before .before .before .args .engine in
     let x = and-true (windowsRule engine && batchRules engine) (pendingRule engine) (all c) in
     (right (c .before .before .before .before .before .before .before), and-true (windowsRule engine) (batchRules engine) (x .0) .1)
 

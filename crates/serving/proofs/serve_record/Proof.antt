@@ -11,7 +11,7 @@ use Rattle.serving.proofs.serve_record.Reads as reads
 use Rattle.serving.proofs.serve_record.Lts as lts
 use Rattle.editions.proofs.score_in.Reads as score-in-reads
 use Rattle.records.proofs.Edition.batch_start.Reads as batch-start-reads
-use Rattle.serving.proofs.serve.Reads as serve-reads
+use Rattle.serving.proofs.submit_and_run.Reads as serve-reads
 use Rattle.text.proofs.line.copy.Reads as copy-reads
 
 score-in-requires : tie.Need-score-in-requires
@@ -45,17 +45,17 @@ shared-slice-read-serve c =
 cast-serve : tie.Need-cast-serve
 cast-serve c = omega (arith, c .shared-slice-known2 .given 4)
 
-sub-serve : tie.Need-sub-serve
-sub-serve c = search needs
+sub-submit-and-run : tie.Need-sub-submit-and-run
+sub-submit-and-run c = search needs
 
-part-serve-start : tie.Need-part-serve-start
-part-serve-start c = search needs
+part-submit-and-run-start : tie.Need-part-submit-and-run-start
+part-submit-and-run-start c = search needs
 
-part-serve-end : tie.Need-part-serve-end
-part-serve-end c = search needs
+part-submit-and-run-end : tie.Need-part-submit-and-run-end
+part-submit-and-run-end c = search needs
 
-serve-requires : tie.Need-serve-requires
-serve-requires c κs = search needs
+submit-and-run-requires : tie.Need-submit-and-run-requires
+submit-and-run-requires c κs = search needs
 
 same-length-2 : tie.Need-same-length-2
 same-length-2 c = search needs
@@ -71,7 +71,7 @@ returns-2 c =
     let s = c .before .before .before .before .before .before .before .before .before .before .before .before .before .before .before .before .before .before .before in
     let a = s .args in
     let score = c .before .before .before .before .before .before .before .before .before .before .before .before .before .before .score-in in
-    record-good (a .edition) (a .engine) (a .ring .now) (a .memory .now) (a .held .now) (a .line .now) (a .end) (s .pre .0) (score .result) _ _ _ _ _ (score .ensures) (not-false (score .result) (c .before .before .before .before .before .before .before .before .before .before .before .before .before .if1 .left)) (c .before .before .before .before .before .before .before .before .before .before .before .before .batch-start .ensures) (c .before .before .before .before .before .before .serve .ensures)
+    record-good (a .edition) (a .engine) (a .ring .now) (a .memory .now) (a .held .now) (a .line .now) (a .end) (s .pre .0) (score .result) _ _ _ _ _ (score .ensures) (not-false (score .result) (c .before .before .before .before .before .before .before .before .before .before .before .before .before .if1 .left)) (c .before .before .before .before .before .before .before .before .before .before .before .before .batch-start .ensures) (c .before .before .before .before .before .before .submit-and-run .ensures)
 
 pub serve-record-spec : {M : Type 1} → statement M
 serve-record-spec =
@@ -85,10 +85,10 @@ serve-record-spec =
     batch-start-requires
     shared-slice-read-serve
     cast-serve
-    sub-serve
-    part-serve-start
-    part-serve-end
-    serve-requires
+    sub-submit-and-run
+    part-submit-and-run-start
+    part-submit-and-run-end
+    submit-and-run-requires
     same-length-2
     same-length-3
     same-length-4

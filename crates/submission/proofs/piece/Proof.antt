@@ -34,16 +34,16 @@ write-offset-requires c κs =
     let ok = allowed e .own .ok in
     (ok, few e, checked-bytes (f .before .before .before .args .engine) (f .check .result) (f .check .ensures .0) ok)
 
-add-wrap : tie.Need-add-wrap
-add-wrap c = let w = c .before .write-offset .ensures in
+add-wrap-offset : tie.Need-add-wrap-offset
+add-wrap-offset c = let w = c .before .write-offset .ensures in
     let e = c .before .before .before .before .before .before .before .before .before .args in
     omega (arith, w, piece-offset-small (e .engine) (length (e .ring .now)) (e .client) (length (e .piece .now)) (few (c .before .before .before .before)) (allowed (c .before .before .before .before)))
 
-wrap-requires : tie.Need-wrap-requires
-wrap-requires c κs = search needs
+wrap-offset-requires : tie.Need-wrap-offset-requires
+wrap-offset-requires c κs = search needs
 
 copy-in-requires : tie.Need-copy-in-requires
-copy-in-requires c κs = rw (c .before .wrap .ensures, c .before .before .before .write-offset .ensures) (piece-lies (c .before .before .before .before .before .before .before .before .before .before .before .args .engine) (c .before .before .before .before .before .before .before .before .before .before .before .args .ring .now) (c .before .before .before .before .before .before .before .before .before .before .before .args .client) (length (c .before .before .before .before .before .before .before .before .before .before .before .args .piece .now)) (few (c .before .before .before .before .before .before)) (allowed (c .before .before .before .before .before .before)))
+copy-in-requires c κs = rw (c .before .wrap-offset .ensures, c .before .before .before .write-offset .ensures) (piece-lies (c .before .before .before .before .before .before .before .before .before .before .before .args .engine) (c .before .before .before .before .before .before .before .before .before .before .before .args .ring .now) (c .before .before .before .before .before .before .before .before .before .before .before .args .client) (length (c .before .before .before .before .before .before .before .before .before .before .before .args .piece .now)) (few (c .before .before .before .before .before .before)) (allowed (c .before .before .before .before .before .before)))
 
 add-received : tie.Need-add-received
 add-received c = omega (arith, piece-small (c .before .before .before .before .before .before .before .before .before .before .before .before .before .before .before .args .engine) (length (c .before .before .before .before .before .before .before .before .before .before .before .before .before .before .before .args .ring .now)) (c .before .before .before .before .before .before .before .before .before .before .before .before .before .before .before .args .client) (length (c .before .before .before .before .before .before .before .before .before .before .before .before .before .before .before .args .piece .now)) (allowed (c .before .before .before .before .before .before .before .before .before .before)) .0)
@@ -63,7 +63,7 @@ returns-2 c = let e = c .before .before .before .before .before .before .before 
     piece-done (e .engine) (e .ring .now) (e .client) (e .piece .now) (c .before .before .before .before .before .before .before .before .before .before .before .before .before .piece-refusal .result) (c .before .before .before .before .before .before .before .before .before .before .before .before .before .piece-refusal .ensures) (c .before .before .before .before .before .before .before .before .before .before .before .before .if1 .left) (Accepted (e .engine .next)) (c .finished .result) _
     (last-answer (e .engine) size (c .before .if2 .taken))
     (c .finished .ensures ∙ last-record (e .engine) size (c .before .if2 .taken))
-    (rw (c .before .before .before .before .before .before .before .wrap .ensures, c .before .before .before .before .before .before .before .before .before .write-offset .ensures) at (c .before .before .before .before .before .copy-in .ensures))
+    (rw (c .before .before .before .before .before .before .before .wrap-offset .ensures, c .before .before .before .before .before .before .before .before .before .write-offset .ensures) at (c .before .before .before .before .before .copy-in .ensures))
 
 sub-left : tie.Need-sub-left
 sub-left c = allowed (c .before .before .before .before .before .before .before .before .before .before .before) .fits
@@ -83,7 +83,7 @@ returns-3 c = let e = c .before .before .before .before .before .before .before 
     piece-done (e .engine) (e .ring .now) (e .client) (e .piece .now) (c .before .before .before .before .before .before .before .before .before .before .before .before .before .piece-refusal .result) (c .before .before .before .before .before .before .before .before .before .before .before .before .before .piece-refusal .ensures) (c .before .before .before .before .before .before .before .before .before .before .before .before .if1 .left) _ (c .continued .result) _
     (more-answer (e .engine) size (c .before .if2 .left) _ refl)
     (c .continued .ensures ∙ more-record (e .engine) size (c .before .if2 .left))
-    (rw (c .before .before .before .before .before .before .before .wrap .ensures, c .before .before .before .before .before .before .before .before .before .write-offset .ensures) at (c .before .before .before .before .before .copy-in .ensures))
+    (rw (c .before .before .before .before .before .before .before .wrap-offset .ensures, c .before .before .before .before .before .before .before .before .before .write-offset .ensures) at (c .before .before .before .before .before .copy-in .ensures))
 
 pub piece-spec : {M : Type 1} → statement M
 piece-spec =
@@ -93,8 +93,8 @@ piece-spec =
     piece-refusal-requires
     returns
     write-offset-requires
-    add-wrap
-    wrap-requires
+    add-wrap-offset
+    wrap-offset-requires
     copy-in-requires
     add-received
     finished-requires

@@ -13,11 +13,11 @@ use Rattle.ring.specs.Segment.{batchWords}
 use Rattle.register.specs.Task.{taskOf}
 use Rattle.rules.specs.declared.fault.Fault.{Fault}
 use Rattle.rules.specs.Rules.{checkTask}
-use Rattle.batch.specs.declared.walk.Step.{Step}
-use Rattle.batch.specs.declared.walk.Step.the-variants.{Faulty as Stop}
+use Rattle.batch.specs.declared.walk.WalkStep.{WalkStep}
+use Rattle.batch.specs.declared.walk.WalkStep.the-variants.{Faulty as Stop}
 use Rattle.batch.specs.Batch.{inside, reservedBits, groupOf}
 use Rattle.batch.specs.Walk.{stepFrom, stepAt}
-use Rattle.batch.proofs.Ways.{words-fit, next-group, open-task, ended, reserved, bad-length, open-group, refused, taken}
+use Rattle.batch.proofs.DecoderCases.{words-fit, next-group, open-task, ended, reserved, bad-length, open-group, refused, taken}
 use Rattle.batch.proofs.walk.step_from.Statement.{statement}
 use Rattle.batch.proofs.walk.step_from.Tie as tie
 
@@ -120,8 +120,8 @@ loop-again c =
           ∙ taken (s .args .bounds) (Ws s) (l .held) (l .at) (w .result) (omega (arith, n, l .inv .1)) (w .ensures) (l .left) (l .register) _ _ _ (c .before .before .before .before .before .loop-test .taken) e,
     )
 
-mul-finish : tie.Need-mul-finish Inv-loop μ-loop Inv-groups μ-groups
-mul-finish c = omega (arith, small (c .before .before .before .before .before .before .before .before), c .before .before .before .before .before .before .before .groups .inv .1)
+mul-check-at-task-end : tie.Need-mul-check-at-task-end Inv-loop μ-loop Inv-groups μ-groups
+mul-check-at-task-end c = omega (arith, small (c .before .before .before .before .before .before .before .before), c .before .before .before .before .before .before .before .groups .inv .1)
 
 mul-t35 : tie.Need-mul-t35 Inv-loop μ-loop Inv-groups μ-groups
 mul-t35 c = omega (arith, small (c .before .before .before .before .before .before .before .before .before), c .before .before .before .before .before .before .before .before .groups .inv .1)
@@ -179,7 +179,7 @@ returns-4 c =
     let z : l .left ≡ 0 = omega (arith, c .before .before .loop-test .left) in
     let h = c .before .before .before .before .before .before .before .word-at .result in
     let e : eqb (field 0 0 h) 1 ≡ true = eq-eqb (field 0 0 h) 1 (omega (arith, c .before .if3 .taken)) in
-    c .finish .ensures ∙ sym ((rw (z, e) at (here (c .before .before .before))) ∙ ended (s .args .bounds) (Ws s) (l .held) (l .at) _ _)
+    c .check-at-task-end .ensures ∙ sym ((rw (z, e) at (here (c .before .before .before))) ∙ ended (s .args .bounds) (Ws s) (l .held) (l .at) _ _)
 
 returns-5 : tie.Need-returns-5 Inv-loop μ-loop Inv-groups μ-groups
 returns-5 c =
@@ -220,7 +220,7 @@ step-from-spec =
     sub-left
     loop-less
     loop-again
-    mul-finish
+    mul-check-at-task-end
     (λ c κs. search needs)
     mul-t35
     groups-less
