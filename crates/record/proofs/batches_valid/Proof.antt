@@ -40,9 +40,11 @@ slot-of-age-requires : tie.Need-slot-of-age-requires Inv-loop μ-loop
 slot-of-age-requires c κs = omega arith
 
 returns : tie.Need-returns Inv-loop μ-loop
-returns c = let l = c .before .before .before in
+returns c =
+    let c₆ = c .before .before .before .before .before .before in
+    let l = c .before .before .before in
     let p = c .before .slot-of-age in
-    walk-missing _ _ _ _ _ _ _ (c .before .before .loop-test .taken) (p .result) (p .ensures) (omega (arith, c .before .before .before .before .before .before .pre .4)) ∙ l .loop .inv .3 ∙ decided (c .before .before .before .before .before .before)
+    walk-missing _ _ _ _ _ _ _ (c .before .before .loop-test .taken) (p .result) (p .ensures) (omega (arith, c₆ .pre .4)) ∙ l .loop .inv .3 ∙ decided c₆
 
 mul-batch-of : tie.Need-mul-batch-of Inv-loop μ-loop
 mul-batch-of c = omega arith
@@ -60,11 +62,14 @@ fits-in-requires : tie.Need-fits-in-requires Inv-loop μ-loop
 fits-in-requires c κs = search needs
 
 returns-2 : tie.Need-returns-2 Inv-loop μ-loop
-returns-2 c = let l = c .before .before .before .before .before .before .before .before in
+returns-2 c =
+    let c₇ = c .before .before .before .before .before .before .before in
+    let l = c₇ .before in
+    let c₁₁ = l .before .before .before in
     let p = c .before .before .before .before .before .before .slot-of-age in
     let j = c .before .before .before .batch-of in
     let e = sym (told (c .before)) ∙ not-true _ (c .if2 .taken) in
-    walk-unfit _ _ _ _ _ _ _ (c .before .before .before .before .before .before .before .loop-test .taken) (p .result) (p .ensures) (omega (arith, c .before .before .before .before .before .before .before .before .before .before .before .pre .4)) (j .result) (j .ensures) e ∙ l .loop .inv .3 ∙ decided (c .before .before .before .before .before .before .before .before .before .before .before)
+    walk-unfit _ _ _ _ _ _ _ (c₇ .loop-test .taken) (p .result) (p .ensures) (omega (arith, c₁₁ .pre .4)) (j .result) (j .ensures) e ∙ l .loop .inv .3 ∙ decided c₁₁
 
 add-wrap-offset : tie.Need-add-wrap-offset Inv-loop μ-loop
 add-wrap-offset c = let f = fits c .within in omega arith

@@ -30,7 +30,8 @@ overlaps-requires : tie.Need-overlaps-requires Inv-loop μ-loop
 overlaps-requires c κs = search needs
 
 returns : tie.Need-returns Inv-loop μ-loop
-returns c = let st = c .before .before .before .before .before .before .before .before in
+returns c =
+    let st = c .before .before .before .before .before .before .before .before in
     let l = c .before .before .before .before .before .before .before in
     let g = st .good .0 .1 .0 .1 in
     shares-found (st .args .t1) (l .loop .i) (omega arith) (st .args .bytes) (c .before .before .before .new .result) (c .before .before .before .new .ensures) (c .before .before .overlaps .result) (c .before .before .overlaps .ensures) (c .if1 .taken) ∙ l .loop .inv
@@ -42,7 +43,8 @@ loop-less : tie.Need-loop-less Inv-loop μ-loop
 loop-less c = omega arith
 
 loop-again : tie.Need-loop-again Inv-loop μ-loop
-loop-again c = let st = c .before .before .before .before .before .before .before .before in
+loop-again c =
+    let st = c .before .before .before .before .before .before .before .before in
     let l = c .before .before .before .before .before .before .before in
     let g = st .good .0 .1 .0 .1 in
     shares-next (st .args .t1) (l .loop .i) (omega arith) (st .args .bytes) (c .before .before .before .new .result) (c .before .before .before .new .ensures) (c .before .before .overlaps .result) (c .before .before .overlaps .ensures) (c .if1 .left) ∙ l .loop .inv

@@ -21,11 +21,14 @@ min-usize-requires : tie.Need-min-usize-requires
 min-usize-requires c κs = search needs
 
 slice-aggregate-copy-in : tie.Need-slice-aggregate-copy-in
-slice-aggregate-copy-in c = sym (length-take-le (c .before .before .min-usize .result) (c .before .before .before .before .before .before .before .args .input .now) (omega arith))
+slice-aggregate-copy-in c =
+    let c₇ = c .before .before .before .before .before .before .before in
+    sym (length-take-le (c .before .before .min-usize .result) (c₇ .args .input .now) (omega arith))
 
 copy-in-requires : tie.Need-copy-in-requires
 copy-in-requires c κs =
-    let size = length-take-le (c .before .before .min-usize .result) (c .before .before .before .before .before .before .before .args .input .now) (omega arith) in
+    let c₇ = c .before .before .before .before .before .before .before in
+    let size = length-take-le (c .before .before .min-usize .result) (c₇ .args .input .now) (omega arith) in
     record { starts = omega arith; fits = omega arith }
 
 add-decide : tie.Need-add-decide

@@ -29,10 +29,11 @@ same-length c = search needs
 returns : tie.Need-returns
 unfolding badScoreLine
 returns c =
-    let s = c .before .before .before .before .before .before .before .before .before .before .before in
+    let c₅ = c .before .before .before .before .before in
+    let s = c₅ .before .before .before .before .before .before in
     let a = s .args in
-    let score = c .before .before .before .before .before .before .score-in in
-    record-bad (a .edition) (a .engine) (a .ring .now) (a .memory .now) (a .held .now) (a .line .now) (a .end) (s .pre .0) (score .result) _ _ (score .ensures) (not-true (score .result) (c .before .before .before .before .before .if1 .taken)) (prints-typed badScoreLine (a .line .now) _ _ (omega arith) (s .pre .1) (c .before .before .copy .ensures))
+    let score = c₅ .before .score-in in
+    record-bad (a .edition) (a .engine) (a .ring .now) (a .memory .now) (a .held .now) (a .line .now) (a .end) (s .pre .0) (score .result) _ _ (score .ensures) (not-true (score .result) (c₅ .if1 .taken)) (prints-typed badScoreLine (a .line .now) _ _ (omega arith) (s .pre .1) (c .before .before .copy .ensures))
 
 batch-start-requires : tie.Need-batch-start-requires
 batch-start-requires c κs = search needs
@@ -68,10 +69,13 @@ same-length-4 c = search needs
 
 returns-2 : tie.Need-returns-2
 returns-2 c =
-    let s = c .before .before .before .before .before .before .before .before .before .before .before .before .before .before .before .before .before .before .before in
+    let c₆ = c .before .before .before .before .before .before in
+    let c₁₂ = c₆ .before .before .before .before .before .before in
+    let c₁₃ = c₁₂ .before in
+    let s = c₁₃ .before .before .before .before .before .before in
     let a = s .args in
-    let score = c .before .before .before .before .before .before .before .before .before .before .before .before .before .before .score-in in
-    record-good (a .edition) (a .engine) (a .ring .now) (a .memory .now) (a .held .now) (a .line .now) (a .end) (s .pre .0) (score .result) _ _ _ _ _ (score .ensures) (not-false (score .result) (c .before .before .before .before .before .before .before .before .before .before .before .before .before .if1 .left)) (c .before .before .before .before .before .before .before .before .before .before .before .before .batch-start .ensures) (c .before .before .before .before .before .before .submit-and-run .ensures)
+    let score = c₁₃ .before .score-in in
+    record-good (a .edition) (a .engine) (a .ring .now) (a .memory .now) (a .held .now) (a .line .now) (a .end) (s .pre .0) (score .result) _ _ _ _ _ (score .ensures) (not-false (score .result) (c₁₃ .if1 .left)) (c₁₂ .batch-start .ensures) (c₆ .submit-and-run .ensures)
 
 pub serve-record-spec : {M : Type 1} → statement M
 serve-record-spec =

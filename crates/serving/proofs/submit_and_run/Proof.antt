@@ -22,9 +22,10 @@ same-length-2 c = search needs
 
 returns : tie.Need-returns
 returns c =
-    let a = c .before .before .before .before .before .before .before .before .before .before .before .before .before .before .before .args in
-    let sub = c .before .before .before .before .before .before .before .before .before .submit .ensures in
-    serves-refused (a .engine) (a .ring .now) (a .memory .now) _ (a .line .now) _ _ _ _ _ (sub .0) (sub .1) _ (c .before .before .before .before .before .number-of .ensures) (c .before .before .before .before .if1 .taken) refl refl (c .before .before .refusal-line .ensures)
+    let c₅ = c .before .before .before .before .before in
+    let a = c₅ .before .before .before .before .before .before .before .before .before .before .args in
+    let sub = c₅ .before .before .before .before .submit .ensures in
+    serves-refused (a .engine) (a .ring .now) (a .memory .now) _ (a .line .now) _ _ _ _ _ (sub .0) (sub .1) _ (c₅ .number-of .ensures) (c .before .before .before .before .if1 .taken) refl refl (c .before .before .refusal-line .ensures)
 
 run-by-requires : tie.Need-run-by-requires
 run-by-requires c κs = search needs
@@ -44,9 +45,12 @@ same-length-5 c = search needs
 
 returns-2 : tie.Need-returns-2
 returns-2 c =
-    let a = c .before .before .before .before .before .before .before .before .before .before .before .before .before .before .before .before .before .before .before .before .before .args in
-    let sub = c .before .before .before .before .before .before .before .before .before .before .before .before .before .before .before .submit .ensures in
-    serves-ran (a .engine) (a .ring .now) (a .memory .now) _ (a .line .now) _ _ _ _ _ (sub .0) (sub .1) _ (sym (c .before .before .before .before .before .before .before .before .before .before .before .number-of .ensures) ∙ c .before .before .before .before .before .before .before .before .before .before .if1 .left) (c .before .before .before .before .before .before .before .run-by .ensures .0) (c .before .before .before .before .before .before .before .run-by .ensures .1) refl (c .before .before .outcome-line .ensures)
+    let c₇ = c .before .before .before .before .before .before .before in
+    let c₁₀ = c₇ .before .before .before in
+    let c₁₁ = c₁₀ .before in
+    let a = c₁₁ .before .before .before .before .before .before .before .before .before .before .args in
+    let sub = c₁₁ .before .before .before .before .submit .ensures in
+    serves-ran (a .engine) (a .ring .now) (a .memory .now) _ (a .line .now) _ _ _ _ _ (sub .0) (sub .1) _ (sym (c₁₁ .number-of .ensures) ∙ c₁₀ .if1 .left) (c₇ .run-by .ensures .0) (c₇ .run-by .ensures .1) refl (c .before .before .outcome-line .ensures)
 
 pub submit-and-run-spec : {M : Type 1} → statement M
 submit-and-run-spec =

@@ -5,7 +5,9 @@ use Rattle.pixel.proofs.blend.BlendFactors.blend.Tie as tie
 
 returns : tie.Need-returns
 unfolding blended
-returns c = simp (c .blend-channel4 .ensures, c .before .blend-channel3 .ensures, c .before .before .blend-channel2 .ensures, c .before .before .before .blend-channel .ensures, c .before .before .before .before .value2 .ensures, c .before .before .before .before .before .value .ensures)
+returns c =
+    let c₅ = c .before .before .before .before .before in
+    simp (c .blend-channel4 .ensures, c .before .blend-channel3 .ensures, c .before .before .blend-channel2 .ensures, c .before .before .before .blend-channel .ensures, c .before .before .before .before .value2 .ensures, c₅ .value .ensures)
 
 pub blend-spec : {M : Type 1} → statement M
 blend-spec =
