@@ -1,23 +1,14 @@
 // The alphas of a row by an alpha mode.
 ghost use mathlib.Core.Path.{_≡_};
 ghost use Prim.Native.Nat.{ℕ, _+_, _*_, _/_, _%_, _≤_, _<_};
-ghost use lib.ListN.{length, getD};
+ghost use lib.ListN.{length, getD, set};
 ghost use Rattle.division.specs.Division.{div255};
 ghost use Rattle.pixel.specs.declared.blend.AlphaMode.the-variants.{Global, Mixed};
 ghost use Rattle.lanes.specs.Lanes.{Done};
 ghost use Rattle.alpha_modes.specs.Mode.{modeAt};
 use pixel::AlphaMode;
-
-fn set_alphas(row: &mut [u8], width: usize, a: u8)
-    requires { ⌜ width * 4 ≤ length (now row) ⌝ }
-    ensures { λ _. ⌜ Done (modeAt Global a (now (row .entry))) (now (row .entry)) (now (row .exit)) 0 (width * 4) ⌝ }
-{
-    let mut x = 0;
-    while x < width {
-        row[x * 4 + 3] = a;
-        x += 1;
-    }
-}
+use word::read_le32;
+use word::write_le32;
 
 fn wide(x: u8) -> u32
     ensures { λ r. ⌜ (r ≡ x) × (r ≤ 255) ⌝ }
@@ -32,13 +23,46 @@ fn prod(a: u32, b: u32) -> u32
     a * b
 }
 
-// By shifts: this form makes vectors in a loop over bytes.
+// By shifts: this form makes vectors in a loop.
 fn nearest(p: u32) -> u32
     requires { ⌜ p ≤ 65025 ⌝ }
     ensures { λ r. ⌜ (r ≡ div255 p) × (r ≤ 255) ⌝ }
 {
     let t = p + 128;
     (t + t / 256) / 256
+}
+
+// The alpha of the pixel at o, set or mixed. A pixel is loaded and stored as one word: this form makes vectors in a loop over pixels.
+fn set_alpha(row: &mut [u8], o: usize, a: u32)
+    requires { ⌜ (o + 4 ≤ length (now row)) × (a ≤ 255) ⌝ }
+    ensures { λ _. ⌜ now (row .exit) ≡ set (now (row .entry)) (o + 3) a ⌝ }
+{
+    let w = read_le32(row, o);
+    write_le32(row, o, w % 16777216 + a * 16777216);
+}
+
+fn mix_alpha(row: &mut [u8], o: usize, a: u32)
+    requires { ⌜ (o + 4 ≤ length (now row)) × (a ≤ 255) ⌝ }
+    ensures { λ _. ⌜ now (row .exit) ≡ set (now (row .entry)) (o + 3) (div255 (getD (now (row .entry)) (o + 3) 0 * a)) ⌝ }
+{
+    let w = read_le32(row, o);
+    write_le32(
+        row,
+        o,
+        w % 16777216 + nearest(prod(w / 16777216, a)) * 16777216,
+    );
+}
+
+fn set_alphas(row: &mut [u8], width: usize, a: u8)
+    requires { ⌜ width * 4 ≤ length (now row) ⌝ }
+    ensures { λ _. ⌜ Done (modeAt Global a (now (row .entry))) (now (row .entry)) (now (row .exit)) 0 (width * 4) ⌝ }
+{
+    let g = wide(a);
+    let mut x = 0;
+    while x < width {
+        set_alpha(row, x * 4, g);
+        x += 1;
+    }
 }
 
 fn mix_alphas(row: &mut [u8], width: usize, a: u8)
@@ -48,7 +72,7 @@ fn mix_alphas(row: &mut [u8], width: usize, a: u8)
     let g = wide(a);
     let mut x = 0;
     while x < width {
-        row[x * 4 + 3] = nearest(prod(wide(row[x * 4 + 3]), g)) as u8;
+        mix_alpha(row, x * 4, g);
         x += 1;
     }
 }

@@ -1,2 +1,2 @@
--- a task whose output is its own destination
-pub mod Mixed
+-- Laws of rows that go by way of buffers.
+pub mod Finished

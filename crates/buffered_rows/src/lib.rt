@@ -1,30 +1,33 @@
-// Rows of any task, by way of buffers: the source's colours are fetched into one, and stored from there, blended or not.
+// Tasks of any kind, by way of buffers: a row of the source's colours is fetched into one, and stored from there, blended or not.
 ghost use mathlib.Core.Path.{_≡_};
-ghost use mathlib.Core.Bool.{true, false};
-ghost use Prim.Native.Nat.{_+_, _*_};
+ghost use Prim.Native.Nat.{_+_, _*_, _≤_};
+ghost use lib.ListN.{length};
+ghost use Rattle.surface.specs.Surface.{rowLength};
 ghost use Rattle.surface.specs.Drawn.{loadPixel};
 ghost use Rattle.rows.specs.Row.{colourIn, HoldsColours};
 ghost use Rattle.rows.specs.Mixed.{composite};
-ghost use Rattle.plan.specs.Plan.{planOf};
-ghost use Rattle.raster.specs.Task.{sourceColour};
-ghost use Rattle.raster.specs.Row.{rowDrawn, drawRow, SourceRowInBounds, RowFits, RowBuffered};
-ghost use Rattle.buffered_rows.specs.Row.{RowMixes, RowFetched, isInPlace, FinishFits};
+ghost use Rattle.raster.specs.Task.{sourceColour, drawTask};
+ghost use Rattle.raster.specs.Preconditions.{Drawable};
+ghost use Rattle.raster.specs.Row.{rowDrawn, drawRow, SourceRowInBounds, RowFits, RowDrawable, HoldsRow};
+ghost use Rattle.buffered_rows.specs.Row.{RowMixes, finishedColour, RowReadable, RowRead, RowBuffers};
 use composite::mix_row;
+use fetch_rows::fetch_along;
+use fetch_rows::fetch_row;
+use fetch_rows::spread;
+use gradient_rows::fetch_gradient;
+use kinds::Finish;
+use kinds::finish_of;
 use pixel::Format;
 use plan::Plan;
+use plan::plan_of;
 use range::Range;
 use register::Source;
 use register::SourceMode;
 use register::Task;
-use rules::same_format;
 use scanline::blend_row;
 use scanline::blit_row;
-use scanline::fetch_along;
-use scanline::fetch_gradient;
-use scanline::fetch_row;
-use scanline::spread;
 use surface::Surface;
-use unblended_rows::uniform_colour;
+use unblended_rows::shaded_colour;
 
 // Fetches the source colours of output row y, by source mode.
 fn fetch_source(buffer: &mut [u8], width: usize, memory: &[u8], source: Source, y: usize)
@@ -38,7 +41,7 @@ fn fetch_source(buffer: &mut [u8], width: usize, memory: &[u8], source: Source, 
             return;
         }
         SourceMode::Colour => {
-            spread(buffer, width, uniform_colour(source, y));
+            spread(buffer, width, source.colour);
             return;
         }
         SourceMode::GradientX => {
@@ -48,7 +51,7 @@ fn fetch_source(buffer: &mut [u8], width: usize, memory: &[u8], source: Source, 
             return;
         }
         SourceMode::GradientY => {
-            spread(buffer, width, uniform_colour(source, y));
+            spread(buffer, width, shaded_colour(source, y));
             return;
         }
     }
@@ -86,109 +89,9 @@ fn mix_at(window: &mut [u8], at: usize, task: Task, plan: Plan, source: &mut [u8
     );
 }
 
-// How a row of the source's colours in a buffer becomes the output's.
-pub enum Finish {
-    // stored as it is
-    Copied,
-    // blended with the output's own row, where that lies
-    InPlace,
-    // blended with a row of the destination in a buffer, and stored from there
-    Blended,
-}
-
-// Whether the output is its own destination, in the format of the buffers.
-pub fn is_in_place(task: Task) -> bool
-    ensures { λ r. ⌜ r ≡ isInPlace task ⌝ }
-{
-    let d = task.destination;
-    let surface = d.surface;
-    let output = task.output;
-    let from = surface.format;
-    let to = output.format;
-    same_format(from, Format::Argb8888)
-        & same_format(to, Format::Argb8888)
-        & (surface.address == output.address)
-        & (surface.stride == output.stride)
-}
-
-// How the rows of a task become its output's: the same for all of them.
-pub fn finish_of(task: Task) -> Finish
-    ensures { λ r. ⌜ FinishFits r task ⌝ }
-{
-    let blending = task.blending;
-    if blending.on {
-        if is_in_place(task) {
-            return Finish::InPlace;
-        }
-        return Finish::Blended;
-    }
-    Finish::Copied
-}
-
-// Draws row y of a task that copies its source.
-fn copied_row(memory: &mut [u8], window: Range, task: Task, y: u16, source: &[u8])
-    requires { ⌜ RowFetched window (now memory) (now source) (now source) task y × (task .blending .on ≡ false) ⌝ }
-    ensures { λ _. ⌜ now (memory .exit) ≡ drawRow task y (now (memory .entry)) ⌝ }
-{
-    let start = window.start;
-    let end = window.end;
-    let output = task.output;
-    let at = output.row_start(y) - start;
-    blit_at(&mut memory[start..end], at, output, source);
-}
-
-// Draws row y of a task that blends its source with its output.
-fn mixed_row(memory: &mut [u8], window: Range, task: Task, plan: Plan, y: u16, source: &mut [u8])
-    requires { ⌜ RowFetched window (now memory) (now source) (now source) task y × FinishFits Finish.InPlace task × (plan ≡ planOf (task .blending .rule)) ⌝ }
-    ensures { λ _. ⌜ now (memory .exit) ≡ drawRow task y (now (memory .entry)) ⌝ }
-{
-    let start = window.start;
-    let end = window.end;
-    let output = task.output;
-    let at = output.row_start(y) - start;
-    mix_at(&mut memory[start..end], at, task, plan, source);
-}
-
-// Draws row y of a task that blends. What it reads is fetched and blended first; then the window alone is lent.
-fn blended_row(
-    memory: &mut [u8],
-    window: Range,
-    task: Task,
-    plan: Plan,
-    y: u16,
-    source: &mut [u8],
-    destination: &mut [u8],
-)
-    requires { ⌜ RowFetched window (now memory) (now source) (now destination) task y × (task .blending .on ≡ true) × (plan ≡ planOf (task .blending .rule)) ⌝ }
-    ensures { λ _. ⌜ now (memory .exit) ≡ drawRow task y (now (memory .entry)) ⌝ }
-{
-    let start = window.start;
-    let end = window.end;
-    let output = task.output;
-    let s = task.source;
-    let d = task.destination;
-    let surface = d.surface;
-    let format = surface.format;
-    let width = output.width as usize;
-    let at = output.row_start(y) - start;
-    let from = surface.row_start(y);
-    fetch_row(destination, width, memory, from, format);
-    blend_row(
-        destination,
-        source,
-        width,
-        task.blending,
-        plan,
-        s.alpha,
-        d.alpha,
-    );
-    blit_at(&mut memory[start..end], at, output, destination);
-}
-
-// Draws row y of a task whose source colours are in the buffer.
-fn finish_row(
-    memory: &mut [u8],
-    window: Range,
+// Reads what row y of a task needs into the buffers: its source's colours, and where these are blended with those of a destination elsewhere, the row blended.
+fn read_row(
+    memory: &[u8],
     task: Task,
     plan: Plan,
     finish: Finish,
@@ -196,27 +99,67 @@ fn finish_row(
     source: &mut [u8],
     destination: &mut [u8],
 )
-    requires { ⌜ RowFetched window (now memory) (now source) (now destination) task y × FinishFits finish task × (plan ≡ planOf (task .blending .rule)) ⌝ }
-    ensures { λ _. ⌜ now (memory .exit) ≡ drawRow task y (now (memory .entry)) ⌝ }
+    requires { ⌜ RowReadable (now memory) (now source) task y × RowBuffers task plan finish (now source) (now destination) ⌝ }
+    ensures { λ _. ⌜ RowRead finish task (now (memory .entry)) (now (source .exit)) (now (destination .exit)) y ⌝ }
+{
+    let output = task.output;
+    let s = task.source;
+    let width = output.width as usize;
+    fetch_source(source, width, memory, s, y as usize);
+    match finish {
+        Finish::Copied => return,
+        Finish::InPlace => return,
+        Finish::Blended => {
+            let d = task.destination;
+            let surface = d.surface;
+            let format = surface.format;
+            let from = surface.row_start(y);
+            fetch_row(destination, width, memory, from, format);
+            blend_row(
+                destination,
+                source,
+                width,
+                task.blending,
+                plan,
+                s.alpha,
+                d.alpha,
+            );
+            return;
+        }
+    }
+}
+
+// Draws what was read in the window, from byte `at` of it on.
+fn finish_at(
+    window: &mut [u8],
+    at: usize,
+    task: Task,
+    plan: Plan,
+    finish: Finish,
+    source: &mut [u8],
+    destination: &[u8],
+)
+    requires { ⌜ (at + rowLength (task .output) ≤ length (now window)) × RowBuffers task plan finish (now source) (now destination) ⌝ }
+    ensures { λ _. ⌜ now (window .exit) ≡ rowDrawn (task .output) at (λ x. finishedColour finish task (now (source .entry)) (now (destination .entry)) (now (window .entry)) at x) (now (window .entry)) ⌝ }
 {
     match finish {
         Finish::Copied => {
-            copied_row(memory, window, task, y, source);
+            blit_at(window, at, task.output, source);
             return;
         }
         Finish::InPlace => {
-            mixed_row(memory, window, task, plan, y, source);
+            mix_at(window, at, task, plan, source);
             return;
         }
         Finish::Blended => {
-            blended_row(memory, window, task, plan, y, source, destination);
+            blit_at(window, at, task.output, destination);
             return;
         }
     }
 }
 
-// Draws row y of a task by way of the buffers.
-pub fn buffered_row(
+// Draws row y of a task. What it reads is read first; then the window alone is lent.
+fn buffered_row(
     memory: &mut [u8],
     window: Range,
     task: Task,
@@ -226,11 +169,45 @@ pub fn buffered_row(
     source: &mut [u8],
     destination: &mut [u8],
 )
-    requires { ⌜ RowBuffered window (now memory) (now source) (now destination) task y × FinishFits finish task × (plan ≡ planOf (task .blending .rule)) ⌝ }
+    requires { ⌜ RowDrawable window (now memory) task y × RowBuffers task plan finish (now source) (now destination) ⌝ }
     ensures { λ _. ⌜ now (memory .exit) ≡ drawRow task y (now (memory .entry)) ⌝ }
 {
+    let start = window.start;
+    let end = window.end;
     let output = task.output;
-    let width = output.width as usize;
-    fetch_source(source, width, memory, task.source, y as usize);
-    finish_row(memory, window, task, plan, finish, y, source, destination);
+    let at = output.row_start(y) - start;
+    read_row(memory, task, plan, finish, y, source, destination);
+    finish_at(
+        &mut memory[start..end],
+        at,
+        task,
+        plan,
+        finish,
+        source,
+        destination,
+    );
+}
+
+// Draws any task. The buffers hold a row while that is drawn. Rows are fetched at one place and finished at one place, so that both are compiled into the loop
+// and no record is handed on in it.
+pub fn draw_buffered(
+    memory: &mut [u8],
+    window: Range,
+    task: Task,
+    source: &mut [u8],
+    destination: &mut [u8],
+)
+    requires { ⌜ Drawable window (length (now memory)) task × HoldsRow (task .output .width) (now source) × HoldsRow (task .output .width) (now destination) ⌝ }
+    ensures { λ _. ⌜ now (memory .exit) ≡ drawTask task (now (memory .entry)) ⌝ }
+{
+    let blending = task.blending;
+    let plan = plan_of(blending.rule);
+    let finish = finish_of(task);
+    let output = task.output;
+    let height = output.height;
+    let mut y: u16 = 0;
+    while y < height {
+        buffered_row(memory, window, task, plan, finish, y, source, destination);
+        y += 1;
+    }
 }

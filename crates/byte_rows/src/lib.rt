@@ -1,8 +1,8 @@
-// Rows of bytes as such: copied, and set to zero.
-ghost use mathlib.Core.Path.{_≡_};
-ghost use Prim.Native.Nat.{ℕ, _≤_};
+// Rows of bytes as such: copied, set to zero, and copied inside one slice.
+ghost use Prim.Native.Nat.{_+_, _≤_};
 ghost use lib.ListN.{length, getD};
 ghost use Rattle.lanes.specs.Lanes.{Done};
+ghost use Rattle.byte_rows.specs.Apart.{Apart, movedByte};
 
 // Bytes as they are.
 pub fn copy(d: &mut [u8], s: &[u8])
@@ -25,6 +25,18 @@ pub fn clear(d: &mut [u8], a: usize, n: usize)
     let mut j = a;
     while j < n {
         d[j] = 0;
+        j += 1;
+    }
+}
+
+// Copies the n bytes from `from` on over those from `to` on. The two parts of memory do not meet.
+pub fn copy_within(memory: &mut [u8], to: usize, from: usize, n: usize)
+    requires { ⌜ Apart (length (now memory)) to from n ⌝ }
+    ensures { λ _. ⌜ Done (movedByte (now (memory .entry)) to from) (now (memory .entry)) (now (memory .exit)) to (to + n) ⌝ }
+{
+    let mut j = 0;
+    while j < n {
+        memory[to + j] = memory[from + j];
         j += 1;
     }
 }

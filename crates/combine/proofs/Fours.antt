@@ -1,5 +1,6 @@
 -- Four pixels in eight lanes, and four pixels whose alphas are all 255 or all 0.
 use mathlib.Core.Path.{_≡_, refl, sym, ap, _∙_, subst}
+use mathlib.Core.Bool.{true}
 use mathlib.Core.Logic.{⊎-elim}
 use mathlib.Core.List.{List}
 use Prim.Native.Nat.{ℕ, _+_, _-_, _*_, _/_, _%_, _≤_, _<_}
@@ -11,28 +12,13 @@ use Rattle.pixel.specs.Rules.{blendModeFactors}
 use Rattle.pixel.specs.declared.blend.Rule.{Rule}
 use Rattle.pixel.specs.declared.blend.RuleName.the-variants.{SrcOver, Add}
 use Rattle.lanes.specs.Lanes.{two, Done}
-use Rattle.lanes.proofs.Laws.{under-or}
+use Rattle.lanes.proofs.Laws.{under-or, two-low, two-high, two-small}
 use Rattle.lanes.proofs.Passes.{same-done}
+use Rattle.opacity.specs.Alphas.{alphasAre}
+use Rattle.opacity.proofs.Sums.{are}
 use Rattle.plan.specs.Blend.{alphaAt, blendAt, duo, topAt, laneAt}
 use Rattle.plan.proofs.Blends.{Bytes}
-use Rattle.plan.proofs.Channels.{duo-low, duo-high, copied, stayed, cleared}
-
-pub two-low : (s : List ℕ) (o : ℕ) → Bytes s → two s o % 256 ≡ getD s o 0
-unfolding two
-two-low s o b = omega (arith, b o, b (o + 1))
-
-pub two-high : (s : List ℕ) (o : ℕ) → Bytes s → two s o / 256 ≡ getD s (o + 1) 0
-unfolding two
-two-high s o b = omega (arith, b o, b (o + 1))
-
-pub two-small : (s : List ℕ) (o : ℕ) → Bytes s → two s o ≤ 65535
-unfolding two
-two-small s o b = omega (arith, b o, b (o + 1))
-
-pub lane-by : (rule : Rule) (a b : List ℕ) (k x y : ℕ) → x ≡ topAt a k → y ≡ topAt b k →
-    duo (getD a k 0) (factorValue (rule .source) x y) (getD b k 0) (factorValue (rule .destination) x y) ≡ laneAt rule a b k
-unfolding laneAt
-lane-by rule a b k x y h l = rw (h, l)
+use Rattle.channels.proofs.Channels.{duo-low, duo-high, copied, stayed, cleared}
 
 -- lane k of the rows s and d from o on, blended
 unfoldable pub twoAt : Rule → List ℕ → List ℕ → ℕ → ℕ → ℕ
@@ -89,43 +75,34 @@ module _ (rule : Rule) (s d r e : List ℕ) (o : ℕ) (four : o % 4 ≡ 0) (in-s
   four-done = record { done = four-at; under = under; past = past }
 
 -- four alphas that are one number
-module _ (s : List ℕ) (o v : ℕ) (four : o % 4 ≡ 0) (a : getD s (o + 3) 0 ≡ v) (b : getD s (o + 7) 0 ≡ v) (c : getD s (o + 11) 0 ≡ v) (d : getD s (o + 15) 0 ≡ v) where
-  pub alphas-at : (j : ℕ) → o ≤ j → j < o + 16 → alphaAt s j ≡ v
-  alphas-at j h l =
-      under-or j (o + 8)
-      (λ p. under-or j (o + 4) (λ q. subst (λ (i : ℕ). getD s i 0 ≡ v) (omega arith) a) (λ q. subst (λ (i : ℕ). getD s i 0 ≡ v) (omega arith) b))
-      (λ p. under-or j (o + 12) (λ q. subst (λ (i : ℕ). getD s i 0 ≡ v) (omega arith) c) (λ q. subst (λ (i : ℕ). getD s i 0 ≡ v) (omega arith) d))
-
-module _ (s : List ℕ) (o : ℕ) (four : o % 4 ≡ 0) (in-s : Bytes s) where
-  pub all-full : getD s (o + 3) 0 + getD s (o + 7) 0 + getD s (o + 11) 0 + getD s (o + 15) 0 ≡ 1020 → (j : ℕ) → o ≤ j → j < o + 16 → alphaAt s j ≡ 255
-  all-full z =
-      let b₀ = in-s (o + 3) in let b₁ = in-s (o + 7) in let b₂ = in-s (o + 11) in let b₃ = in-s (o + 15) in
-      alphas-at s o 255 four (omega arith) (omega arith) (omega arith) (omega arith)
-
-  pub all-empty : getD s (o + 3) 0 + getD s (o + 7) 0 + getD s (o + 11) 0 + getD s (o + 15) 0 ≡ 0 → (j : ℕ) → o ≤ j → j < o + 16 → alphaAt s j ≡ 0
-  all-empty z = alphas-at s o 0 four (omega arith) (omega arith) (omega arith) (omega arith)
+pub alphas-at : (v : ℕ) (s : List ℕ) (o : ℕ) → o % 4 ≡ 0 → alphasAre v s o ≡ true → (j : ℕ) → o ≤ j → j < o + 16 → alphaAt s j ≡ v
+alphas-at v s o four all j h l =
+    let a = are v s o all in
+    under-or j (o + 8)
+    (λ p. under-or j (o + 4) (λ q. subst (λ (i : ℕ). getD s i 0 ≡ v) (omega arith) (a .first)) (λ q. subst (λ (i : ℕ). getD s i 0 ≡ v) (omega arith) (a .second)))
+    (λ p. under-or j (o + 12) (λ q. subst (λ (i : ℕ). getD s i 0 ≡ v) (omega arith) (a .third)) (λ q. subst (λ (i : ℕ). getD s i 0 ≡ v) (omega arith) (a .fourth)))
 
 -- ---- four pixels whose alphas are all 255, or all 0
 
 module _ (rule : Rule) (s d e : List ℕ) (o : ℕ) (four : o % 4 ≡ 0) (in-s : Bytes s) (in-d : Bytes d) where
   pub copy-done : ((y : ℕ) → (factorValue (rule .source) 255 y ≡ 255) × (factorValue (rule .destination) 255 y ≡ 0)) →
-      getD s (o + 3) 0 + getD s (o + 7) 0 + getD s (o + 11) 0 + getD s (o + 15) 0 ≡ 1020 →
+      alphasAre 255 s o ≡ true →
       Done (λ j. getD s j 0) d e o (o + 16) → Done (blendAt rule s d) d e o (o + 16)
   unfolding blendAt
   copy-done full z did =
       same-done (λ j. getD s j 0) (blendAt rule s d) d e o (o + 16)
       (λ j h l.
       let f = full (alphaAt d j) in
-      sym (cc (all-full s o four in-s z j h l, f .0, f .1, copied (getD s j 0) (getD d j 0) (omega (arith, in-s j)))))
+      sym (cc (alphas-at 255 s o four z j h l, f .0, f .1, copied (getD s j 0) (getD d j 0) (omega (arith, in-s j)))))
       did
 
   pub leave-done : ((y : ℕ) → (factorValue (rule .source) 0 y ≡ 0) × (factorValue (rule .destination) 0 y ≡ 255)) →
-      getD s (o + 3) 0 + getD s (o + 7) 0 + getD s (o + 11) 0 + getD s (o + 15) 0 ≡ 0 → Done (blendAt rule s d) d d o (o + 16)
+      alphasAre 0 s o ≡ true → Done (blendAt rule s d) d d o (o + 16)
   unfolding blendAt
   leave-done empty z = record {
     done = λ j h l.
         let f = empty (alphaAt d j) in
-        sym (cc (all-empty s o four in-s z j h l, f .0, f .1, stayed (getD s j 0) (getD d j 0) (omega (arith, in-d j))));
+        sym (cc (alphas-at 0 s o four z j h l, f .0, f .1, stayed (getD s j 0) (getD d j 0) (omega (arith, in-d j))));
     under = λ j l. refl;
     past = λ j l. refl;
   }
@@ -139,10 +116,10 @@ module _ (rule : Rule) (s d e : List ℕ) (o : ℕ) (four : o % 4 ≡ 0) (in-s :
     past = λ j l. refl;
   }
 
-  pub add-done : getD s (o + 3) 0 + getD s (o + 7) 0 + getD s (o + 11) 0 + getD s (o + 15) 0 ≡ 0 →
+  pub add-done : alphasAre 0 s o ≡ true →
       Done (blendAt (blendModeFactors Add) s d) d e o (o + 16) → Done (blendAt (blendModeFactors SrcOver) s d) d e o (o + 16)
   unfolding blendAt
   add-done z did =
       same-done (blendAt (blendModeFactors Add) s d) (blendAt (blendModeFactors SrcOver) s d) d e o (o + 16)
-      (λ j h l. ap (λ (x : ℕ). blendedChannel (getD s j 0) 255 (getD d j 0) (255 - x)) (sym (all-empty s o four in-s z j h l)))
+      (λ j h l. ap (λ (x : ℕ). blendedChannel (getD s j 0) 255 (getD d j 0) (255 - x)) (sym (alphas-at 0 s o four z j h l)))
       did

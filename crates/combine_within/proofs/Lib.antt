@@ -1,4 +1,2 @@
--- rows blended inside one slice
-pub mod Within
--- by factors that do not go by alpha
-pub mod Constant
+-- four pixels inside one slice
+pub mod Fours

@@ -1,28 +1,27 @@
 // Rows of ARGB8888 pixels blended inside one slice of bytes: the source's row lies in it too, and no byte lies in both rows. Each of the functions over
 // four pixels has one caller, so that it is compiled in place; the laws of lanes are those of crate combine.
 ghost use mathlib.Core.Path.{_≡_};
-ghost use mathlib.Core.Bool.{true};
-ghost use Prim.Native.Nat.{ℕ, _+_, _%_, _≤_};
+ghost use Prim.Native.Nat.{_+_, _%_, _≤_};
 ghost use lib.ListN.{length};
 ghost use Rattle.pixel.specs.Rules.{blendModeFactors};
-ghost use Rattle.pixel.specs.declared.blend.RuleName.the-variants.{SrcOver, Add};
+ghost use Rattle.pixel.specs.declared.blend.RuleName.the-variants.{SrcOver};
 ghost use Rattle.lanes.specs.Lanes.{Done};
 ghost use Rattle.plan.specs.Plan.{Planned};
-ghost use Rattle.row_copy.specs.Apart.{Apart, movedByte};
-ghost use Rattle.combine_within.specs.Within.{blendWithin};
-use byte_rows::clear;
-use combine::byte;
-use combine::lane::lane;
-use combine::pair;
-use constant_rows::held_sum;
-use lanes::alphas;
+ghost use Rattle.byte_rows.specs.Apart.{Apart, movedByte};
+ghost use Rattle.bytes_within.specs.Within.{blendWithin};
+use bytes_within::add_bytes;
+use bytes_within::blend_bytes;
+use bytes_within::constant_within;
+use channels::blend_two;
+use channels::over_two;
 use lanes::load8;
 use lanes::load8c;
 use lanes::store8;
 use lanes::top;
-use lanes::words;
+use opacity::alphas;
+use opacity::is_opaque;
+use opacity::words;
 use plan::Plan;
-use row_copy::copy_within;
 
 // Four pixels copied.
 fn copy_four(m: &mut [u8], to: usize, from: usize)
@@ -43,7 +42,7 @@ fn over_four(m: &mut [u8], to: usize, from: usize)
     let mut r = [0u16; 8];
     let mut i = 0;
     while i < 8 {
-        r[i] = pair(c[i], d[i], top(c[i / 2 * 2 + 1]));
+        r[i] = over_two(c[i], d[i], top(c[i / 2 * 2 + 1]));
         i += 1;
     }
     store8(m, to, &r);
@@ -59,35 +58,10 @@ fn blend_four(m: &mut [u8], to: usize, from: usize, p: Plan)
     let mut r = [0u16; 8];
     let mut i = 0;
     while i < 8 {
-        r[i] = lane(p, s[i], d[i], top(s[i / 2 * 2 + 1]), top(d[i / 2 * 2 + 1]));
+        r[i] = blend_two(p, s[i], d[i], top(s[i / 2 * 2 + 1]), top(d[i / 2 * 2 + 1]));
         i += 1;
     }
     store8(m, to, &r);
-}
-
-// A row under ADD.
-fn add_bytes(m: &mut [u8], to: usize, from: usize, n: usize)
-    requires { ⌜ Apart (length (now m)) to from n × (n % 4 ≡ 0) ⌝ }
-    ensures { λ _. ⌜ Done (blendWithin (blendModeFactors Add) (now (m .entry)) to from) (now (m .entry)) (now (m .exit)) to (to + n) ⌝ }
-{
-    let mut j = 0;
-    while j < n {
-        m[to + j] = held_sum(m[from + j], m[to + j]);
-        j += 1;
-    }
-}
-
-// The bytes of a row from the a-th on. A pixel's alpha is changed last, so that its other channels see it as it was.
-fn blend_bytes(m: &mut [u8], to: usize, from: usize, a: usize, n: usize, p: Plan)
-    requires { ⌜ (Apart (length (now m)) to from n × ((a ≤ n) × (n % 4 ≡ 0))) × Planned p ⌝ }
-    ensures { λ _. ⌜ Done (blendWithin (p .rule) (now (m .entry)) to from) (now (m .entry)) (now (m .exit)) (to + a) (to + n) ⌝ }
-{
-    let mut j = a;
-    while j < n {
-        let k = j / 4 * 4 + 3;
-        m[to + j] = byte(p, m[from + j], m[to + j], m[from + k], m[to + k]);
-        j += 1;
-    }
 }
 
 // Four pixels: copied or left where the rule does so for their alphas.
@@ -96,7 +70,7 @@ fn turn(m: &mut [u8], to: usize, from: usize, p: Plan)
     ensures { λ _. ⌜ Done (blendWithin (p .rule) (now (m .entry)) to from) (now (m .entry)) (now (m .exit)) to (to + 16) ⌝ }
 {
     let t = alphas(m, from);
-    if (t == 1020) & p.copies {
+    if is_opaque(t) & p.copies {
         copy_four(m, to, from);
         return;
     }
@@ -123,7 +97,7 @@ fn over_turn(m: &mut [u8], to: usize, from: usize)
     ensures { λ _. ⌜ Done (blendWithin (blendModeFactors SrcOver) (now (m .entry)) to from) (now (m .entry)) (now (m .exit)) to (to + 16) ⌝ }
 {
     let t = alphas(m, from);
-    if t == 1020 {
+    if is_opaque(t) {
         copy_four(m, to, from);
         return;
     }
@@ -146,27 +120,6 @@ fn over_turns(m: &mut [u8], to: usize, from: usize, n: usize)
         over_turn(m, to + o, from + o);
         o += 16;
     }
-}
-
-// A row under a rule whose factors do not go by alpha: added up, copied, left as it is, or cleared.
-fn constant_within(m: &mut [u8], to: usize, from: usize, n: usize, p: Plan)
-    requires { ⌜ (Apart (length (now m)) to from n × (n % 4 ≡ 0)) × (Planned p × (p .constant ≡ true)) ⌝ }
-    ensures { λ _. ⌜ Done (blendWithin (p .rule) (now (m .entry)) to from) (now (m .entry)) (now (m .exit)) to (to + n) ⌝ }
-{
-    let fs = p.source;
-    let fd = p.destination;
-    if fs.flip == 255 {
-        if fd.flip == 255 {
-            add_bytes(m, to, from, n);
-            return;
-        }
-        copy_within(m, to, from, n);
-        return;
-    }
-    if fd.flip == 255 {
-        return;
-    }
-    clear(m, to, to + n);
 }
 
 // The row of n bytes at `to`, of whole pixels, blended with the row at `from`.

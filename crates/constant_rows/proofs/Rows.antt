@@ -11,7 +11,7 @@ use Rattle.pixel.specs.declared.blend.RuleName.the-variants.{Add}
 use Rattle.lanes.specs.Lanes.{Done}
 use Rattle.lanes.proofs.Passes.{same-done}
 use Rattle.plan.specs.Blend.{alphaAt, blendAt}
-use Rattle.plan.proofs.Channels.{copied, stayed, emptied}
+use Rattle.channels.proofs.Channels.{copied, stayed, emptied}
 use Rattle.plan.proofs.Blends.{Bytes}
 
 module _ (rule : Rule) (s d e : List ℕ) (n : ℕ) where

@@ -14,6 +14,7 @@ use borrow.Author.Tests.{eqb-true}
 use Rattle.pixel.specs.Rules.{blendModeFactors}
 use Rattle.pixel.specs.declared.blend.Rule.{Rule}
 use Rattle.pixel.specs.declared.blend.RuleName.the-variants.{SrcOver}
+use Rattle.lanes.proofs.Laws.{both}
 use Rattle.plan.specs.declared.Masks.{Masks}
 use Rattle.plan.specs.declared.Plan.{Plan}
 use Rattle.plan.specs.Plan.{masksOf, factorBy, fullOf, emptyOf, ends, isConstant, planOf, Planned}
@@ -101,16 +102,15 @@ pub plan-is : (rule : Rule) (s d : Masks) (o₁ o₂ a₁ a₂ : Bool) (f₁ f�
 unfolding planOf
 plan-is rule s d o₁ o₂ a₁ a₂ f₁ f₂ e₁ e₂ h₀ h₁ h₂ h₃ h₄ h₅ h₆ h₇ h₈ h₉ = rw (h₀, h₁, h₂, h₃, h₄, h₅, h₆, h₇, h₈, h₉)
 
--- both parts of a conjunction that holds
-pub both : (a b : Bool) → a && b ≡ true → (a ≡ true) × (b ≡ true)
-both true b e = (refl, e)
-both false b e = absurd (false≢true e)
-
 ends-are : (f : Factor) (u v : ℕ) → ends f u v ≡ true → (fullOf f ≡ u) × (emptyOf f ≡ v)
 ends-are f u v e = let b = both _ _ e in (eqb-true (fullOf f) u (b .0), eqb-true (emptyOf f) v (b .1))
 
 rule-is : (r : Rule) (s d : Factor) → r .source ≡ s → r .destination ≡ d → r ≡ record { source = s; destination = d }
 rule-is r s d h k = ap (λ (f : Factor). record { source = f; destination = r .destination }) h ∙ ap (λ (f : Factor). record { source = s; destination = f }) k
+
+pub planned-is : (rule : Rule) (p : Plan) → p ≡ planOf rule → Planned p × (p .rule ≡ rule)
+unfolding planOf
+planned-is rule p e = let r : p .rule ≡ rule = ap (λ (q : Plan). q .rule) e in (e ∙ ap planOf (sym r), r)
 
 module _ (p : Plan) (planned : Planned p) where
   pub source-is : (x y : ℕ) → x ≤ 255 → y ≤ 255 → factorBy (p .source) x y ≡ factorValue (p .rule .source) x y

@@ -1,4 +1,3 @@
 -- Laws of plans and of blended bytes.
 pub mod Factors
-pub mod Channels
 pub mod Blends

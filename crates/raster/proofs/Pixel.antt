@@ -22,7 +22,8 @@ use Rattle.rows.specs.Mixed.{composite}
 use Rattle.rows.proofs.Straight.{upright-x, upright-y}
 use Rattle.raster.specs.Task.{sourceModeColour, sourceColour, destinationColour, pixelColour}
 use Rattle.raster.specs.Preconditions.{TaskInBounds}
-use Rattle.raster.specs.Row.{isUniform, uniformColour}
+use Rattle.kinds.specs.Kinds.{isUniform}
+use Rattle.raster.specs.Row.{uniformColour}
 
 colourBy-same : (m : SourceMode) (s : Source) (memory memory′ : List ℕ) (p : Point) →
     (isBuffer m ≡ true → colourAt (s .surface) memory p ≡ colourAt (s .surface) memory′ p) → sourceModeColour m s memory p ≡ sourceModeColour m s memory′ p

@@ -1,6 +1,6 @@
 -- Internal: used only in contracts of helper functions. One row of a task, of whatever kind.
 use mathlib.Core.Path.{_≡_}
-use mathlib.Core.Bool.{Bool, true, false}
+use mathlib.Core.Bool.{true, false}
 use mathlib.Core.List.{List}
 use Prim.Native.Nat.{ℕ, _+_, _*_, _≤_, _<_}
 use lib.ListN.{length}
@@ -33,14 +33,7 @@ rowDrawn s at p bytes =
 unfoldable pub drawRow : Task → ℕ → List ℕ → List ℕ
 drawRow t y memory = rowDrawn (t .output) (rowStart (t .output) y) (λ (x : ℕ). pixelColour t memory x y) memory
 
--- all pixels of an output row have one colour
-abbrev pub isUniform : SourceMode → Bool
-isUniform Buffer = false
-isUniform Solid = true
-isUniform GradientX = false
-isUniform GradientY = true
-
--- that colour, where the source is not turned
+-- the one colour of an output row, where it has one and the source is not turned
 abbrev pub uniformColour : SourceMode → Source → ℕ → Colour
 uniformColour Buffer s y = s .colour
 uniformColour Solid s y = s .colour
@@ -65,12 +58,6 @@ pub record RowDrawable (window : Range) (memory : List ℕ) (t : Task) (y : ℕ)
   pub drawable : Drawable window (length memory) t
   pub row : y < t .output .height
 
--- two buffers, each for a row of so many pixels
-pub record RowBuffers (width : ℕ) (s d : List ℕ) : Type 0 where
-  pub source : width * 4 ≤ length s
-  pub destination : width * 4 ≤ length d
-
--- what is asked where row y of a task is drawn with buffers
-pub record RowBuffered (window : Range) (memory s d : List ℕ) (t : Task) (y : ℕ) : Type 0 where
-  pub ask : RowDrawable window memory t y
-  pub buffers : RowBuffers (t .output .width) s d
+-- a buffer has room for a row of so many pixels
+abbrev pub HoldsRow : ℕ → List ℕ → Type 0
+HoldsRow width buffer = width * 4 ≤ length buffer

@@ -1,12 +1,10 @@
 -- A pixel's bytes are those of its colour, packed: so a row of them that was copied is the row of its colours, stored.
 use mathlib.Core.Path.{_≡_, sym, ap, _∙_}
 use mathlib.Core.List.{List, [], _∷_}
-use mathlib.Core.Logic.{⊎-elim}
 use Prim.Native.Nat.{ℕ, zero, suc, _+_, _-_, _*_, _/_, _%_, _^_, _≤_, _<_}
 use native.Mathlib.Omega.{arith}
 use native.Mathlib.Nat.{not-suc-le-zero, pow-suc}
-use lib.ListN.{length, getD, set}
-use lib.Seq.{getD-set-same}
+use lib.ListN.{length, getD}
 use borrow.Rule.Slice.PartMut.{midOf, putMid}
 use Rattle.word.specs.Word.{byteOf}
 use Rattle.pixel.specs.Formats.{bytesPerPixel, layoutOf}
@@ -23,9 +21,8 @@ use Rattle.surface.proofs.Rows.{next}
 use Rattle.surface.proofs.Loaded.{byte-lowest, byte-next, loaded-same, loaded-shift}
 use Rattle.rows.specs.Row.{rowStored}
 use Rattle.lanes.specs.Lanes.{Done}
-use Rattle.lanes.proofs.Laws.{under-or, set-under, set-past}
 use Rattle.row_copy.specs.Held.{HoldsPixels}
-use Rattle.row_copy.specs.Apart.{Apart, movedByte}
+use Rattle.byte_rows.specs.Apart.{movedByte}
 
 -- ---- the number that bytes spell
 
@@ -125,20 +122,3 @@ row-moved f memory e to from width h room same did = is-mapi _ memory e same (λ
         did .done i u v
         ∙ (sym (row-byte-from f memory from width (i - to) h room (omega arith)) ∙ sym (within-in to (width * bytesPerPixel f) p i (getD memory i 0) u v))
     byte i (past v) = did .past i v ∙ sym (within-past to (width * bytesPerPixel f) p i (getD memory i 0) v)
-
--- ---- one byte more
-
-pub more-moved : (memory m : List ℕ) (to from n j : ℕ) → Apart (length memory) to from n → j < n → length m ≡ length memory →
-    Done (movedByte memory to from) memory m to (to + j) → Done (movedByte memory to from) memory (set m (to + j) (getD m (from + j) 0)) to (to + (j + 1))
-more-moved memory m to from n j a l same was =
-    let v : ℕ = getD m (from + j) 0 in
-    let read : getD m (from + j) 0 ≡ getD memory (from + j) 0 =
-    ⊎-elim (λ (h : from + n ≤ to). was .under (from + j) (omega arith)) (λ (h : to + n ≤ from). was .past (from + j) (omega arith)) (a .apart) in
-    let place : from + j ≡ from + (to + j - to) = omega arith in
-    record {
-      done = λ k h u. under-or k (to + j)
-          (λ q. set-under m (to + j) k v q ∙ was .done k h q)
-          (λ q. let e : k ≡ to + j = omega arith in rw e (getD-set-same m (to + j) v 0 (omega (arith, a .target)) ∙ (read ∙ ap (λ (i : ℕ). getD memory i 0) place)));
-      under = λ k h. set-under m (to + j) k v (omega arith) ∙ was .under k h;
-      past = λ k h. set-past m (to + j) k v (omega arith) ∙ was .past k (omega arith);
-    }

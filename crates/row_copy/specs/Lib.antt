@@ -1,3 +1,2 @@
 -- Rows of pixels in a format's own bytes.
 pub mod Held
-pub mod Apart

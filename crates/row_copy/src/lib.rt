@@ -6,9 +6,7 @@ ghost use lib.ListN.{length};
 ghost use Rattle.pixel.specs.Formats.{bytesPerPixel};
 ghost use Rattle.surface.specs.Drawn.{loadPixel};
 ghost use Rattle.rows.specs.Row.{colourAt, sourcePixelOf, FetchInBounds, rowStored, RowIsWide};
-ghost use Rattle.lanes.specs.Lanes.{Done};
 ghost use Rattle.row_copy.specs.Held.{HoldsPixels};
-ghost use Rattle.row_copy.specs.Apart.{Apart, movedByte};
 use byte_rows::copy;
 use pixel::Format;
 use rows::origin;
@@ -52,16 +50,4 @@ pub fn store_bytes(row: &mut [u8], width: usize, format: Format, source: &[u8])
     ensures { λ _. ⌜ now (row .exit) ≡ rowStored format (λ x. loadPixel format (now (source .entry)) (x * bytesPerPixel format)) (now (row .entry)) ⌝ }
 {
     copy(row, source);
-}
-
-// Copies the n bytes from `from` on over those from `to` on. The two parts of memory do not meet.
-pub fn copy_within(memory: &mut [u8], to: usize, from: usize, n: usize)
-    requires { ⌜ Apart (length (now memory)) to from n ⌝ }
-    ensures { λ _. ⌜ Done (movedByte (now (memory .entry)) to from) (now (memory .entry)) (now (memory .exit)) to (to + n) ⌝ }
-{
-    let mut j = 0;
-    while j < n {
-        memory[to + j] = memory[from + j];
-        j += 1;
-    }
 }

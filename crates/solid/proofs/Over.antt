@@ -23,11 +23,12 @@ use Rattle.rows.specs.Mixed.{sourceForBlending, withSurfaceAlpha, composite}
 use Rattle.lanes.specs.Lanes.{two, Done}
 use Rattle.lanes.proofs.Passes.{Ahead, more-done}
 use Rattle.plan.specs.Blend.{duo}
-use Rattle.plan.proofs.Channels.{duo-low, duo-high}
-use Rattle.combine.proofs.Fours.{two-low, two-high}
-use Rattle.composite.proofs.Colours.{Row, colour-is, row-is}
-use Rattle.solid.specs.declared.Solid.{Solid}
-use Rattle.solid.specs.Over.{channelAt, overAt, solidOf, halfOf, Prepared}
+use Rattle.channels.proofs.Channels.{duo-low, duo-high}
+use Rattle.lanes.proofs.Laws.{two-low, two-high}
+use Rattle.row_colours.proofs.Colours.{Row, colour-is, row-is}
+use Rattle.solid_colour.specs.declared.Solid.{Solid}
+use Rattle.solid_colour.specs.Solid.{solidOf, halfOf, Prepared}
+use Rattle.solid.specs.Over.{channelAt, overAt}
 
 -- ---- a word of two channels, at an even place
 
@@ -108,13 +109,6 @@ module _ (s : Solid) (prepared : Prepared s) (d e : List ℕ) (in-d : Row d) (o 
 
   pub words-done : Done (overAt (s .colour) d) d e o (o + n * 2)
   words-done = record { done = words-at; under = under; past = past }
-
--- what is made of a colour of bytes
-pub solid-made : (c : Colour) (s : Solid) → Bytes c → s ≡ solidOf c → (s ≡ solidOf c) × Prepared s
-unfolding solidOf
-solid-made c s h e =
-    let k : s .colour ≡ c = ap (λ (q : Solid). q .colour) e in
-    (e, record { made = e ∙ ap solidOf (sym k); alpha = rw k (h .alpha); red = rw k (h .red); green = rw k (h .green); blue = rw k (h .blue) })
 
 -- lane k of four pixels at o
 pub lane-over : (s : Solid) (d b : List ℕ) (o k : ℕ) → o % 4 ≡ 0 → getD b k 0 ≡ two d (o + k * 2) →

@@ -9,40 +9,16 @@ ghost use Rattle.pixel.specs.declared.format.Format.the-variants.{Argb8888};
 ghost use Rattle.lanes.specs.Lanes.{Done};
 ghost use Rattle.plan.specs.Blend.{duo};
 ghost use Rattle.rows.specs.Row.{colourIn, rowStored, RowIsWide};
-ghost use Rattle.solid.specs.Over.{overAt, solidOf, halfOf, Prepared};
-use combine::pair;
+ghost use Rattle.solid_colour.specs.Solid.{halfOf, Prepared};
+ghost use Rattle.solid.specs.Over.{overAt};
+use channels::over_two;
 use lanes::get2;
 use lanes::load8;
 use lanes::put2;
 use lanes::step;
 use lanes::store8;
-use lanes::wide;
-use pixel::Colour;
-
-// A colour, the complements of its channels, two in a word, and that of its alpha.
-pub struct Solid {
-    pub colour: Colour,
-    pub low: u16,
-    pub high: u16,
-    pub rest: u16,
-}
-
-pub fn solid_of(c: Colour) -> Solid
-    ensures { λ r. ⌜ (r ≡ solidOf c) × Prepared r ⌝ }
-{
-    Solid {
-        colour: c,
-        low: 65535 - (wide(c.blue) + wide(c.green) * 256),
-        high: 65535 - (wide(c.red) + wide(c.alpha) * 256),
-        rest: 255 - wide(c.alpha),
-    }
-}
-
-fn half(s: Solid, k: usize) -> u16
-    ensures { λ r. ⌜ r ≡ halfOf s k ⌝ }
-{
-    if k % 2 == 0 { s.low } else { s.high }
-}
+use solid_colour::Solid;
+use solid_colour::half;
 
 fn solid8(d: &[u16; 8], s: Solid) -> [u16; 8]
     requires { ⌜ Prepared s ⌝ }
@@ -51,7 +27,7 @@ fn solid8(d: &[u16; 8], s: Solid) -> [u16; 8]
     let mut r = [0u16; 8];
     let mut i = 0;
     while i < 8 {
-        r[i] = pair(half(s, i), d[i], s.rest);
+        r[i] = over_two(half(s, i), d[i], s.rest);
         i += 1;
     }
     r
@@ -83,7 +59,7 @@ fn solid_word(d: &mut [u8], o: usize, s: Solid)
     requires { ⌜ ((o + 2 ≤ length (now d)) × (o % 2 ≡ 0)) × Prepared s ⌝ }
     ensures { λ _. ⌜ Done (overAt (s .colour) (now (d .entry))) (now (d .entry)) (now (d .exit)) o (o + 2) ⌝ }
 {
-    put2(d, o, pair(half(s, o / 2), get2(d, o), s.rest));
+    put2(d, o, over_two(half(s, o / 2), get2(d, o), s.rest));
 }
 
 fn solid_words(d: &mut [u8], a: usize, n: usize, s: Solid)

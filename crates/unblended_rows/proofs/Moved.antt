@@ -1,15 +1,14 @@
 -- A task whose output rows are rows of its source.
 use mathlib.Core.Path.{_≡_, refl, sym, ap, _∙_}
-use mathlib.Core.Bool.{true, false, _&&_, false≢true}
+use mathlib.Core.Bool.{true, false, false≢true}
 use mathlib.Core.List.{List}
 use mathlib.Core.Logic.{_⊎_, inl, inr, ⊎-elim}
 use Prim.Native.Nat.{ℕ, _+_, _-_, _*_, _≤_, _<_}
 use native.Mathlib.Omega.{arith}
 use lib.ListN.{length, getD}
 use borrow.Rule.Slice.PartMut.{midOf}
-use Rattle.word.proofs.Tests.{split, and-true}
+use Rattle.word.proofs.Tests.{split}
 use Rattle.pixel.specs.Formats.{bytesPerPixel}
-use Rattle.pixel.specs.declared.colour.Colour.{Colour as Channels}
 use Rattle.pixel.specs.declared.format.Format.{Format}
 use Rattle.surface.specs.Surface.{rowLength, rowStart, pixelStart, span, DisjointRows}
 use Rattle.surface.specs.Drawn.{loadPixel}
@@ -19,48 +18,27 @@ use Rattle.surface.proofs.Loaded.{loaded-shift}
 use Rattle.surface.proofs.Parts.{length-mid, getD-mid}
 use Rattle.surface.proofs.Rows.{next}
 use Rattle.lanes.specs.Lanes.{Done}
-use Rattle.row_copy.specs.Apart.{Apart, movedByte}
+use Rattle.byte_rows.specs.Apart.{Apart, movedByte}
 use Rattle.row_copy.proofs.Bytes.{row-moved}
 use Rattle.range.specs.declared.Range.{Range}
-use Rattle.range.specs.Range.{containedIn}
 use Rattle.range.proofs.Laws.{inside-ends}
 use Rattle.transform.specs.declared.Point.{Point}
 use Rattle.transform.specs.declared.Size.{Size}
 use Rattle.transform.proofs.Inside.{mirrored-below}
-use Rattle.transform.specs.declared.Rotation.the-variants.{Rotate0}
 use Rattle.register.specs.Task.{isBuffer}
 use Rattle.register.specs.declared.task.Source.{Source}
 use Rattle.register.specs.declared.task.SourceMode.{SourceMode}
 use Rattle.register.specs.declared.task.SourceMode.the-variants.{Buffer, Colour, GradientX, GradientY}
 use Rattle.register.specs.declared.task.Task.{Task}
 use Rattle.register.specs.Size.{sizeOf}
-use Rattle.rules.specs.Rules.{sameFormat}
-use Rattle.rules.proofs.Passes.{same-format}
+use Rattle.kinds.specs.Kinds.{sourceInWindow}
+use Rattle.raster.proofs.Parts.{MovedTask}
 use Rattle.rows.specs.Row.{colourAt, sourcePixelOf}
-use Rattle.rows.specs.Step.{isStraight}
-use Rattle.rows.proofs.Straight.{straight, upright-x, upright-y, side-by-side}
+use Rattle.rows.proofs.Straight.{upright-x, upright-y, side-by-side}
 use Rattle.raster.specs.Task.{sourceModeColour, sourceColour, pixelColour}
 use Rattle.raster.specs.Row.{RowDrawable, rowDrawn}
-use Rattle.unblended_rows.specs.Row.{isMoved}
 use Rattle.raster.proofs.Pixel.{pixel-plain}
 use Rattle.raster.proofs.Place.{starts, ends}
-
--- what a moved task has
-pub record Moved (t : Task) : Type 0 where
-  pub buffer : isBuffer (t .source .mode) ≡ true
-  pub upright : t .source .transform .rotation ≡ Rotate0
-  pub kept : t .source .transform .flip .horizontal ≡ false
-  pub format : t .source .surface .format ≡ t .output .format
-
-pub moved-parts : (t : Task) → isMoved t ≡ true → Moved t
-unfolding isMoved
-moved-parts t e =
-    let buffer = isBuffer (t .source .mode) in
-    let straight? = isStraight (t .source .transform .rotation) (t .source .transform .flip) in
-    let both = and-true (buffer && straight?) (sameFormat (t .source .surface .format) (t .output .format)) e in
-    let first = and-true buffer straight? (both .0) in
-    let h = straight (t .source .transform) (first .1) in
-    record { buffer = first .0; upright = h .0; kept = h .1; format = same-format (t .source .surface .format) (t .output .format) (both .1) }
 
 -- a source colour in a buffer
 colourBy-buffer : (m : SourceMode) (s : Source) (memory : List ℕ) (p : Point) → isBuffer m ≡ true → sourceModeColour m s memory p ≡ colourAt (s .surface) memory p
@@ -101,7 +79,7 @@ pub record Lies (window : Range) (to from n : ℕ) : Type 0 where
   pub end-from : from + n ≤ window .end
   pub apart : (from + n ≤ to) ⊎ (to + n ≤ from)
 
-pub moved-lies : {window : Range} {memory : List ℕ} {t : Task} {y : ℕ} → RowDrawable window memory t y → Moved t → containedIn (span (t .source .surface)) window ≡ true →
+pub moved-lies : {window : Range} {memory : List ℕ} {t : Task} {y : ℕ} → RowDrawable window memory t y → MovedTask t → sourceInWindow window t ≡ true →
     (to from n : ℕ) → to ≡ rowStart (t .output) y →
     from ≡ pixelStart (t .source .surface) (sourcePixelOf (t .source .surface) (t .source .transform) 0 y .x) (sourcePixelOf (t .source .surface) (t .source .transform) 0 y .y) →
     n ≡ rowLength (t .output) → Lies window to from n
@@ -153,7 +131,7 @@ moved-drawn o bytes e to from k is-k small room same did =
     row-moved (o .format) bytes e to from (o .width) small (rw is-k at room) same (rw is-k at did)
 
 -- which are the source's
-pub moved-source : (t : Task) (memory : List ℕ) (start n from at x y : ℕ) → Moved t →
+pub moved-source : (t : Task) (memory : List ℕ) (start n from at x y : ℕ) → MovedTask t →
     at ≡ pixelStart (t .source .surface) (sourcePixelOf (t .source .surface) (t .source .transform) 0 y .x) (sourcePixelOf (t .source .surface) (t .source .transform) 0 y .y) →
     start + from ≡ at → from + rowLength (t .output) ≤ n → x < t .output .width →
     loadPixel (t .output .format) (midOf start n memory) (from + x * bytesPerPixel (t .output .format)) ≡ sourceColour (t .source) memory x y
@@ -170,7 +148,7 @@ moved-source t memory start n from at x y m is-at here fits u =
     ∙ sym (source-buffer (t .source) memory x y (m .buffer))))))
 
 -- and the task's, without blending
-pub moved-pixel : (t : Task) (memory : List ℕ) (start n from at x y : ℕ) → Moved t → t .blending .on ≡ false →
+pub moved-pixel : (t : Task) (memory : List ℕ) (start n from at x y : ℕ) → MovedTask t → t .blending .on ≡ false →
     at ≡ pixelStart (t .source .surface) (sourcePixelOf (t .source .surface) (t .source .transform) 0 y .x) (sourcePixelOf (t .source .surface) (t .source .transform) 0 y .y) →
     start + from ≡ at → from + rowLength (t .output) ≤ n → x < t .output .width →
     loadPixel (t .output .format) (midOf start n memory) (from + x * bytesPerPixel (t .output .format)) ≡ pixelColour t memory x y

@@ -1,59 +1,51 @@
-// Rows of a task without blending that need no buffer, or only one to carry bytes: filled with one colour, or moved as they are.
+// Tasks without blending whose rows need no buffer, or only one to carry bytes: filled with one colour a row, or moved as they are.
 ghost use mathlib.Core.Path.{_≡_};
-ghost use mathlib.Core.Bool.{true, false};
 ghost use Prim.Native.Nat.{_+_, _*_, _≤_, _<_};
 ghost use lib.ListN.{length};
-ghost use Rattle.range.specs.Range.{containedIn};
 ghost use Rattle.pixel.specs.Formats.{bytesPerPixel};
-ghost use Rattle.surface.specs.Surface.{rowLength, span};
+ghost use Rattle.surface.specs.Surface.{rowLength};
 ghost use Rattle.surface.specs.Drawn.{loadPixel};
-ghost use Rattle.raster.specs.Row.{rowDrawn, drawRow, isUniform, uniformColour, RowFits, RowDrawable, RowBuffered};
-ghost use Rattle.unblended_rows.specs.Row.{RowFillable, isMoved, RowMovable};
+ghost use Rattle.kinds.specs.Kinds.{kindOf};
+ghost use Rattle.raster.specs.Task.{drawTask};
+ghost use Rattle.raster.specs.Preconditions.{Drawable};
+ghost use Rattle.raster.specs.Row.{rowDrawn, drawRow, uniformColour, RowFits, RowDrawable, HoldsRow};
+use byte_rows::copy_within;
 use gradient::colour_at;
+use kinds::Kind;
 use pixel::Colour;
 use range::Range;
 use register::Source;
 use register::SourceMode;
 use register::Task;
-use row_copy::copy_within;
 use row_copy::fetch_bytes;
 use row_copy::store_bytes;
-use rows::is_straight;
 use rows::origin;
-use rules::same_format;
 use scanline::fill_row;
 use surface::Surface;
 use transform::mirror;
 
-// Whether all pixels of an output row have one colour.
-pub fn is_uniform(mode: SourceMode) -> bool
-    ensures { λ r. ⌜ r ≡ isUniform mode ⌝ }
+// The colour of output row y, where that changes along y and the source is not turned.
+pub fn shaded_colour(source: Source, y: usize) -> Colour
+    requires { ⌜ y < source .surface .height ⌝ }
+    ensures { λ r. ⌜ r ≡ uniformColour SourceMode.GradientY source y ⌝ }
 {
-    match mode {
-        SourceMode::Buffer => false,
-        SourceMode::Colour => true,
-        SourceMode::GradientX => false,
-        SourceMode::GradientY => true,
-    }
+    let transform = source.transform;
+    let surface = source.surface;
+    let i = mirror(transform.flip.vertical, surface.height as usize, y);
+    colour_at(source.colour, source.steps, i as u16)
 }
 
 // The colour of output row y, where it has one and the source is not turned.
-pub fn uniform_colour(source: Source, y: usize) -> Colour
+fn uniform_colour(source: Source, y: usize) -> Colour
     requires { ⌜ y < source .surface .height ⌝ }
     ensures { λ r. ⌜ r ≡ uniformColour (source .mode) source y ⌝ }
 {
     let mode = source.mode;
-    let colour = source.colour;
     match mode {
-        SourceMode::Buffer => colour,
-        SourceMode::Colour => colour,
-        SourceMode::GradientX => colour,
-        SourceMode::GradientY => {
-            let transform = source.transform;
-            let surface = source.surface;
-            let i = mirror(transform.flip.vertical, surface.height as usize, y);
-            colour_at(colour, source.steps, i as u16)
-        }
+        SourceMode::Buffer => source.colour,
+        SourceMode::Colour => source.colour,
+        SourceMode::GradientX => source.colour,
+        SourceMode::GradientY => shaded_colour(source, y),
     }
 }
 
@@ -68,8 +60,8 @@ fn fill_at(window: &mut [u8], at: usize, output: Surface, c: Colour)
 }
 
 // Draws row y of a task, where the row has one colour.
-pub fn filled_row(memory: &mut [u8], window: Range, task: Task, y: u16)
-    requires { ⌜ RowFillable window (now memory) task y ⌝ }
+fn filled_row(memory: &mut [u8], window: Range, task: Task, y: u16)
+    requires { ⌜ RowDrawable window (now memory) task y × (kindOf window task ≡ Kind.Filled) ⌝ }
     ensures { λ _. ⌜ now (memory .exit) ≡ drawRow task y (now (memory .entry)) ⌝ }
 {
     let start = window.start;
@@ -81,22 +73,9 @@ pub fn filled_row(memory: &mut [u8], window: Range, task: Task, y: u16)
     fill_at(&mut memory[start..end], at, output, c);
 }
 
-// Whether the rows of a task's source can be taken byte by byte as they are.
-pub fn is_moved(task: Task) -> bool
-    ensures { λ r. ⌜ r ≡ isMoved task ⌝ }
-{
-    let s = task.source;
-    let mode = s.mode;
-    let surface = s.surface;
-    let output = task.output;
-    let from = surface.format;
-    let to = output.format;
-    mode.is_buffer() & is_straight(s.transform) & same_format(from, to)
-}
-
-// Draws row y of such a task whose source lies in the window: the source row as it is, which no output row meets.
-pub fn moved_row(memory: &mut [u8], window: Range, task: Task, y: u16)
-    requires { ⌜ RowDrawable window (now memory) task y × RowMovable task × (containedIn (span (task .source .surface)) window ≡ true) ⌝ }
+// Draws row y of a task whose source lies in the window: the source row as it is, which no output row meets.
+fn moved_row(memory: &mut [u8], window: Range, task: Task, y: u16)
+    requires { ⌜ RowDrawable window (now memory) task y × (kindOf window task ≡ Kind.Moved) ⌝ }
     ensures { λ _. ⌜ now (memory .exit) ≡ drawRow task y (now (memory .entry)) ⌝ }
 {
     let start = window.start;
@@ -119,9 +98,9 @@ fn store_at(window: &mut [u8], at: usize, output: Surface, source: &[u8])
     store_bytes(&mut window[at..end], output.width as usize, format, source);
 }
 
-// Draws row y of such a task: the source row as it is, fetched before the window is lent.
-pub fn carried_row(memory: &mut [u8], window: Range, task: Task, y: u16, source: &mut [u8])
-    requires { ⌜ RowBuffered window (now memory) (now source) (now source) task y × RowMovable task ⌝ }
+// Draws row y of a task: the source row as it is, fetched before the window is lent.
+fn carried_row(memory: &mut [u8], window: Range, task: Task, y: u16, source: &mut [u8])
+    requires { ⌜ RowDrawable window (now memory) task y × HoldsRow (task .output .width) (now source) × (kindOf window task ≡ Kind.Carried) ⌝ }
     ensures { λ _. ⌜ now (memory .exit) ≡ drawRow task y (now (memory .entry)) ⌝ }
 {
     let start = window.start;
@@ -132,4 +111,46 @@ pub fn carried_row(memory: &mut [u8], window: Range, task: Task, y: u16, source:
     let at = output.row_start(y) - start;
     fetch_bytes(source, width, memory, s.surface, s.transform, y as usize);
     store_at(&mut memory[start..end], at, output, source);
+}
+
+// Draws a task whose rows have one colour each.
+pub fn draw_filled(memory: &mut [u8], window: Range, task: Task)
+    requires { ⌜ Drawable window (length (now memory)) task × (kindOf window task ≡ Kind.Filled) ⌝ }
+    ensures { λ _. ⌜ now (memory .exit) ≡ drawTask task (now (memory .entry)) ⌝ }
+{
+    let output = task.output;
+    let height = output.height;
+    let mut y: u16 = 0;
+    while y < height {
+        filled_row(memory, window, task, y);
+        y += 1;
+    }
+}
+
+// Draws a task whose rows are rows of its source, in the window.
+pub fn draw_moved(memory: &mut [u8], window: Range, task: Task)
+    requires { ⌜ Drawable window (length (now memory)) task × (kindOf window task ≡ Kind.Moved) ⌝ }
+    ensures { λ _. ⌜ now (memory .exit) ≡ drawTask task (now (memory .entry)) ⌝ }
+{
+    let output = task.output;
+    let height = output.height;
+    let mut y: u16 = 0;
+    while y < height {
+        moved_row(memory, window, task, y);
+        y += 1;
+    }
+}
+
+// Draws a task whose rows are rows of its source, wherever that lies. The buffer holds a row while that is drawn.
+pub fn draw_carried(memory: &mut [u8], window: Range, task: Task, source: &mut [u8])
+    requires { ⌜ Drawable window (length (now memory)) task × HoldsRow (task .output .width) (now source) × (kindOf window task ≡ Kind.Carried) ⌝ }
+    ensures { λ _. ⌜ now (memory .exit) ≡ drawTask task (now (memory .entry)) ⌝ }
+{
+    let output = task.output;
+    let height = output.height;
+    let mut y: u16 = 0;
+    while y < height {
+        carried_row(memory, window, task, y, source);
+        y += 1;
+    }
 }

@@ -9,24 +9,38 @@ use crate::sample_tasks::{batch, blended, copy, fill, set, Place, ARGB8888, RGB5
 const NUMBERS: Numbers = Numbers { ring: 128, memory: 1024, common: 64 };
 const WINDOW: (u32, u32) = (64, 960);
 
+/// What the surface that is read is.
+#[derive(Clone, Copy)]
+enum Role {
+    Source,
+    /// a source that is blended with the output itself
+    BlendedSource,
+    Destination,
+}
+
+const ROLES: [Role; 3] = [Role::Source, Role::BlendedSource, Role::Destination];
+
 /// One surface that is read and one that is drawn in: what they are, wherever the first lies.
 #[derive(Clone, Copy)]
 struct Pair {
     read: Place,
     output: Place,
-    is_destination: bool,
+    role: Role,
 }
 
 impl Pair {
     /// The task with the surface that is read at an address.
     fn task(self, address: u32) -> Fields {
         let read = Place { address, ..self.read };
-        if !self.is_destination {
-            return copy(read, self.output, 0, 0, 0);
+        match self.role {
+            Role::Source => copy(read, self.output, 0, 0, 0),
+            Role::BlendedSource => blended(copy(read, self.output, 0, 0, 0), "SRC_OVER"),
+            Role::Destination => {
+                let mut fields = blended(fill(self.output, 0x8040_C020), "SRC_OVER");
+                set(&mut fields, DESTINATION, read);
+                fields
+            }
         }
-        let mut fields = blended(fill(self.output, 0x8040_C020), "SRC_OVER");
-        set(&mut fields, DESTINATION, read);
-        fields
     }
 
     /// The window is opened, and each place's task is submitted and run.
@@ -47,17 +61,17 @@ impl Pair {
     }
 }
 
-/// Every two formats, sizes that fill the line or leave some of it, strides equal or not, read as source or as destination.
+/// Every two formats, sizes that fill the line or leave some of it, strides equal or not, read as source, blended or not, or as destination.
 pub fn lists() -> Vec<List> {
     let formats = [ARGB8888, RGB888, RGB565];
     let sizes = [(3, 3), (3, 1), (6, 3), (1, 4), (8, 2)];
     let mut lists = Vec::new();
     for (format, other) in formats.iter().flat_map(|a| formats.iter().map(move |b| (*a, *b))) {
         for (width, height) in sizes {
-            for (stride, is_destination) in [(32, false), (32, true), (40, false), (40, true)] {
+            for (stride, role) in [32, 40].into_iter().flat_map(|stride| ROLES.map(|role| (stride, role))) {
                 let output = Place { address: 512, stride: 32, width, height, format };
                 let read = Place { stride, format: other, ..output };
-                lists.push(Pair { read, output, is_destination }.list());
+                lists.push(Pair { read, output, role }.list());
             }
         }
     }

@@ -4,7 +4,8 @@ use Rattle.register.specs.Task.{isBuffer}
 use Rattle.register.specs.declared.task.SourceMode.{SourceMode}
 use Rattle.rows.specs.Row.{sourcePixelOf}
 use Rattle.raster.specs.Task.{sourceModeColour, sourceColour}
-use Rattle.raster.specs.Row.{isUniform}
+use Rattle.kinds.specs.Kinds.{isUniform}
+use Rattle.raster.specs.Row.{uniformColour}
 use Rattle.raster.proofs.Pixel.{upright-across, upright-down, source-across, source-uniform}
 use borrow.Author.Needs.{needs}
 use Rattle.buffered_rows.proofs.fetch_source.Statement.{statement}
@@ -33,11 +34,6 @@ returns c =
 enum-told-2 : tie.Need-enum-told-2
 enum-told-2 c = search needs
 
-uniform-colour-requires : tie.Need-uniform-colour-requires
-uniform-colour-requires c κs =
-    let s = c .before .before .before .before .before in
-    upright-down (s .args .source) (s .pre .upright (ap isBuffer (c .before .enum-told2 .given .1))) (s .args .y) (s .pre .down)
-
 spread-requires : tie.Need-spread-requires
 spread-requires c κs = search needs
 
@@ -46,12 +42,12 @@ same-length-2 c = search needs
 
 returns-2 : tie.Need-returns-2
 returns-2 c =
-    let t = c .before .before .before .before .before in
+    let t = c .before .before .before .before in
     let s = t .before .before .before .before in
     let a = s .args in
     λ x z.
     c .before .before .spread .ensures x z
-    ∙ (c .before .before .before .uniform-colour .ensures
+    ∙ (sym (ap (λ (m : SourceMode). uniformColour m (a .source) (a .y)) (t .enum-told2 .given .1))
     ∙ source-uniform (a .source) (now (a .memory)) x (a .y) (ap isUniform (t .enum-told2 .given .1)) (s .pre .upright))
 
 enum-told-3 : tie.Need-enum-told-3
@@ -78,8 +74,8 @@ returns-3 c =
 enum-told-4 : tie.Need-enum-told-4
 enum-told-4 c = search needs
 
-uniform-colour-requires-2 : tie.Need-uniform-colour-requires-2
-uniform-colour-requires-2 c κs =
+shaded-colour-requires : tie.Need-shaded-colour-requires
+shaded-colour-requires c κs =
     let s = c .before .before .before .before .before in
     upright-down (s .args .source) (s .pre .upright (ap isBuffer (c .before .enum-told4 .given .1))) (s .args .y) (s .pre .down)
 
@@ -96,8 +92,9 @@ returns-4 c =
     let a = s .args in
     λ x z.
     c .before .before .spread2 .ensures x z
-    ∙ (c .before .before .before .uniform-colour2 .ensures
-    ∙ source-uniform (a .source) (now (a .memory)) x (a .y) (ap isUniform (t .enum-told4 .given .1)) (s .pre .upright))
+    ∙ (c .before .before .before .shaded-colour .ensures
+    ∙ (sym (ap (λ (m : SourceMode). uniformColour m (a .source) (a .y)) (t .enum-told4 .given .1))
+    ∙ source-uniform (a .source) (now (a .memory)) x (a .y) (ap isUniform (t .enum-told4 .given .1)) (s .pre .upright)))
 
 pub fetch-source-spec : {M : Type 1} → statement M
 fetch-source-spec =
@@ -108,7 +105,6 @@ fetch-source-spec =
     same-length
     returns
     enum-told-2
-    uniform-colour-requires
     spread-requires
     same-length-2
     returns-2
@@ -117,7 +113,7 @@ fetch-source-spec =
     same-length-3
     returns-3
     enum-told-4
-    uniform-colour-requires-2
+    shaded-colour-requires
     spread-requires-2
     same-length-4
     returns-4)

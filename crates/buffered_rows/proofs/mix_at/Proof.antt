@@ -4,8 +4,8 @@ use native.Mathlib.Omega.{arith}
 use denote.Ref.{now}
 use Rattle.surface.specs.Surface.{rowLength}
 use Rattle.surface.proofs.Parts.{length-mid}
-use Rattle.scanline.proofs.Parts.{planned-is}
-use Rattle.buffered_rows.proofs.Mixed.{argb-length, mixed-lent}
+use Rattle.plan.proofs.Factors.{planned-is}
+use Rattle.raster.proofs.InPlace.{argb-length, mixed-lent}
 use borrow.Author.Needs.{needs}
 use Rattle.buffered_rows.proofs.mix_at.Statement.{statement}
 use Rattle.buffered_rows.proofs.mix_at.Tie as tie

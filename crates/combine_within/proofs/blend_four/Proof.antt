@@ -6,8 +6,8 @@ use denote.Ref.{now}
 use borrow.Author.Count.{below-none}
 use Rattle.lanes.proofs.Laws.{grown}
 use Rattle.plan.specs.Blend.{laneAt}
-use Rattle.combine.proofs.Fours.{lane-by}
-use Rattle.combine_within.proofs.Within.{four-blended}
+use Rattle.combine_parts.proofs.Lanes.{lane-by}
+use Rattle.combine_within.proofs.Fours.{four-blended}
 use borrow.Author.Needs.{needs}
 use Rattle.combine_within.proofs.blend_four.Statement.{statement}
 use Rattle.combine_within.proofs.blend_four.Tie as tie
@@ -27,17 +27,17 @@ load8-requires-2 c κs = search needs
 loop-holds : tie.Need-loop-holds Inv-loop μ-loop
 loop-holds c = (search needs, (search needs, below-none _))
 
-mul-lane : tie.Need-mul-lane Inv-loop μ-loop
-mul-lane c = search needs
+mul-blend-two : tie.Need-mul-blend-two Inv-loop μ-loop
+mul-blend-two c = search needs
 
-array-read-lane : tie.Need-array-read-lane Inv-loop μ-loop
-array-read-lane c = search needs
+array-read-blend-two : tie.Need-array-read-blend-two Inv-loop μ-loop
+array-read-blend-two c = search needs
 
-mul-lane-2 : tie.Need-mul-lane-2 Inv-loop μ-loop
-mul-lane-2 c = search needs
+mul-blend-two-2 : tie.Need-mul-blend-two-2 Inv-loop μ-loop
+mul-blend-two-2 c = search needs
 
-array-read-lane-2 : tie.Need-array-read-lane-2 Inv-loop μ-loop
-array-read-lane-2 c = search needs
+array-read-blend-two-2 : tie.Need-array-read-blend-two-2 Inv-loop μ-loop
+array-read-blend-two-2 c = search needs
 
 mul-top : tie.Need-mul-top Inv-loop μ-loop
 mul-top c = search needs
@@ -69,8 +69,8 @@ array-read-top-2 c = search needs
 top-requires-2 : tie.Need-top-requires-2 Inv-loop μ-loop
 top-requires-2 c κs = search needs
 
-lane-requires : tie.Need-lane-requires Inv-loop μ-loop
-lane-requires c κs = search needs
+blend-two-requires : tie.Need-blend-two-requires Inv-loop μ-loop
+blend-two-requires c κs = search needs
 
 mul-r : tie.Need-mul-r Inv-loop μ-loop
 mul-r c = search needs
@@ -87,7 +87,7 @@ loop-less c = search needs
 loop-again : tie.Need-loop-again Inv-loop μ-loop
 loop-again c =
     let l = c .before .before .before .before .loop in
-    (omega arith, (simp length-set (omega arith), grown _ (l .r) (l .i) _ (omega arith) (l .inv .1 .1) (c .lane .ensures ∙ lane-by _ _ _ _ _ _ (c .before .before .top .ensures .0) (c .before .top2 .ensures .0))))
+    (omega arith, (simp length-set (omega arith), grown _ (l .r) (l .i) _ (omega arith) (l .inv .1 .1) (c .blend-two .ensures ∙ lane-by _ _ _ _ _ _ (c .before .before .top .ensures .0) (c .before .top2 .ensures .0))))
 
 store8-requires : tie.Need-store8-requires Inv-loop μ-loop
 store8-requires c κs = search needs
@@ -115,10 +115,10 @@ blend-four-spec =
     load8-requires
     load8-requires-2
     loop-holds
-    mul-lane
-    array-read-lane
-    mul-lane-2
-    array-read-lane-2
+    mul-blend-two
+    array-read-blend-two
+    mul-blend-two-2
+    array-read-blend-two-2
     mul-top
     add-top
     mul-top-2
@@ -129,7 +129,7 @@ blend-four-spec =
     mul-top-4
     array-read-top-2
     top-requires-2
-    lane-requires
+    blend-two-requires
     mul-r
     array-write-r
     add-i

@@ -4,7 +4,7 @@ use native.Mathlib.Omega.{arith}
 use lib.ListN.{length}
 use denote.Ref.{now}
 use Rattle.plan.proofs.Factors.{over-is}
-use Rattle.combine_within.proofs.Within.{rest-within, by-rule, apart-part}
+use Rattle.bytes_within.proofs.Within.{rest-within, by-rule, apart-part}
 use borrow.Author.Needs.{needs}
 use Rattle.combine_within.proofs.blend_within.Statement.{statement}
 use Rattle.combine_within.proofs.blend_within.Tie as tie

@@ -1,6 +1,6 @@
 use native.Mathlib.Omega.{arith}
 use denote.Ref.{now}
-use Rattle.combine_within.proofs.Within.{four-copied}
+use Rattle.combine_within.proofs.Fours.{four-copied}
 use borrow.Author.Needs.{needs}
 use Rattle.combine_within.proofs.copy_four.Statement.{statement}
 use Rattle.combine_within.proofs.copy_four.Tie as tie

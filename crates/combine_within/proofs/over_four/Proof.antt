@@ -6,7 +6,7 @@ use denote.Ref.{now}
 use borrow.Author.Count.{below-none}
 use Rattle.lanes.proofs.Laws.{grown}
 use Rattle.plan.specs.Blend.{duo}
-use Rattle.combine_within.proofs.Within.{four-over}
+use Rattle.combine_within.proofs.Fours.{four-over}
 use borrow.Author.Needs.{needs}
 use Rattle.combine_within.proofs.over_four.Statement.{statement}
 use Rattle.combine_within.proofs.over_four.Tie as tie
@@ -26,17 +26,17 @@ load8-requires c κs = search needs
 loop-holds : tie.Need-loop-holds Inv-loop μ-loop
 loop-holds c = (search needs, (search needs, below-none _))
 
-mul-pair : tie.Need-mul-pair Inv-loop μ-loop
-mul-pair c = search needs
+mul-over-two : tie.Need-mul-over-two Inv-loop μ-loop
+mul-over-two c = search needs
 
-array-read-pair : tie.Need-array-read-pair Inv-loop μ-loop
-array-read-pair c = search needs
+array-read-over-two : tie.Need-array-read-over-two Inv-loop μ-loop
+array-read-over-two c = search needs
 
-mul-pair-2 : tie.Need-mul-pair-2 Inv-loop μ-loop
-mul-pair-2 c = search needs
+mul-over-two-2 : tie.Need-mul-over-two-2 Inv-loop μ-loop
+mul-over-two-2 c = search needs
 
-array-read-pair-2 : tie.Need-array-read-pair-2 Inv-loop μ-loop
-array-read-pair-2 c = search needs
+array-read-over-two-2 : tie.Need-array-read-over-two-2 Inv-loop μ-loop
+array-read-over-two-2 c = search needs
 
 mul-top : tie.Need-mul-top Inv-loop μ-loop
 mul-top c = search needs
@@ -53,8 +53,8 @@ array-read-top c = search needs
 top-requires : tie.Need-top-requires Inv-loop μ-loop
 top-requires c κs = search needs
 
-pair-requires : tie.Need-pair-requires Inv-loop μ-loop
-pair-requires c κs = search needs
+over-two-requires : tie.Need-over-two-requires Inv-loop μ-loop
+over-two-requires c κs = search needs
 
 mul-r : tie.Need-mul-r Inv-loop μ-loop
 mul-r c = search needs
@@ -71,7 +71,7 @@ loop-less c = search needs
 loop-again : tie.Need-loop-again Inv-loop μ-loop
 loop-again c =
     let l = c .before .before .before .loop in
-    (omega arith, (simp length-set (omega arith), grown _ (l .r) (l .i) _ (omega arith) (l .inv .1 .1) (c .pair .ensures ∙ ap (duo _ 255 _) (c .before .top .ensures .0))))
+    (omega arith, (simp length-set (omega arith), grown _ (l .r) (l .i) _ (omega arith) (l .inv .1 .1) (c .over-two .ensures ∙ ap (duo _ 255 _) (c .before .top .ensures .0))))
 
 store8-requires : tie.Need-store8-requires Inv-loop μ-loop
 store8-requires c κs = search needs
@@ -99,16 +99,16 @@ over-four-spec =
     load8c-requires
     load8-requires
     loop-holds
-    mul-pair
-    array-read-pair
-    mul-pair-2
-    array-read-pair-2
+    mul-over-two
+    array-read-over-two
+    mul-over-two-2
+    array-read-over-two-2
     mul-top
     add-top
     mul-top-2
     array-read-top
     top-requires
-    pair-requires
+    over-two-requires
     mul-r
     array-write-r
     add-i

@@ -1,15 +1,21 @@
 use mathlib.Core.Path.{refl, sym, _∙_}
 use native.Mathlib.Omega.{arith}
 use denote.Ref.{now}
+use borrow.Author.Tests.{eq-eqb}
+use Rattle.opacity.proofs.Sums.{full-sum, empty-sum}
+use Rattle.plan.proofs.Blends.{Bytes}
 use Rattle.pixel.specs.Rules.{blendModeFactors}
 use Rattle.pixel.specs.declared.blend.RuleName.the-variants.{SrcOver}
-use Rattle.combine_within.proofs.Within.{copy-within, clear-within, add-within}
+use Rattle.combine_within.proofs.Fours.{opaque-within, clear-within, add-within}
 use borrow.Author.Needs.{needs}
 use Rattle.combine_within.proofs.over_turn.Statement.{statement}
 use Rattle.combine_within.proofs.over_turn.Tie as tie
 
 alphas-requires : tie.Need-alphas-requires
 alphas-requires c κs = search needs
+
+is-opaque-requires : tie.Need-is-opaque-requires
+is-opaque-requires c κs = search needs
 
 copy-four-requires : tie.Need-copy-four-requires
 copy-four-requires c κs = search needs
@@ -20,10 +26,12 @@ same-length c = search needs
 returns : tie.Need-returns
 returns c =
     let t = c .before .before .before .before in
-    let k = t .before .before .before in
+    let f = t .before .before in
+    let k = f .before .before in
     let a = k .before .args in
-    copy-within (blendModeFactors SrcOver) (now (a .m)) _ (a .to) (a .from) (λ j. omega (arith, k .slice-known .given j)) (λ y. (refl, refl))
-    (sym (t .before .alphas .ensures) ∙ t .if1 .taken) (c .before .before .copy-four .ensures)
+    let in-m : Bytes (now (a .m)) = λ j. omega (arith, k .slice-known .given j) in
+    opaque-within (blendModeFactors SrcOver) (now (a .m)) _ (a .to) (a .from) in-m (λ y. (refl, refl))
+    (sym (full-sum (now (a .m)) (a .from) _ in-m (f .alphas .ensures)) ∙ (sym (t .before .is-opaque .ensures) ∙ t .if1 .taken)) (c .before .before .copy-four .ensures)
 
 words-requires : tie.Need-words-requires
 words-requires c κs = search needs
@@ -33,7 +41,8 @@ same-length-2 c = search needs
 
 returns-2 : tie.Need-returns-2
 returns-2 c =
-    let k = c .before .before .before .before .before .before .before in
+    let f = c .before .before .before .before .before .before in
+    let k = f .before .before in
     let a = k .before .args in
     clear-within (blendModeFactors SrcOver) (now (a .m)) (now (a .m)) (a .to) (a .from) (λ j. omega (arith, k .slice-known .given j)) (c .before .words .ensures (c .if3 .taken))
 
@@ -46,10 +55,12 @@ same-length-3 c = search needs
 returns-3 : tie.Need-returns-3
 returns-3 c =
     let t = c .before .before .before .before .before .before .before in
-    let f = t .before .before in
+    let f = t .before .before .before in
     let k = f .before .before in
     let a = k .before .args in
-    add-within (blendModeFactors SrcOver) (now (a .m)) _ (a .to) (a .from) (λ j. omega (arith, k .slice-known .given j)) (sym (f .alphas .ensures) ∙ t .if2 .taken) (c .before .before .add-bytes .ensures)
+    let in-m : Bytes (now (a .m)) = λ j. omega (arith, k .slice-known .given j) in
+    add-within (blendModeFactors SrcOver) (now (a .m)) _ (a .to) (a .from) in-m
+    (sym (empty-sum (now (a .m)) (a .from) _ in-m (f .alphas .ensures)) ∙ eq-eqb _ 0 (t .if2 .taken)) (c .before .before .add-bytes .ensures)
 
 over-four-requires : tie.Need-over-four-requires
 over-four-requires c κs = search needs
@@ -65,6 +76,7 @@ over-turn-spec =
     tie.close
     (tie.spec
     alphas-requires
+    is-opaque-requires
     copy-four-requires
     same-length
     returns

@@ -7,8 +7,8 @@ use Rattle.pixel.specs.Rules.{blendModeFactors}
 use Rattle.pixel.specs.declared.blend.RuleName.the-variants.{SrcOver}
 use Rattle.lanes.specs.Lanes.{Done}
 use Rattle.lanes.proofs.Passes.{to-end}
-use Rattle.combine_within.specs.Within.{blendWithin}
-use Rattle.combine_within.proofs.Within.{none-within, four-within, apart-part}
+use Rattle.bytes_within.specs.Within.{blendWithin}
+use Rattle.bytes_within.proofs.Within.{none-within, four-within, apart-part}
 use borrow.Author.Needs.{needs}
 use Rattle.combine_within.proofs.over_turns.Statement.{statement}
 use Rattle.combine_within.proofs.over_turns.Tie as tie

@@ -1,15 +1,20 @@
 use mathlib.Core.Path.{sym, _∙_}
 use native.Mathlib.Omega.{arith}
 use denote.Ref.{now}
-use borrow.Author.Tests.{eqb-true}
-use Rattle.plan.proofs.Factors.{copies-is, leaves-is, both}
-use Rattle.combine_within.proofs.Within.{copy-within, leave-within}
+use Rattle.lanes.proofs.Laws.{both}
+use Rattle.opacity.proofs.Sums.{full-sum, empty-sum}
+use Rattle.plan.proofs.Blends.{Bytes}
+use Rattle.plan.proofs.Factors.{copies-is, leaves-is}
+use Rattle.combine_within.proofs.Fours.{opaque-within, leave-within}
 use borrow.Author.Needs.{needs}
 use Rattle.combine_within.proofs.turn.Statement.{statement}
 use Rattle.combine_within.proofs.turn.Tie as tie
 
 alphas-requires : tie.Need-alphas-requires
 alphas-requires c κs = search needs
+
+is-opaque-requires : tie.Need-is-opaque-requires
+is-opaque-requires c κs = search needs
 
 copy-four-requires : tie.Need-copy-four-requires
 copy-four-requires c κs = search needs
@@ -20,24 +25,27 @@ same-length c = search needs
 returns : tie.Need-returns
 returns c =
     let t = c .before .before .before .before in
-    let f = t .before .before in
+    let v = t .before .before in
+    let f = v .before in
     let k = f .before .before in
     let s = k .before in
+    let in-m : Bytes (now (s .args .m)) = λ j. omega (arith, k .slice-known .given j) in
     let b = both _ _ (t .if1 .taken) in
-    copy-within (s .args .p .rule) (now (s .args .m)) _ (s .args .to) (s .args .from) (λ j. omega (arith, k .slice-known .given j)) (copies-is (s .args .p) (s .pre .1) (b .1))
-    (sym (f .alphas .ensures) ∙ eqb-true _ 1020 (b .0)) (c .before .before .copy-four .ensures)
+    opaque-within (s .args .p .rule) (now (s .args .m)) _ (s .args .to) (s .args .from) in-m (copies-is (s .args .p) (s .pre .1) (b .1))
+    (sym (full-sum (now (s .args .m)) (s .args .from) _ in-m (f .alphas .ensures)) ∙ (sym (v .is-opaque .ensures) ∙ b .0)) (c .before .before .copy-four .ensures)
 
 same-length-2 : tie.Need-same-length-2
 same-length-2 c = search needs
 
 returns-2 : tie.Need-returns-2
 returns-2 c =
-    let f = c .before .before .before .before in
+    let f = c .before .before .before .before .before in
     let k = f .before .before in
     let s = k .before in
+    let in-m : Bytes (now (s .args .m)) = λ j. omega (arith, k .slice-known .given j) in
     let b = both _ _ (c .if2 .taken) in
-    leave-within (s .args .p .rule) (now (s .args .m)) (now (s .args .m)) (s .args .to) (s .args .from) (λ j. omega (arith, k .slice-known .given j)) (leaves-is (s .args .p) (s .pre .1) (b .1))
-    (sym (f .alphas .ensures) ∙ eqb-true _ 0 (b .0))
+    leave-within (s .args .p .rule) (now (s .args .m)) (now (s .args .m)) (s .args .to) (s .args .from) in-m (leaves-is (s .args .p) (s .pre .1) (b .1))
+    (sym (empty-sum (now (s .args .m)) (s .args .from) _ in-m (f .alphas .ensures)) ∙ b .0)
 
 blend-four-requires : tie.Need-blend-four-requires
 blend-four-requires c κs = search needs
@@ -53,6 +61,7 @@ turn-spec =
     tie.close
     (tie.spec
     alphas-requires
+    is-opaque-requires
     copy-four-requires
     same-length
     returns

@@ -5,8 +5,8 @@ use lib.ListN.{length}
 use denote.Ref.{now}
 use Rattle.lanes.specs.Lanes.{Done}
 use Rattle.lanes.proofs.Passes.{to-end}
-use Rattle.combine_within.specs.Within.{blendWithin}
-use Rattle.combine_within.proofs.Within.{none-within, four-within}
+use Rattle.bytes_within.specs.Within.{blendWithin}
+use Rattle.bytes_within.proofs.Within.{none-within, four-within}
 use borrow.Author.Needs.{needs}
 use Rattle.combine_within.proofs.turns.Statement.{statement}
 use Rattle.combine_within.proofs.turns.Tie as tie

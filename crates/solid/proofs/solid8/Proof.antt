@@ -6,7 +6,7 @@ use denote.Ref.{now}
 use borrow.Author.Count.{below-none}
 use Rattle.lanes.proofs.Laws.{grown}
 use Rattle.plan.specs.Blend.{duo}
-use Rattle.solid.specs.Over.{halfOf}
+use Rattle.solid_colour.specs.Solid.{halfOf}
 use Rattle.solid.proofs.Over.{rest-is}
 use borrow.Author.Needs.{needs}
 use Rattle.solid.proofs.solid8.Statement.{statement}
@@ -24,14 +24,14 @@ loop-holds c = (search needs, (search needs, below-none _))
 half-requires : tie.Need-half-requires Inv-loop μ-loop
 half-requires c κs = search needs
 
-mul-pair : tie.Need-mul-pair Inv-loop μ-loop
-mul-pair c = search needs
+mul-over-two : tie.Need-mul-over-two Inv-loop μ-loop
+mul-over-two c = search needs
 
-element-copy-out-pair : tie.Need-element-copy-out-pair Inv-loop μ-loop
-element-copy-out-pair c = search needs
+element-copy-out-over-two : tie.Need-element-copy-out-over-two Inv-loop μ-loop
+element-copy-out-over-two c = search needs
 
-pair-requires : tie.Need-pair-requires Inv-loop μ-loop
-pair-requires c κs =
+over-two-requires : tie.Need-over-two-requires Inv-loop μ-loop
+over-two-requires c κs =
     let a = c .before .before .before .before in
     omega (arith, rest-is (a .args .s) (a .pre))
 
@@ -52,7 +52,7 @@ loop-again c =
     let h = c .before .before in
     let l = h .before .before .loop in
     let a = h .before .before .before in
-    (omega arith, (simp length-set (omega arith), grown _ (l .r) (l .i) _ (omega arith) (l .inv .1 .1) (c .pair .ensures ∙ ap (λ (n : ℕ). duo (65535 - n) 255 (getD (now (a .args .d)) (l .i) 0) (a .args .s .rest)) (h .half .ensures))))
+    (omega arith, (simp length-set (omega arith), grown _ (l .r) (l .i) _ (omega arith) (l .inv .1 .1) (c .over-two .ensures ∙ ap (λ (n : ℕ). duo (65535 - n) 255 (getD (now (a .args .d)) (l .i) 0) (a .args .s .rest)) (h .half .ensures))))
 
 returns : tie.Need-returns Inv-loop μ-loop
 returns c = λ k l. c .before .loop .inv .1 .1 k (omega arith)
@@ -65,9 +65,9 @@ solid8-spec =
     μ-loop
     loop-holds
     half-requires
-    mul-pair
-    element-copy-out-pair
-    pair-requires
+    mul-over-two
+    element-copy-out-over-two
+    over-two-requires
     mul-r
     array-write-r
     add-i

@@ -14,8 +14,8 @@ half-requires c κs = search needs
 get2-requires : tie.Need-get2-requires
 get2-requires c κs = search needs
 
-pair-requires : tie.Need-pair-requires
-pair-requires c κs =
+over-two-requires : tie.Need-over-two-requires
+over-two-requires c κs =
     let a = c .before .before .before .before .before in
     omega (arith, rest-is (a .args .s) (a .pre .1))
 
@@ -35,7 +35,7 @@ returns c =
     let a = d .before in
     let s = a .args .s in
     let o = a .args .o in
-    let w : p .before .pair .result ≡ wordOver s (a .args .d .now) o = p .before .pair .ensures ∙ cc (h .half .ensures, g .get2 .ensures) in
+    let w : p .before .over-two .result ≡ wordOver s (a .args .d .now) o = p .before .over-two .ensures ∙ cc (h .half .ensures, g .get2 .ensures) in
     to-end _ _ _ _ (o + 1 * 2) _ (omega arith)
     (words-done s (a .pre .1) (a .args .d .now) (p .put2 .last .0) (λ j. omega (arith, d .slice-known .given j)) o 1 (a .pre .0 .1)
     (λ k l. let i : o + k * 2 ≡ o = omega arith in rw i (p .put2 .ensures .0 ∙ ap (λ (n : ℕ). n % 256) w))
@@ -45,4 +45,4 @@ returns c =
 pub solid-word-spec : {M : Type 1} → statement M
 solid-word-spec =
     tie.close
-    (tie.spec half-requires get2-requires pair-requires put2-requires same-length returns)
+    (tie.spec half-requires get2-requires over-two-requires put2-requires same-length returns)

@@ -1,25 +1,38 @@
 use mathlib.Core.Path.{sym, _∙_}
-use borrow.Author.Tests.{not-true}
-use Rattle.word.proofs.Tests.{and-true}
+use borrow.Author.Tests.{leb-true}
 use borrow.Author.Needs.{needs}
 use Rattle.tasks.proofs.draw_task.Statement.{statement}
 use Rattle.tasks.proofs.draw_task.Tie as tie
 
-is-moved-requires : tie.Need-is-moved-requires
-is-moved-requires c κs = search needs
+kind-of-requires : tie.Need-kind-of-requires
+kind-of-requires c κs = search needs
 
-is-near-requires : tie.Need-is-near-requires
-is-near-requires c κs = search needs
+enum-told : tie.Need-enum-told
+enum-told c = search needs
 
-moved-rows-requires : tie.Need-moved-rows-requires
-moved-rows-requires c κs =
+draw-filled-requires : tie.Need-draw-filled-requires
+draw-filled-requires c κs =
     let t = c .before in
-    let n = t .before .before .before .before in
-    let b = and-true _ _ (t .if2 .taken) in (
-      n .before .before .before .before .before .before .pre,
-      record { plain = not-true _ (n .if1 .taken); moved = sym (t .before .before .is-moved .ensures) ∙ b .0 },
-      sym (t .before .is-near .ensures) ∙ b .1,
-    )
+    let k = t .before .before in
+    (k .before .before .before .before .pre, sym (k .kind-of .ensures) ∙ t .enum-told .given .1)
+
+enum-told-2 : tie.Need-enum-told-2
+enum-told-2 c = search needs
+
+draw-moved-requires : tie.Need-draw-moved-requires
+draw-moved-requires c κs =
+    let t = c .before in
+    let k = t .before .before in
+    (k .before .before .before .before .pre, sym (k .kind-of .ensures) ∙ t .enum-told2 .given .1)
+
+enum-told-3 : tie.Need-enum-told-3
+enum-told-3 c = search needs
+
+narrow-carried-requires : tie.Need-narrow-carried-requires
+narrow-carried-requires c κs =
+    let t = c .before .before in
+    let k = t .before .before in
+    (k .before .before .before .before .pre, leb-true _ _ (c .before .if1 .taken), sym (k .kind-of .ensures) ∙ t .enum-told3 .given .1)
 
 same-length : tie.Need-same-length
 same-length c = search needs
@@ -27,14 +40,35 @@ same-length c = search needs
 returns : tie.Need-returns
 returns c = search needs
 
-is-uniform-requires : tie.Need-is-uniform-requires
-is-uniform-requires c κs = search needs
+wide-carried-requires : tie.Need-wide-carried-requires
+wide-carried-requires c κs =
+    let t = c .before .before in
+    let k = t .before .before in
+    (k .before .before .before .before .pre, sym (k .kind-of .ensures) ∙ t .enum-told3 .given .1)
 
-filled-rows-requires : tie.Need-filled-rows-requires
-filled-rows-requires c κs =
+enum-told-4 : tie.Need-enum-told-4
+enum-told-4 c = search needs
+
+draw-solid-requires : tie.Need-draw-solid-requires
+draw-solid-requires c κs =
     let t = c .before in
-    let n = t .before .before .before .before .before .before in
-    (n .before .before .before .before .before .before .pre, record { plain = not-true _ (n .if1 .taken); uniform = sym (t .before .is-uniform .ensures) ∙ t .if3 .taken })
+    let k = t .before .before in
+    (k .before .before .before .before .pre, sym (k .kind-of .ensures) ∙ t .enum-told4 .given .1)
+
+enum-told-5 : tie.Need-enum-told-5
+enum-told-5 c = search needs
+
+draw-within-requires : tie.Need-draw-within-requires
+draw-within-requires c κs =
+    let t = c .before in
+    let k = t .before .before in
+    (k .before .before .before .before .pre, sym (k .kind-of .ensures) ∙ t .enum-told5 .given .1)
+
+enum-told-6 : tie.Need-enum-told-6
+enum-told-6 c = search needs
+
+narrow-buffered-requires : tie.Need-narrow-buffered-requires
+narrow-buffered-requires c κs = search needs
 
 same-length-2 : tie.Need-same-length-2
 same-length-2 c = search needs
@@ -42,16 +76,8 @@ same-length-2 c = search needs
 returns-2 : tie.Need-returns-2
 returns-2 c = search needs
 
-plan-of-requires : tie.Need-plan-of-requires
-plan-of-requires c κs = search needs
-
-is-tinted-requires : tie.Need-is-tinted-requires
-is-tinted-requires c κs = search needs
-
-tinted-rows-requires : tie.Need-tinted-rows-requires
-tinted-rows-requires c κs =
-    let t = c .before in
-    (t .before .before .before .before .before .before .before .before .before .pre, sym (t .before .is-tinted .ensures) ∙ t .if4 .taken)
+wide-buffered-requires : tie.Need-wide-buffered-requires
+wide-buffered-requires c κs = search needs
 
 same-length-3 : tie.Need-same-length-3
 same-length-3 c = search needs
@@ -59,23 +85,11 @@ same-length-3 c = search needs
 returns-3 : tie.Need-returns-3
 returns-3 c = search needs
 
-is-blended-within-requires : tie.Need-is-blended-within-requires
-is-blended-within-requires c κs = search needs
-
-within-rows-requires : tie.Need-within-rows-requires
-within-rows-requires c κs =
-    let t = c .before in
-    let n = t .before .before .before .before in
-    (n .before .before .before .before .before .before .before .pre, sym (t .before .is-blended-within .ensures) ∙ t .if5 .taken, n .plan-of .ensures)
-
 same-length-4 : tie.Need-same-length-4
 same-length-4 c = search needs
 
 returns-4 : tie.Need-returns-4
 returns-4 c = search needs
-
-narrow-rows-requires : tie.Need-narrow-rows-requires
-narrow-rows-requires c κs = search needs
 
 same-length-5 : tie.Need-same-length-5
 same-length-5 c = search needs
@@ -83,40 +97,56 @@ same-length-5 c = search needs
 returns-5 : tie.Need-returns-5
 returns-5 c = search needs
 
-wide-rows-requires : tie.Need-wide-rows-requires
-wide-rows-requires c κs = search needs
-
 same-length-6 : tie.Need-same-length-6
 same-length-6 c = search needs
 
 returns-6 : tie.Need-returns-6
 returns-6 c = search needs
 
+same-length-7 : tie.Need-same-length-7
+same-length-7 c = search needs
+
+returns-7 : tie.Need-returns-7
+returns-7 c = search needs
+
+same-length-8 : tie.Need-same-length-8
+same-length-8 c = search needs
+
+returns-8 : tie.Need-returns-8
+returns-8 c = search needs
+
 pub draw-task-spec : {M : Type 1} → statement M
 draw-task-spec =
     tie.close
     (tie.spec
-    is-moved-requires
-    is-near-requires
-    moved-rows-requires
+    kind-of-requires
+    enum-told
+    draw-filled-requires
+    enum-told-2
+    draw-moved-requires
+    enum-told-3
+    narrow-carried-requires
     same-length
     returns
-    is-uniform-requires
-    filled-rows-requires
+    wide-carried-requires
+    enum-told-4
+    draw-solid-requires
+    enum-told-5
+    draw-within-requires
+    enum-told-6
+    narrow-buffered-requires
     same-length-2
     returns-2
-    plan-of-requires
-    is-tinted-requires
-    tinted-rows-requires
+    wide-buffered-requires
     same-length-3
     returns-3
-    is-blended-within-requires
-    within-rows-requires
     same-length-4
     returns-4
-    narrow-rows-requires
     same-length-5
     returns-5
-    wide-rows-requires
     same-length-6
-    returns-6)
+    returns-6
+    same-length-7
+    returns-7
+    same-length-8
+    returns-8)

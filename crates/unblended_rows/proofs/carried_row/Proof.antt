@@ -2,7 +2,9 @@ use mathlib.Core.Path.{sym, _∙_}
 use native.Mathlib.Omega.{arith}
 use denote.Ref.{now}
 use Rattle.raster.proofs.Pixel.{pixel-plain}
-use Rattle.unblended_rows.proofs.Moved.{moved-parts, source-buffer}
+use Rattle.kinds.specs.declared.Kind.the-variants.{Carried}
+use Rattle.raster.proofs.Parts.{of-kind}
+use Rattle.unblended_rows.proofs.Moved.{source-buffer}
 use Rattle.raster.proofs.Place.{ordered, room, fetches, length-window, row-fits, row-drawn}
 use borrow.Author.Needs.{needs}
 use Rattle.unblended_rows.proofs.carried_row.Statement.{statement}
@@ -21,16 +23,17 @@ fetch-bytes-requires : tie.Need-fetch-bytes-requires
 fetch-bytes-requires c κs =
     let s = c .before .before .before .before .before .before .before .before in
     let a = s .args in
-    let m = moved-parts (a .task) (s .pre .1 .moved) in
-    let f = fetches (s .pre .0 .ask) (now (a .source)) (s .pre .0 .buffers .source) in
+    let k = of-kind (a .window) (a .task) Carried (s .pre .2) in
+    let m = k .moved in
+    let f = fetches (s .pre .0) (now (a .source)) (s .pre .1) in
     (record { inside = f .inside (m .buffer); across = f .across; down = f .down; room = f .room }, m .upright, m .kept)
 
 sub-store-at : tie.Need-sub-store-at
-sub-store-at c = ordered (c .before .before .before .before .before .before .before .before .before .before .before .pre .0 .ask)
+sub-store-at c = ordered (c .before .before .before .before .before .before .before .before .before .before .before .pre .0)
 
 part-store-at-start : tie.Need-part-store-at-start
 part-store-at-start c =
-    let r = c .before .before .before .before .before .before .before .before .before .before .before .pre .0 .ask in
+    let r = c .before .before .before .before .before .before .before .before .before .before .before .pre .0 in
     omega (arith, ordered r, room r)
 
 part-store-at-end : tie.Need-part-store-at-end
@@ -40,10 +43,10 @@ store-at-requires : tie.Need-store-at-requires
 store-at-requires c κs =
     let f = c .before .before .before .before in
     let t = f .before .before .before in
-    let p = t .before .before .before .before .before .before .pre .0 in
+    let p = t .before .before .before .before .before .before .pre in
     record {
-      inside = omega (arith, row-fits (p .ask) _ (t .row-start .ensures), length-window (p .ask));
-      room = omega (arith, f .fetch-bytes .kept .0, p .buffers .source, p .ask .drawable .clear .output .narrow);
+      inside = omega (arith, row-fits (p .0) _ (t .row-start .ensures), length-window (p .0));
+      room = omega (arith, f .fetch-bytes .kept .0, p .1, p .0 .drawable .clear .output .narrow);
     }
 
 same-length : tie.Need-same-length
@@ -59,9 +62,10 @@ returns c =
     let s = t .before .before .before .before .before .before in
     let a = s .args in
     let b = c .before .before .store-at in
-    let m = moved-parts (a .task) (s .pre .1 .moved) in
-    row-drawn (s .pre .0 .ask) _ (t .row-start .result) (b .last .0) (t .row-start .ensures) (b .ensures)
-    (λ x u. rw (← m .format) (f .fetch-bytes .ensures x u) ∙ sym (pixel-plain (a .task) (now (a .memory)) x (a .y) (s .pre .1 .plain) ∙ source-buffer (a .task .source) (now (a .memory)) x (a .y) (m .buffer)))
+    let k = of-kind (a .window) (a .task) Carried (s .pre .2) in
+    let m = k .moved in
+    row-drawn (s .pre .0) _ (t .row-start .result) (b .last .0) (t .row-start .ensures) (b .ensures)
+    (λ x u. rw (← m .format) (f .fetch-bytes .ensures x u) ∙ sym (pixel-plain (a .task) (now (a .memory)) x (a .y) (k .plain) ∙ source-buffer (a .task .source) (now (a .memory)) x (a .y) (m .buffer)))
 
 pub carried-row-spec : {M : Type 1} → statement M
 carried-row-spec =

@@ -1,11 +1,15 @@
-//! Every pair of factors on a grid of channels, every rule by name, every sum that a blend can come to, rows blended inside the window, every mix of formats.
+//! Every pair of factors on a grid of channels, every rule by name, every sum that a blend can come to, rows blended inside the window and tasks that are
+//! nearly such, every mix of formats.
 use crate::bench::bench;
 use crate::trials::{Agreed, Trials};
 use independent::engine::Numbers;
 use independent::made_tasks::Fields;
 use independent::pixel::{FORMATS, RULES};
-use independent::sample_tasks::{blended, copy, Place, ARGB8888};
-use independent::writer::field::{ADDRESS, DESTINATION, DESTINATION_FACTOR, SOURCE_FACTOR};
+use independent::sample_tasks::{blended, copy, Place, ARGB8888, RGB565, RGB888};
+use independent::writer::field::{
+    ADDRESS, DESTINATION, DESTINATION_ALPHA_MODE, DESTINATION_FACTOR, DESTINATION_GLOBAL_ALPHA, FLIP_H, FORMAT, OUTPUT,
+    PREMULTIPLIED, SOURCE, SOURCE_ALPHA_MODE, SOURCE_FACTOR, SOURCE_GLOBAL_ALPHA, STRIDE, TURNS,
+};
 
 /// Levels of a channel at the edges and between.
 const GRID: [u8; 12] = [0, 1, 2, 63, 64, 100, 127, 128, 191, 200, 254, 255];
@@ -21,6 +25,7 @@ pub fn compare(trials: &mut Trials) -> Agreed {
     all_channels(trials)?;
     all_sums(trials)?;
     within_window(trials)?;
+    nearly_within(trials)?;
     through_buffers(trials)?;
     formats(trials)
 }
@@ -132,6 +137,44 @@ fn within_window(trials: &mut Trials) -> Agreed {
         let task = copy(place(address as u32), place(2001), 0, 0, flip as u32);
         for (name, _, _) in RULES {
             trials.task(&buffers, &blended(task, name))?;
+        }
+    }
+    Ok(())
+}
+
+/// What keeps rows from being blended inside the window, a thing at a time: fields that differ from those of a task whose rows are.
+const DIFFERENCES: [&[(usize, u32)]; 17] = [
+    &[],
+    &[(SOURCE_ALPHA_MODE, 1), (SOURCE_GLOBAL_ALPHA, 100)],
+    &[(SOURCE_ALPHA_MODE, 2), (SOURCE_GLOBAL_ALPHA, 100)],
+    &[(DESTINATION_ALPHA_MODE, 1), (DESTINATION_GLOBAL_ALPHA, 100)],
+    &[(DESTINATION_ALPHA_MODE, 2), (DESTINATION_GLOBAL_ALPHA, 100)],
+    &[(PREMULTIPLIED, 1)],
+    &[(FLIP_H, 1)],
+    &[(TURNS, 1)],
+    &[(TURNS, 2)],
+    &[(TURNS, 3)],
+    &[(SOURCE + FORMAT, RGB888)],
+    &[(SOURCE + FORMAT, RGB565)],
+    &[(OUTPUT + FORMAT, RGB888), (DESTINATION + FORMAT, RGB888)],
+    &[(OUTPUT + FORMAT, RGB565), (DESTINATION + FORMAT, RGB565)],
+    &[(DESTINATION + ADDRESS, 3001)],
+    &[(DESTINATION + ADDRESS, 3001), (DESTINATION + STRIDE, 72)],
+    &[(SOURCE + ADDRESS, 1)],
+];
+
+/// Source and output in the window but for one difference, under every rule, upside down and not.
+fn nearly_within(trials: &mut Trials) -> Agreed {
+    let buffers = bench(Numbers { ring: 128, memory: 4000, common: 1000 }, 0);
+    for (number, difference) in (0..2 * 6).flat_map(|number| DIFFERENCES.map(|difference| (number, difference))) {
+        let side = [1, 3, 4, 5, 9, 12][number / 2];
+        let place = |address| Place { address, stride: 56, width: side, height: side, format: ARGB8888 };
+        for (name, _, _) in RULES {
+            let mut task = blended(copy(place(1001), place(2001), 0, 0, (number % 2) as u32), name);
+            for (field, value) in difference {
+                task[*field] = *value;
+            }
+            trials.task(&buffers, &task)?;
         }
     }
     Ok(())

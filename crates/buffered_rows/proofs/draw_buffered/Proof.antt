@@ -1,0 +1,87 @@
+use mathlib.Core.Path.{_≡_, refl, _∙_}
+use Prim.Native.Nat.{_-_}
+use native.Mathlib.Omega.{arith}
+use lib.ListN.{length}
+use Rattle.raster.proofs.Upto.{Upto, upto-none, upto-length, upto-row, upto-more, upto-all}
+use borrow.Author.Needs.{needs}
+use Rattle.buffered_rows.proofs.draw_buffered.Statement.{statement}
+use Rattle.buffered_rows.proofs.draw_buffered.Tie as tie
+
+abbrev Inv-loop : tie.InvT-loop
+Inv-loop memory₀ window task source₀ destination₀ plan finish height y₀ memory source destination y = Upto task memory₀ memory y × (length source ≡ length source₀) × (length destination ≡ length destination₀)
+
+abbrev μ-loop : tie.MeasureT-loop
+μ-loop memory₀ window task source₀ destination₀ plan finish height y₀ memory source destination y = height - y
+
+plan-of-requires : tie.Need-plan-of-requires Inv-loop μ-loop
+plan-of-requires c κs = search needs
+
+finish-of-requires : tie.Need-finish-of-requires Inv-loop μ-loop
+finish-of-requires c κs = search needs
+
+loop-holds : tie.Need-loop-holds Inv-loop μ-loop
+loop-holds c = (upto-none _ _, refl, refl)
+
+buffered-row-requires : tie.Need-buffered-row-requires Inv-loop μ-loop
+buffered-row-requires c κs =
+    let t = c .before .before .before in
+    let l = t .before .loop in
+    let f = t .before .before .before in
+    let s = f .before .before .before .before .before .before in (
+      upto-row (l .inv .0) (s .pre .0) (t .loop-test .taken),
+      record {
+        source = omega (arith, l .inv .1, s .pre .1);
+        destination = omega (arith, l .inv .2, s .pre .2);
+        finish = f .finish-of .ensures;
+        plan = f .before .plan-of .ensures;
+      },
+    )
+
+add-y : tie.Need-add-y Inv-loop μ-loop
+add-y c =
+    let t = c .before .before .before .before .before .before .before .before .before .before in
+    omega (arith, t .loop-test .taken, t .before .before .before .before .before .before .before .before .before .pre .0 .clear .output .low)
+
+loop-less : tie.Need-loop-less Inv-loop μ-loop
+loop-less c = search needs
+
+loop-again : tie.Need-loop-again Inv-loop μ-loop
+loop-again c =
+    let d = c .before .before .before .before .before .before in
+    let t = d .before .before .before .before in
+    let l = t .before .loop in
+    let f = d .buffered-row in (
+      upto-more (l .inv .0) (t .before .before .before .before .before .before .before .before .before .pre .0) (t .loop-test .taken) (f .last .0) (f .ensures),
+      f .kept .1 .1 .1 .1 .1 .1 .0 ∙ l .inv .1,
+      f .kept .1 .1 .1 .1 .1 .1 .1 .0 ∙ l .inv .2,
+    )
+
+same-length : tie.Need-same-length Inv-loop μ-loop
+same-length c = upto-length (c .before .loop .inv .0)
+
+same-length-2 : tie.Need-same-length-2 Inv-loop μ-loop
+same-length-2 c = search needs
+
+same-length-3 : tie.Need-same-length-3 Inv-loop μ-loop
+same-length-3 c = search needs
+
+returns : tie.Need-returns Inv-loop μ-loop
+returns c = upto-all (c .before .loop .inv .0) (omega arith)
+
+pub draw-buffered-spec : {M : Type 1} → statement M
+draw-buffered-spec =
+    tie.close
+    (tie.spec
+    Inv-loop
+    μ-loop
+    plan-of-requires
+    finish-of-requires
+    loop-holds
+    buffered-row-requires
+    add-y
+    loop-less
+    loop-again
+    same-length
+    same-length-2
+    same-length-3
+    returns)

@@ -1,0 +1,102 @@
+use mathlib.Core.Path.{sym, ap, ap₂, _∙_}
+use Prim.Native.Nat.{ℕ, _+_, _*_}
+use native.Mathlib.Omega.{arith}
+use denote.Ref.{now}
+use Rattle.pixel.specs.Formats.{bytesPerPixel}
+use Rattle.surface.specs.Drawn.{loadPixel}
+use Rattle.rows.specs.Row.{colourAt}
+use Rattle.rows.specs.Mixed.{composite}
+use Rattle.kinds.specs.declared.Finish.the-variants.{Blended}
+use Rattle.raster.proofs.Parts.{of-finish}
+use Rattle.raster.specs.Task.{destinationColour}
+use Rattle.raster.proofs.Pixel.{pixel-blended}
+use borrow.Author.Needs.{needs}
+use Rattle.buffered_rows.proofs.read_row.Statement.{statement}
+use Rattle.buffered_rows.proofs.read_row.Tie as tie
+
+cast-width : tie.Need-cast-width
+cast-width c = search needs
+
+fetch-source-requires : tie.Need-fetch-source-requires
+fetch-source-requires c κs = search needs
+
+enum-told : tie.Need-enum-told
+enum-told c = search needs
+
+same-length : tie.Need-same-length
+same-length c = search needs
+
+returns : tie.Need-returns
+returns c = rw (c .enum-told .given .1) (c .before .before .before .before .fetch-source .ensures)
+
+enum-told-2 : tie.Need-enum-told-2
+enum-told-2 c = search needs
+
+same-length-2 : tie.Need-same-length-2
+same-length-2 c = search needs
+
+returns-2 : tie.Need-returns-2
+returns-2 c = rw (c .enum-told2 .given .1) (c .before .before .before .before .fetch-source .ensures)
+
+enum-told-3 : tie.Need-enum-told-3
+enum-told-3 c = search needs
+
+row-start-requires : tie.Need-row-start-requires
+row-start-requires c κs = search needs
+
+fetch-row-requires : tie.Need-fetch-row-requires
+fetch-row-requires c κs =
+    let t = c .before .before .before .before in
+    let s = t .before .before .before .before .before .before .before .before .before .before .before .before in
+    let on = of-finish (s .args .task) Blended (sym (t .enum-told3 .given .1) ∙ s .pre .1 .finish) in
+    (omega (arith, c .before .row-start .ensures, s .pre .0 .destination on), omega (arith, s .pre .1 .destination))
+
+blend-row-requires : tie.Need-blend-row-requires
+blend-row-requires c κs = search needs
+
+same-length-3 : tie.Need-same-length-3
+same-length-3 c = search needs
+
+same-length-4 : tie.Need-same-length-4
+same-length-4 c = search needs
+
+returns-3 : tie.Need-returns-3
+unfolding destinationColour colourAt
+returns-3 c =
+    let b = c .before .before .before .before in
+    let g = b .before .before .before .before .before in
+    let u = g .before .before in
+    let t = u .before .before .before in
+    let f = t .before .before .before .before in
+    let s = f .before .before .before .before .before .before .before .before in
+    let a = s .args in
+    let d = a .task .destination .surface in
+    let told = t .enum-told3 .given .1 in
+    let on = of-finish (a .task) Blended (sym told ∙ s .pre .1 .finish) in
+    rw told
+    (λ x l.
+    b .blend-row .ensures x l
+    ∙ (ap₂ (composite (a .task .blending) (a .task .source .alpha) (a .task .destination .alpha))
+    (f .fetch-source .ensures x l)
+    (g .fetch-row .ensures x l ∙ ap (λ (i : ℕ). loadPixel (d .format) (now (a .memory)) (i + x * bytesPerPixel (d .format))) (u .row-start .ensures))
+    ∙ sym (pixel-blended (a .task) (now (a .memory)) x (a .y) on)))
+
+pub read-row-spec : {M : Type 1} → statement M
+read-row-spec =
+    tie.close
+    (tie.spec
+    cast-width
+    fetch-source-requires
+    enum-told
+    same-length
+    returns
+    enum-told-2
+    same-length-2
+    returns-2
+    enum-told-3
+    row-start-requires
+    fetch-row-requires
+    blend-row-requires
+    same-length-3
+    same-length-4
+    returns-3)

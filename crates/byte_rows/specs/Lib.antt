@@ -1,0 +1,2 @@
+-- Bytes copied inside one slice.
+pub mod Apart

@@ -1,0 +1,111 @@
+use mathlib.Core.Path.{_≡_, refl, sym, _∙_}
+use Prim.Native.Nat.{_+_, _-_, _≤_}
+use native.Mathlib.Omega.{arith}
+use lib.ListN.{length, length-set}
+use denote.Ref.{now}
+use Rattle.lanes.specs.Lanes.{Done}
+use Rattle.lanes.proofs.Passes.{none-done, to-end}
+use Rattle.bytes_within.specs.Within.{blendWithin}
+use Rattle.bytes_within.proofs.Within.{within-reads, byte-within}
+use borrow.Author.Needs.{needs}
+use Rattle.bytes_within.proofs.blend_bytes.Statement.{statement}
+use Rattle.bytes_within.proofs.blend_bytes.Tie as tie
+
+abbrev Inv-loop : tie.InvT-loop
+Inv-loop m₀ to from a n p j₀ m j = ((a ≤ j) × (j ≤ n)) × (length m ≡ length m₀) × Done (blendWithin (p .rule) m₀ to from) m₀ m (to + a) (to + j)
+
+abbrev μ-loop : tie.MeasureT-loop
+μ-loop m₀ to from a n p j₀ m j = n - j
+
+loop-holds : tie.Need-loop-holds Inv-loop μ-loop
+loop-holds c = (search needs, refl, none-done _ _ _)
+
+mul-k : tie.Need-mul-k Inv-loop μ-loop
+mul-k c = search needs
+
+add-k : tie.Need-add-k Inv-loop μ-loop
+add-k c = search needs
+
+add-blend-one : tie.Need-add-blend-one Inv-loop μ-loop
+add-blend-one c = search needs
+
+slice-read-blend-one : tie.Need-slice-read-blend-one Inv-loop μ-loop
+slice-read-blend-one c = search needs
+
+add-blend-one-2 : tie.Need-add-blend-one-2 Inv-loop μ-loop
+add-blend-one-2 c = search needs
+
+slice-read-blend-one-2 : tie.Need-slice-read-blend-one-2 Inv-loop μ-loop
+slice-read-blend-one-2 c = search needs
+
+add-blend-one-3 : tie.Need-add-blend-one-3 Inv-loop μ-loop
+add-blend-one-3 c = search needs
+
+slice-read-blend-one-3 : tie.Need-slice-read-blend-one-3 Inv-loop μ-loop
+slice-read-blend-one-3 c = search needs
+
+add-blend-one-4 : tie.Need-add-blend-one-4 Inv-loop μ-loop
+add-blend-one-4 c = search needs
+
+slice-read-blend-one-4 : tie.Need-slice-read-blend-one-4 Inv-loop μ-loop
+slice-read-blend-one-4 c = search needs
+
+blend-one-requires : tie.Need-blend-one-requires Inv-loop μ-loop
+blend-one-requires c κs = search needs
+
+add-m : tie.Need-add-m Inv-loop μ-loop
+add-m c = search needs
+
+slice-write-m : tie.Need-slice-write-m Inv-loop μ-loop
+slice-write-m c = search needs
+
+add-j : tie.Need-add-j Inv-loop μ-loop
+add-j c = search needs
+
+loop-less : tie.Need-loop-less Inv-loop μ-loop
+loop-less c = search needs
+
+loop-again : tie.Need-loop-again Inv-loop μ-loop
+loop-again c =
+    let l = c .before .before .before .before .before .before in
+    let s = l .before .before in
+    let a = s .args in (
+      (omega arith, omega arith),
+      simp length-set (l .loop .inv .1),
+      byte-within (a .p .rule) (now (a .m)) (l .loop .m) (a .to) (a .from) (a .n) (l .loop .j) (a .to + a .a) (s .pre .0 .0) (s .pre .0 .1 .1) (omega arith) (omega arith) (omega arith) (l .loop .inv .2) _
+          (c .before .before .before .before .before .loop-test .taken) (omega (arith, l .loop .inv .1, s .pre .0 .0 .target)) (c .blend-one .ensures ∙ sym (within-reads (a .p .rule) (l .loop .m) (a .to) (a .from) (l .loop .j))),
+    )
+
+same-length : tie.Need-same-length Inv-loop μ-loop
+same-length c = search needs
+
+returns : tie.Need-returns Inv-loop μ-loop
+returns c =
+    let l = c .before .loop in
+    to-end _ _ _ _ (c .before .before .before .args .to + l .j) _ (omega arith) (l .inv .2)
+
+pub blend-bytes-spec : {M : Type 1} → statement M
+blend-bytes-spec =
+    tie.close
+    (tie.spec
+    Inv-loop
+    μ-loop
+    loop-holds
+    mul-k
+    add-k
+    add-blend-one
+    slice-read-blend-one
+    add-blend-one-2
+    slice-read-blend-one-2
+    add-blend-one-3
+    slice-read-blend-one-3
+    add-blend-one-4
+    slice-read-blend-one-4
+    blend-one-requires
+    add-m
+    slice-write-m
+    add-j
+    loop-less
+    loop-again
+    same-length
+    returns)

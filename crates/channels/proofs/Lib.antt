@@ -1,0 +1,2 @@
+-- one channel, and two in a word
+pub mod Channels

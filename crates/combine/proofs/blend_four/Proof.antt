@@ -1,0 +1,40 @@
+use Rattle.combine.proofs.Fours.{blend-two, four-done}
+use mathlib.Core.Path.{_∙_}
+use native.Mathlib.Omega.{arith}
+use borrow.Author.Needs.{needs}
+use Rattle.combine.proofs.blend_four.Statement.{statement}
+use Rattle.combine.proofs.blend_four.Tie as tie
+
+-- src/lane.rt:75:13
+load8-requires : tie.Need-load8-requires
+load8-requires c κs = search needs
+
+-- src/lane.rt:76:13
+load8-requires-2 : tie.Need-load8-requires-2
+load8-requires-2 c κs = search needs
+
+-- src/lane.rt:77:13
+blend8-requires : tie.Need-blend8-requires
+blend8-requires c κs = search needs
+
+-- src/lane.rt:78:5
+store8-requires : tie.Need-store8-requires
+store8-requires c κs = search needs
+
+-- src/lane.rt:71:1
+same-length : tie.Need-same-length
+same-length c = search needs
+
+-- src/lane.rt:71:1
+returns : tie.Need-returns
+returns c =
+    let a = c .before .before .before .before .before .before .before .before .before .before .before .before .before in
+    let r = c .before .before .before .before .before in
+    four-done (a .args .p .rule) _ _ (r .blend8 .result) (c .before .before .store8 .last .0) (a .args .o) (a .pre .0 .1) (λ j. omega (arith, c .before .before .before .before .before .before .before .before .before .before .before .shared-slice-known .given j)) (λ j. omega (arith, c .before .before .before .before .before .before .before .before .before .before .before .before .slice-known .given j))
+    (λ k l. r .blend8 .ensures k l ∙ blend-two (a .args .s .now) (a .args .d .now) (c .before .before .before .before .before .before .before .before .load82 .result) (c .before .before .before .before .before .before .before .before .before .load8 .result) (a .args .o) (c .before .before .before .before .before .before .before .before .before .load8 .ensures) (a .args .p .rule) (c .before .before .before .before .before .before .before .before .load82 .ensures) k l)
+    (c .before .before .store8 .ensures .0) (c .before .before .store8 .ensures .1 .0) (c .before .before .store8 .ensures .1 .1 .0) (c .before .before .store8 .ensures .1 .1 .1)
+
+pub blend-four-spec : {M : Type 1} → statement M
+blend-four-spec =
+    tie.close
+    (tie.spec load8-requires load8-requires-2 blend8-requires store8-requires same-length returns)

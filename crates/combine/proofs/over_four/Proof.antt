@@ -1,0 +1,44 @@
+use Rattle.pixel.specs.Rules.{blendModeFactors}
+use Rattle.pixel.specs.declared.blend.RuleName.the-variants.{SrcOver}
+use Rattle.plan.proofs.Blends.{Bytes}
+use Rattle.combine.proofs.Fours.{over-two, four-done}
+use mathlib.Core.Path.{_∙_}
+use native.Mathlib.Omega.{arith}
+use borrow.Author.Needs.{needs}
+use Rattle.combine.proofs.over_four.Statement.{statement}
+use Rattle.combine.proofs.over_four.Tie as tie
+
+-- src/lane.rt:78:13
+load8c-requires : tie.Need-load8c-requires
+load8c-requires c κs = search needs
+
+-- src/lane.rt:79:13
+load8-requires : tie.Need-load8-requires
+load8-requires c κs = search needs
+
+-- src/lane.rt:80:13
+over8-requires : tie.Need-over8-requires
+over8-requires c κs = search needs
+
+-- src/lane.rt:81:5
+store8-requires : tie.Need-store8-requires
+store8-requires c κs = search needs
+
+-- src/lane.rt:74:1
+same-length : tie.Need-same-length
+same-length c = search needs
+
+-- src/lane.rt:74:1
+returns : tie.Need-returns
+returns c =
+    let a = c .before .before .before .before .before .before .before .before .before .before .before .before .before in
+    let in-s : Bytes (a .args .s .now) = λ j. omega (arith, c .before .before .before .before .before .before .before .before .before .before .before .shared-slice-known .given j) in
+    let in-d : Bytes (a .args .d .now) = λ j. omega (arith, c .before .before .before .before .before .before .before .before .before .before .before .before .slice-known .given j) in
+    four-done (blendModeFactors SrcOver) _ _ (c .before .before .before .before .before .over8 .result) (c .before .before .store8 .last .0) (a .args .o) (a .pre .1) in-s in-d
+    (λ k l. c .before .before .before .before .before .over8 .ensures k l ∙ over-two (a .args .s .now) (a .args .d .now) (c .before .before .before .before .before .before .before .before .before .before .load8c .result) (c .before .before .before .before .before .before .before .before .load8 .result) (a .args .o) (c .before .before .before .before .before .before .before .before .load8 .ensures) in-s (c .before .before .before .before .before .before .before .before .before .before .load8c .ensures) k l)
+    (c .before .before .store8 .ensures .0) (c .before .before .store8 .ensures .1 .0) (c .before .before .store8 .ensures .1 .1 .0) (c .before .before .store8 .ensures .1 .1 .1)
+
+pub over-four-spec : {M : Type 1} → statement M
+over-four-spec =
+    tie.close
+    (tie.spec load8c-requires load8-requires over8-requires store8-requires same-length returns)

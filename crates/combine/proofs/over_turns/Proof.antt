@@ -1,0 +1,63 @@
+use Rattle.pixel.specs.Rules.{blendModeFactors}
+use Rattle.pixel.specs.declared.blend.RuleName.the-variants.{SrcOver}
+use Rattle.lanes.specs.Lanes.{Done}
+use Rattle.lanes.proofs.Passes.{none-done, to-end}
+use Rattle.plan.specs.Blend.{blendAt}
+use Rattle.plan.proofs.Blends.{part-more}
+use Prim.Native.Nat.{_-_, _%_, _≤_}
+use mathlib.Core.Path.{_≡_}
+use native.Mathlib.Omega.{arith}
+use borrow.Author.Needs.{needs}
+use lib.ListN.{length}
+use Rattle.combine.proofs.over_turns.Statement.{statement}
+use Rattle.combine.proofs.over_turns.Tie as tie
+
+abbrev Inv-loop : tie.InvT-loop
+Inv-loop d₀ s n o₀ d o = ((o ≤ n) × ((o % 16 ≡ 0) × (length d ≡ length d₀))) × Done (blendAt (blendModeFactors SrcOver) s d₀) d₀ d 0 o
+
+abbrev μ-loop : tie.MeasureT-loop
+μ-loop d₀ s n o₀ d o = n - o
+
+-- src/row.rt:108:5
+loop-holds : tie.Need-loop-holds Inv-loop μ-loop
+loop-holds c = (search needs, none-done _ _ _)
+
+-- src/row.rt:109:9
+over-turn-requires : tie.Need-over-turn-requires Inv-loop μ-loop
+over-turn-requires c κs = search needs
+
+-- src/row.rt:110:9
+add-o : tie.Need-add-o Inv-loop μ-loop
+add-o c = search needs
+
+-- src/row.rt:108:5
+loop-less : tie.Need-loop-less Inv-loop μ-loop
+loop-less c = search needs
+
+-- src/row.rt:108:5
+loop-again : tie.Need-loop-again Inv-loop μ-loop
+loop-again c =
+    let b = c .before .before .before .before .before in
+    (search needs, part-more (blendModeFactors SrcOver) _ _ (b .loop .d) _ _ (b .loop .o) _ (omega arith) (omega arith) (b .loop .inv .1) (c .before .before .over-turn .ensures))
+
+-- src/row.rt:103:1
+same-length : tie.Need-same-length Inv-loop μ-loop
+same-length c = search needs
+
+-- src/row.rt:103:1
+returns : tie.Need-returns Inv-loop μ-loop
+returns c = to-end _ _ _ _ (c .before .loop .o) _ (omega arith) (c .before .loop .inv .1)
+
+pub over-turns-spec : {M : Type 1} → statement M
+over-turns-spec =
+    tie.close
+    (tie.spec
+    Inv-loop
+    μ-loop
+    loop-holds
+    over-turn-requires
+    add-o
+    loop-less
+    loop-again
+    same-length
+    returns)

@@ -1,0 +1,2 @@
+-- one lane by its factors
+pub mod Lanes

@@ -1,0 +1,2 @@
+-- pixels of RGB565
+mod Pixels

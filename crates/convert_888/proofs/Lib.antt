@@ -1,0 +1,2 @@
+-- pixels of RGB888
+mod Pixels

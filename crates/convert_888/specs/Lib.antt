@@ -1,0 +1,2 @@
+-- Three bytes.
+pub mod Three

@@ -1,0 +1,125 @@
+// Rows of colours, fetched into a buffer.
+ghost use mathlib.Core.Path.{_≡_};
+ghost use mathlib.Core.Bool.{false};
+ghost use Prim.Native.Nat.{_+_, _*_, _≤_};
+ghost use lib.ListN.{length};
+ghost use Rattle.pixel.specs.Formats.{bytesPerPixel};
+ghost use Rattle.surface.specs.Drawn.{loadPixel};
+ghost use Rattle.rows.specs.Row.{HoldsColours, colourAt, sourcePixelOf, FetchInBounds, rowStored, RowIsWide};
+use argb_words::fill_words;
+use argb_words::word_of;
+use byte_rows::copy;
+use convert_565::from_565;
+use convert_888::from_888;
+use pixel::Colour;
+use pixel::Format;
+use rows::is_reversed;
+use rows::is_straight;
+use rows::origin;
+use rows::step_of;
+use strided_rows::fetch_steps;
+use surface::Surface;
+use transform::Rotation;
+use transform::Transform;
+
+// Puts a colour in the first pixels of a buffer.
+pub fn spread(buffer: &mut [u8], width: usize, c: Colour)
+    requires { ⌜ width * 4 ≤ length (now buffer) ⌝ }
+    ensures { λ _. ⌜ HoldsColours (now (buffer .exit)) width (λ x. c) ⌝ }
+{
+    let n = width * 4;
+    fill_words(&mut buffer[0..n], width, word_of(c));
+}
+
+// Makes all of a buffer of a row of any format.
+fn widen(buffer: &mut [u8], row: &[u8], width: usize, format: Format)
+    requires { ⌜ (RowIsWide (now buffer) width Format.Argb8888) × (width * bytesPerPixel format ≤ length (now row)) ⌝ }
+    ensures { λ _. ⌜ now (buffer .exit) ≡ rowStored Format.Argb8888 (λ x. loadPixel format (now (row .entry)) (x * bytesPerPixel format)) (now (buffer .entry)) ⌝ }
+{
+    match format {
+        Format::Argb8888 => {
+            copy(buffer, row);
+            return;
+        }
+        Format::Rgb888 => {
+            from_888(buffer, row, width);
+            return;
+        }
+        Format::Rgb565 => {
+            from_565(buffer, row, width);
+            return;
+        }
+    }
+}
+
+// Fetches pixels that lie side by side, the first of them at an address.
+pub fn fetch_row(buffer: &mut [u8], width: usize, memory: &[u8], start: usize, format: Format)
+    requires { ⌜ (start + width * bytesPerPixel format ≤ length (now memory)) × (width * 4 ≤ length (now buffer)) ⌝ }
+    ensures { λ _. ⌜ HoldsColours (now (buffer .exit)) width (λ x. loadPixel format (now (memory .entry)) (start + x * bytesPerPixel format)) ⌝ }
+{
+    let n = width * 4;
+    let end = start + width * format.bytes();
+    widen(&mut buffer[0..n], &memory[start..end], width, format);
+}
+
+// Fetches the pixels of a surface that are the first of output row y: they lie side by side.
+fn fetch_straight(
+    buffer: &mut [u8],
+    width: usize,
+    memory: &[u8],
+    s: Surface,
+    transform: Transform,
+    y: usize,
+)
+    requires { ⌜ (FetchInBounds (now memory) (now buffer) s (transform .rotation) y width) × (transform .rotation ≡ Rotation.Rotate0) × (transform .flip .horizontal ≡ false) ⌝ }
+    ensures { λ _. ⌜ HoldsColours (now (buffer .exit)) width (λ x. colourAt s (now (memory .entry)) (sourcePixelOf s transform x y)) ⌝ }
+{
+    // a row of no pixels has no first one
+    if width == 0 {
+        return;
+    }
+    let format = s.format;
+    fetch_row(buffer, width, memory, origin(s, transform, 0, y), format);
+}
+
+// Fetches the pixels of a surface that are the first of output row y: they lie one step apart.
+fn fetch_turned(
+    buffer: &mut [u8],
+    width: usize,
+    memory: &[u8],
+    s: Surface,
+    transform: Transform,
+    y: usize,
+)
+    requires { ⌜ FetchInBounds (now memory) (now buffer) s (transform .rotation) y width ⌝ }
+    ensures { λ _. ⌜ HoldsColours (now (buffer .exit)) width (λ x. colourAt s (now (memory .entry)) (sourcePixelOf s transform x y)) ⌝ }
+{
+    if width == 0 {
+        return;
+    }
+    let format = s.format;
+    let rotation = transform.rotation;
+    let start = origin(s, transform, 0, y);
+    let step = step_of(s, rotation);
+    let back = is_reversed(transform);
+    fetch_steps(buffer, width, memory, start, step, back, format);
+}
+
+// Fetches the pixels of a surface that are the first of output row y.
+pub fn fetch_along(
+    buffer: &mut [u8],
+    width: usize,
+    memory: &[u8],
+    s: Surface,
+    transform: Transform,
+    y: usize,
+)
+    requires { ⌜ FetchInBounds (now memory) (now buffer) s (transform .rotation) y width ⌝ }
+    ensures { λ _. ⌜ HoldsColours (now (buffer .exit)) width (λ x. colourAt s (now (memory .entry)) (sourcePixelOf s transform x y)) ⌝ }
+{
+    if is_straight(transform) {
+        fetch_straight(buffer, width, memory, s, transform, y);
+        return;
+    }
+    fetch_turned(buffer, width, memory, s, transform, y);
+}

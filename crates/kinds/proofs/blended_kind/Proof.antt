@@ -1,0 +1,27 @@
+use mathlib.Core.Path.{sym, _∙_}
+use borrow.Author.Needs.{needs}
+use Rattle.kinds.proofs.blended_kind.Statement.{statement}
+use Rattle.kinds.proofs.blended_kind.Tie as tie
+
+is-solid-requires : tie.Need-is-solid-requires
+is-solid-requires c κs = search needs
+
+returns : tie.Need-returns
+returns c = rw (sym (c .before .is-solid .ensures) ∙ c .if1 .taken)
+
+is-blended-within-requires : tie.Need-is-blended-within-requires
+is-blended-within-requires c κs = search needs
+
+returns-2 : tie.Need-returns-2
+returns-2 c =
+    let s = c .before .before in
+    rw (sym (s .before .is-solid .ensures) ∙ s .if1 .left, sym (c .before .is-blended-within .ensures) ∙ c .if2 .taken)
+
+returns-3 : tie.Need-returns-3
+returns-3 c =
+    let s = c .before .before in
+    rw (sym (s .before .is-solid .ensures) ∙ s .if1 .left, sym (c .before .is-blended-within .ensures) ∙ c .if2 .left)
+
+pub blended-kind-spec : {M : Type 1} → statement M
+blended-kind-spec =
+    tie.close (tie.spec is-solid-requires returns is-blended-within-requires returns-2 returns-3)

@@ -1,0 +1,2 @@
+-- What kind the rows of a task are.
+pub mod Kinds

@@ -1,0 +1,2 @@
+-- The alphas of four pixels.
+pub mod Alphas

@@ -1,0 +1,2 @@
+-- A byte of a row of pixels.
+pub mod Line

@@ -1,0 +1,2 @@
+-- what is made of a colour
+mod Made

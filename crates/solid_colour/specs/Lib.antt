@@ -1,0 +1,2 @@
+-- A colour, prepared.
+pub mod Solid

@@ -1,0 +1,2 @@
+-- Laws of rows with one colour over them.
+pub mod Over

@@ -1,0 +1,86 @@
+use mathlib.Core.Path.{_≡_, refl, ap, _∙_}
+use Prim.Native.Nat.{ℕ, _-_, _≤_}
+use native.Mathlib.Omega.{arith}
+use lib.ListN.{length}
+use denote.Ref.{now}
+use borrow.Author.Count.{below-none}
+use borrow.Author.Needs.{needs}
+use Rattle.surface.specs.Drawn.{loadPixel}
+use Rattle.rows.specs.Row.{HoldsColours}
+use Rattle.rows.specs.Step.{stridedAddress}
+use Rattle.argb_words.proofs.Words.{more-spelt}
+use Rattle.strided_rows.proofs.fetch_each.Statement.{statement}
+use Rattle.strided_rows.proofs.fetch_each.Tie as tie
+
+abbrev Inv-loop : tie.InvT-loop
+Inv-loop buffer₀ width memory start step back format x₀ buffer x =
+    (x ≤ width) × HoldsColours buffer x (λ x. loadPixel format memory (stridedAddress start step back x)) × (length buffer ≡ length buffer₀)
+
+abbrev μ-loop : tie.MeasureT-loop
+μ-loop buffer₀ width memory start step back format x₀ buffer x = width - x
+
+loop-holds : tie.Need-loop-holds Inv-loop μ-loop
+loop-holds c = (search needs, below-none _, refl)
+
+mul-store-word : tie.Need-mul-store-word Inv-loop μ-loop
+mul-store-word c = search needs
+
+place-requires : tie.Need-place-requires Inv-loop μ-loop
+place-requires c κs =
+    let t = c .before in
+    let p = t .before .before .before .before .pre in
+    let l = t .loop-test .taken in
+    (p .above _ l, λ e. omega (arith, rw e at (p .inside _ l)))
+
+load-as-word-requires : tie.Need-load-as-word-requires Inv-loop μ-loop
+load-as-word-requires c κs =
+    let t = c .before .before in
+    rw (c .place .ensures) (t .before .before .before .before .pre .inside _ (t .loop-test .taken))
+
+store-word-requires : tie.Need-store-word-requires Inv-loop μ-loop
+store-word-requires c κs =
+    let t = c .before .before .before in
+    omega (arith, t .loop-test .taken, t .before .loop .inv .2, t .before .before .before .before .pre .room)
+
+add-x : tie.Need-add-x Inv-loop μ-loop
+add-x c = search needs
+
+loop-less : tie.Need-loop-less Inv-loop μ-loop
+loop-less c = search needs
+
+loop-again : tie.Need-loop-again Inv-loop μ-loop
+loop-again c =
+    let d = c .before .before in
+    let w = d .before in
+    let t = w .before .before .before in
+    let l = t .before .loop in
+    let s = t .before .before .before .before in
+    let a = s .args in (
+      search needs,
+      more-spelt _ (l .buffer) (d .store-word .last .0) (l .x) (w .load-as-word .result) (omega (arith, t .loop-test .taken, l .inv .2, s .pre .room)) (omega arith) (l .inv .1) (d .store-word .ensures)
+          (w .load-as-word .ensures ∙ ap (loadPixel (a .format) (now (a .memory))) (w .before .place .ensures)),
+      d .store-word .kept .0 ∙ l .inv .2,
+    )
+
+same-length : tie.Need-same-length Inv-loop μ-loop
+same-length c = search needs
+
+returns : tie.Need-returns Inv-loop μ-loop
+returns c = λ x z. c .before .loop .inv .1 x (omega arith)
+
+pub fetch-each-spec : {M : Type 1} → statement M
+fetch-each-spec =
+    tie.close
+    (tie.spec
+    Inv-loop
+    μ-loop
+    loop-holds
+    mul-store-word
+    place-requires
+    load-as-word-requires
+    store-word-requires
+    add-x
+    loop-less
+    loop-again
+    same-length
+    returns)

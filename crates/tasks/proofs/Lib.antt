@@ -1,2 +1,0 @@
--- a loop over the rows of a task
-pub mod Upto

@@ -1,2 +1,0 @@
--- Laws of rows with one colour over them.
-pub mod Tinted

@@ -1,0 +1,33 @@
+use mathlib.Core.Path.{ap, _∙_}
+use Prim.Native.Nat.{ℕ}
+use native.Mathlib.Omega.{arith}
+use Rattle.transform.proofs.Inside.{mirrored-below}
+use Rattle.gradient.specs.Gradient.{gradientColour}
+use borrow.Author.Needs.{needs}
+use Rattle.unblended_rows.proofs.shaded_colour.Statement.{statement}
+use Rattle.unblended_rows.proofs.shaded_colour.Tie as tie
+
+cast-mirror : tie.Need-cast-mirror
+cast-mirror c = search needs
+
+mirror-requires : tie.Need-mirror-requires
+mirror-requires c κs = search needs
+
+cast-colour-at : tie.Need-cast-colour-at
+cast-colour-at c =
+    let s = c .before .before .before .before in
+    let a = s .args in
+    let l = mirrored-below (a .source .transform .flip .vertical) (a .source .surface .height) (a .y) (s .pre) in
+    omega (arith, c .mirror .ensures)
+
+colour-at-requires : tie.Need-colour-at-requires
+colour-at-requires c κs = search needs
+
+returns : tie.Need-returns
+returns c =
+    let a = c .before .before .before .before .before .args in
+    c .colour-at .ensures ∙ ap (λ (i : ℕ). gradientColour (a .source .colour) (a .source .steps) i) (c .before .mirror .ensures)
+
+pub shaded-colour-spec : {M : Type 1} → statement M
+shaded-colour-spec =
+    tie.close (tie.spec cast-mirror mirror-requires cast-colour-at colour-at-requires returns)

@@ -1,2 +1,0 @@
--- Rows of a task without blending.
-pub mod Row

@@ -1,2 +1,0 @@
--- Rows of a task blended inside the window.
-pub mod Row
