@@ -69,7 +69,7 @@ fn after_found(
         (now (line .entry)) r (now (ring .exit)) (now (memory .exit)) (now (line .exit)) ⌝ }
 {
     match found {
-        Found::EngineRecord(end) => {
+        Found::Record(end) => {
             serving::serve_record(edition, engine, held, end, ring, memory, line, slow)
         }
         Found::Nothing => SubmitRunResult {

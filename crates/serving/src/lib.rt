@@ -4,7 +4,7 @@ ghost use Prim.Native.Nat.{_≤_};
 ghost use lib.ListN.{length};
 ghost use Rattle.queue.specs.Answers.{refusalNumberOf};
 ghost use Rattle.claims.specs.Engine.{mkState};
-ghost use Rattle.records.specs.declared.Found.the-variants.{EngineRecord as OneRecord};
+ghost use Rattle.records.specs.declared.Found.the-variants.{Record as OneRecord};
 ghost use Rattle.records.specs.Reading.{entryIn, Lies};
 ghost use Rattle.lines.specs.Lines.{entryLine, submitAndRun, recordLine, recordAfter};
 ghost use Rattle.serving.specs.Serves.{Serves};
