@@ -38,13 +38,13 @@ returns c =
 batch-start-requires : tie.Need-batch-start-requires
 batch-start-requires c κs = search needs
 
-shared-slice-read-serve : tie.Need-shared-slice-read-serve
-shared-slice-read-serve c =
+shared-slice-read-submit-and-run : tie.Need-shared-slice-read-submit-and-run
+shared-slice-read-submit-and-run c =
     let s = c .before .before .before .before .before .before .before .before .before .before in
     omega (arith, lies-some (s .args .edition) (s .args .end) (length (s .args .held .now)) (s .pre .0))
 
-cast-serve : tie.Need-cast-serve
-cast-serve c = omega (arith, c .shared-slice-known2 .given 4)
+cast-submit-and-run : tie.Need-cast-submit-and-run
+cast-submit-and-run c = omega (arith, c .shared-slice-known2 .given 4)
 
 sub-submit-and-run : tie.Need-sub-submit-and-run
 sub-submit-and-run c = search needs
@@ -87,8 +87,8 @@ serve-record-spec =
     same-length
     returns
     batch-start-requires
-    shared-slice-read-serve
-    cast-serve
+    shared-slice-read-submit-and-run
+    cast-submit-and-run
     sub-submit-and-run
     part-submit-and-run-start
     part-submit-and-run-end
