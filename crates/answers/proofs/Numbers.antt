@@ -8,11 +8,11 @@ use lib.ListN.{length}
 use borrow.Author.Tests.{not-true}
 use Rattle.word.proofs.Tests.{and-true}
 use Rattle.batch.specs.Batch.{statusWordOf, faultNumberOf as faultOf, faultOffsetOf}
-use Rattle.batch.proofs.Ways.{words-fit}
+use Rattle.batch.proofs.DecoderCases.{words-fit}
 use Rattle.batch.proofs.Tasks.{status-fits}
 use Rattle.batch.proofs.Offsets.{offset-within}
 use Rattle.record.specs.declared.Batch.{Batch}
-use Rattle.record.specs.declared.Record.{Record}
+use Rattle.record.specs.declared.EngineRecord.{EngineRecord}
 use Rattle.record.specs.Setup.{badLength}
 use Rattle.record.specs.Tickets.{ticketBefore, batchOfTicket, inTicketOrder}
 use Rattle.record.specs.Queue.{readySlots}
@@ -40,7 +40,7 @@ pub word-whole : (n : ℕ) → n ≤ 4294967295 → n % 4294967296 ≡ n
 word-whole n small = omega arith
 
 -- a batch of a valid record has no more bytes than the longest ring
-oldest-short : (engine : Record) → valid engine ≡ true → 0 < readySlots engine → oldest engine .length ≤ 32768
+oldest-short : (engine : EngineRecord) → valid engine ≡ true → 0 < readySlots engine → oldest engine .length ≤ 32768
 unfolding inTicketOrder lengthsAllowed
 oldest-short engine ok some = go (readySlots engine) refl some
   where
@@ -54,7 +54,7 @@ oldest-short engine ok some = go (readySlots engine) refl some
         let good = length-good (engine .setup .ring) (b .length) (not-true bad first) in
         rw e (omega (arith, good .within, v .numbers .ring .small))
 
-pub run-small : (engine : Record) (ring memory : List ℕ) → Small (runResult engine ring memory .outcome)
+pub run-small : (engine : EngineRecord) (ring memory : List ℕ) → Small (runResult engine ring memory .outcome)
 unfolding runResult outcomeUnlessRefused
 run-small engine ring memory = go (runNumber engine ring memory) refl
   where

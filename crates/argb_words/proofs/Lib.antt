@@ -3,4 +3,4 @@ pub mod Moved
 -- pixels of a buffer
 pub mod Words
 -- pixels stored one by one
-pub mod Begun
+pub mod RowPrefix

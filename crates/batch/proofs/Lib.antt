@@ -1,6 +1,6 @@
 -- Laws that this crate's proofs and those of the crates above cite.
 -- a step from a word on, by each way that the walk can go
-pub mod Ways
+pub mod DecoderCases
 -- what a step says of the reading
 pub mod Simulates
 -- a step of the walk, and the verdict

@@ -6,13 +6,13 @@ use mathlib.Core.List.{List}
 use Rattle.word.specs.Field.{field}
 use Rattle.register.specs.Task.{taskOf}
 use Rattle.register.specs.declared.bank.Bank.{Bank}
-use Rattle.register.specs.declared.bank.Write.{Write}
-use Rattle.register.specs.declared.bank.Write.the-variants.{Bank as Taken, Refused}
+use Rattle.register.specs.declared.bank.WriteResult.{WriteResult}
+use Rattle.register.specs.declared.bank.WriteResult.the-variants.{Written, Refused}
 use Rattle.rules.specs.declared.fault.Fault.{Fault}
 use Rattle.rules.specs.declared.fault.Fault.the-variants.{ReservedBits, GroupLength}
 use Rattle.rules.specs.declared.task.Bounds.{Bounds}
-use Rattle.rules.specs.declared.task.Check.{Check}
-use Rattle.rules.specs.declared.task.Check.the-variants.{Valid, Invalid}
+use Rattle.rules.specs.declared.task.TaskCheck.{TaskCheck}
+use Rattle.rules.specs.declared.task.TaskCheck.the-variants.{Valid, Invalid}
 use Rattle.rules.specs.Faults.{writeFault}
 use Rattle.batch.specs.Batch.{DecodedBatch, faulty, stopWith, consTask, DecoderState, reservedBits, badGroupLength, decodeHeader, afterWrite, afterTaskCheck, groupOf, decodeFrom}
 
@@ -33,10 +33,10 @@ module _ (P : DecodedBatch → Type 0) (b : Bank) (k : ℕ) (stops : (f : Fault)
       by false true e = stops GroupLength
       by false false e = on e
 
-  pub wrote-all : (w : Write) (go : Bank → DecodedBatch) → ((next : Bank) → P (go next)) → P (afterWrite b k w go)
-  wrote-all (Taken next) go on = on next
+  pub wrote-all : (w : WriteResult) (go : Bank → DecodedBatch) → ((next : Bank) → P (go next)) → P (afterWrite b k w go)
+  wrote-all (Written next) go on = on next
   wrote-all (Refused f) go on = stops (writeFault f)
 
-  pub judged-all : (check : Check) (after : DecodedBatch) → (check ≡ Valid → P (consTask (taskOf b) after)) → P (afterTaskCheck check b k after)
+  pub judged-all : (check : TaskCheck) (after : DecodedBatch) → (check ≡ Valid → P (consTask (taskOf b) after)) → P (afterTaskCheck check b k after)
   judged-all Valid after on = on refl
   judged-all (Invalid f) after on = stops f

@@ -10,26 +10,26 @@ use Rattle.word.specs.Field.{field}
 use Rattle.register.specs.Bank.{writeRegister}
 use Rattle.register.specs.Task.{taskOf}
 use Rattle.register.specs.declared.bank.Bank.{Bank}
-use Rattle.register.specs.declared.bank.Write.{Write}
-use Rattle.register.specs.declared.bank.Write.the-variants.{Bank as Taken, Refused}
+use Rattle.register.specs.declared.bank.WriteResult.{WriteResult}
+use Rattle.register.specs.declared.bank.WriteResult.the-variants.{Written, Refused}
 use Rattle.rules.specs.declared.fault.Fault.the-variants.{ReservedBits, GroupLength}
 use Rattle.rules.specs.declared.task.Bounds.{Bounds}
-use Rattle.rules.specs.declared.task.Check.{Check}
-use Rattle.rules.specs.declared.task.Check.the-variants.{Valid, Invalid}
+use Rattle.rules.specs.declared.task.TaskCheck.{TaskCheck}
+use Rattle.rules.specs.declared.task.TaskCheck.the-variants.{Valid, Invalid}
 use Rattle.rules.specs.Rules.{checkTask}
-use Rattle.batch.specs.declared.walk.Step.{Step}
-use Rattle.batch.specs.declared.walk.Step.the-variants.{Task as Next, Faulty as Stop, End}
+use Rattle.batch.specs.declared.walk.WalkStep.{WalkStep}
+use Rattle.batch.specs.declared.walk.WalkStep.the-variants.{Task as Next, Faulty as Stop, End}
 use Rattle.batch.specs.Batch.{DecodedBatch, faulty, stopWith, DecoderState, start, inside, reservedBits, badGroupLength, groupOf, decodeHeader, afterWrite, afterTaskCheck, decodeFrom}
 use Rattle.batch.specs.Walk.{decodeRest, stepAfterCheck, stepHeader, stepWrite, stepFrom, stepAt, decodeAfterStep, StepAdvances, StepSimulates}
-use Rattle.batch.proofs.Ways.{drop-at}
+use Rattle.batch.proofs.DecoderCases.{drop-at}
 
 -- a task that was judged is the step that follows it
-judged-step : (bounds : Bounds) (ws : List ℕ) (check : Check) (b : Bank) (k head : ℕ)
+judged-step : (bounds : Bounds) (ws : List ℕ) (check : TaskCheck) (b : Bank) (k head : ℕ)
     → (first : Bank) → afterTaskCheck check b head (decodeRest bounds ws b k) ≡ decodeAfterStep bounds ws first (stepAfterCheck check b k (4 * head))
 judged-step bounds ws Valid b k head first = refl
 judged-step bounds ws (Invalid f) b k head first = refl
 
-judged-onward : (ws : List ℕ) (check : Check) (b : Bank) (k next offset : ℕ) → k < next → next ≤ length ws → StepAdvances k ws (stepAfterCheck check b next offset)
+judged-onward : (ws : List ℕ) (check : TaskCheck) (b : Bank) (k next offset : ℕ) → k < next → next ≤ length ws → StepAdvances k ws (stepAfterCheck check b next offset)
 judged-onward ws Valid b k next offset h l = (h, l)
 judged-onward ws (Invalid f) b k next offset h l = tt
 
@@ -49,15 +49,15 @@ module _ (words : List ℕ) (k w : ℕ) (ws : List ℕ) (here : w ∷ ws ≡ dro
   behind = let e = here ∙ drop-at words k inner in cc
 
 module _ (bounds : Bounds) (words : List ℕ) (first : Bank) where
-  abbrev means : Step → DecodedBatch
+  abbrev means : WalkStep → DecodedBatch
   means s = decodeAfterStep bounds words first s
 
-  write-means : (bank : Bank) (k : ℕ) (r : Write) (go : Bank → DecodedBatch) (step : Bank → Step) → ((next : Bank) → go next ≡ means (step next))
+  write-means : (bank : Bank) (k : ℕ) (r : WriteResult) (go : Bank → DecodedBatch) (step : Bank → WalkStep) → ((next : Bank) → go next ≡ means (step next))
       → afterWrite bank k r go ≡ means (stepWrite bank k r step)
-  write-means bank k (Taken next) go step h = h next
+  write-means bank k (Written next) go step h = h next
   write-means bank k (Refused f) go step h = refl
 
-  header-means : (bank : Bank) (k header follow : ℕ) (go : DecoderState → DecodedBatch) (step : DecoderState → Step) → go (groupOf k header) ≡ means (step (groupOf k header))
+  header-means : (bank : Bank) (k header follow : ℕ) (go : DecoderState → DecodedBatch) (step : DecoderState → WalkStep) → go (groupOf k header) ≡ means (step (groupOf k header))
       → decodeHeader bank k header follow go ≡ means (stepHeader bank k header follow step)
   header-means bank k header follow go step h = by (reservedBits header) (badGroupLength (field 15 2 header) follow)
     where
@@ -99,14 +99,14 @@ start-means bounds words bank k (h ∷ ws) here =
 -- ---- a task ends past where it began, and inside the batch
 
 module _ (bounds : Bounds) (words : List ℕ) (from : ℕ) where
-  abbrev Onward : Step → Type 0
+  abbrev Onward : WalkStep → Type 0
   Onward s = StepAdvances from words s
 
-  write-onward : (bank : Bank) (k : ℕ) (r : Write) (step : Bank → Step) → ((next : Bank) → Onward (step next)) → Onward (stepWrite bank k r step)
-  write-onward bank k (Taken next) step h = h next
+  write-onward : (bank : Bank) (k : ℕ) (r : WriteResult) (step : Bank → WalkStep) → ((next : Bank) → Onward (step next)) → Onward (stepWrite bank k r step)
+  write-onward bank k (Written next) step h = h next
   write-onward bank k (Refused f) step h = tt
 
-  header-onward : (bank : Bank) (k header follow : ℕ) (step : DecoderState → Step) → Onward (step (groupOf k header)) → Onward (stepHeader bank k header follow step)
+  header-onward : (bank : Bank) (k header follow : ℕ) (step : DecoderState → WalkStep) → Onward (step (groupOf k header)) → Onward (stepHeader bank k header follow step)
   header-onward bank k header follow step h = by (reservedBits header) (badGroupLength (field 15 2 header) follow)
     where
       by : (reserved bad : Bool)
@@ -136,6 +136,6 @@ start-onward bounds words bank k (h ∷ ws) here =
 
 -- ---- so of every step
 
-pub simulates : (bounds : Bounds) (words : List ℕ) (bank : Bank) (k : ℕ) (step : Step) → step ≡ stepAt bounds words bank k → StepSimulates bounds words bank k step
+pub simulates : (bounds : Bounds) (words : List ℕ) (bank : Bank) (k : ℕ) (step : WalkStep) → step ≡ stepAt bounds words bank k → StepSimulates bounds words bank k step
 simulates bounds words bank k step is =
     rw is (record { means = start-means bounds words bank k (drop k words) refl; onward = start-onward bounds words bank k (drop k words) refl })

@@ -9,8 +9,8 @@ use Rattle.register.specs.declared.bank.Bank.{Bank}
 use Rattle.register.specs.declared.task.Task.{Task}
 use Rattle.rules.specs.declared.fault.Fault.{Fault}
 use Rattle.rules.specs.declared.task.Bounds.{Bounds}
-use Rattle.batch.specs.declared.walk.Step.{Step}
-use Rattle.batch.specs.declared.walk.Step.the-variants.{Task as Next, Faulty as Stop, End}
+use Rattle.batch.specs.declared.walk.WalkStep.{WalkStep}
+use Rattle.batch.specs.declared.walk.WalkStep.the-variants.{Task as Next, Faulty as Stop, End}
 use Rattle.batch.specs.declared.verdict.Validation.{Validation}
 use Rattle.batch.specs.declared.verdict.Verdict.the-variants.{Faultless, Faulty}
 use Rattle.batch.specs.Batch.{DecodedBatch, BatchEnd, finished, faulty, stopWith, consTask, verdictAfter, verdictOf, validationOf}
@@ -32,7 +32,7 @@ counted-one : (n : ℕ) (t : Task) (r : DecodedBatch) → counted n (consTask t 
 counted-one n t r = ap (λ (m : ℕ). told m r) (omega arith)
 
 -- what a step says of the reading, by its case
-module _ (bounds : Bounds) (ws : List ℕ) (b : Bank) (k : ℕ) (s : Step) (is : s ≡ stepAt bounds ws b k) where
+module _ (bounds : Bounds) (ws : List ℕ) (b : Bank) (k : ℕ) (s : WalkStep) (is : s ≡ stepAt bounds ws b k) where
   go : StepSimulates bounds ws b k s
   go = simulates bounds ws b k s is
 

@@ -18,19 +18,19 @@ use Rattle.register.specs.declared.task.Task.{Task}
 use Rattle.rules.specs.declared.fault.Fault.{Fault}
 use Rattle.rules.specs.declared.fault.Fault.the-variants.{ReservedBits, GroupLength, OpenTask, NotWritable, Forbidden, BadSurface, SizeMismatch, OutOfBounds, Overlap}
 use Rattle.rules.specs.declared.task.Bounds.{Bounds}
-use Rattle.rules.specs.declared.task.Check.{Check}
+use Rattle.rules.specs.declared.task.TaskCheck.{TaskCheck}
 use Rattle.rules.specs.Faults.{faultStatus}
 use Rattle.rules.specs.Rules.{checkTask}
 use Rattle.rules.proofs.Sound.{Sound, AllSound}
 use Rattle.rules.proofs.Passes.{passes}
-use Rattle.batch.specs.declared.walk.Step.{Step}
-use Rattle.batch.specs.declared.walk.Step.the-variants.{Task as Next}
+use Rattle.batch.specs.declared.walk.WalkStep.{WalkStep}
+use Rattle.batch.specs.declared.walk.WalkStep.the-variants.{Task as Next}
 use Rattle.batch.specs.declared.verdict.Verdict.the-variants.{Faultless}
 use Rattle.batch.specs.Batch.{DecodedBatch, BatchEnd, finished, faulty, stopWith, DecoderState, start, inside, badGroupLength, decodeHeader, afterTaskCheck, groupOf, decodeFrom, decodeBatch, verdictAfter, verdictOf, statusWordOf, tasksDrawn}
 use Rattle.batch.specs.Marks.{taskEndCountFrom, taskEndCount}
 use Rattle.batch.specs.Walk.{decodeAfterStep, stepAt}
 use Rattle.batch.proofs.Simulates.{simulates}
-use Rattle.batch.proofs.Ways.{words-fit}
+use Rattle.batch.proofs.DecoderCases.{words-fit}
 use Rattle.batch.proofs.Steps.{faultless-finished}
 use Rattle.batch.proofs.Readings.{onFrom, onWith, opened-all, wrote-all, judged-all}
 
@@ -64,7 +64,7 @@ module _ (bounds : Bounds) where
   drawn-sound bank ws = good-from bank 0 start ws
 
   -- and so is the task that a step hands out
-  pub step-sound : (ws : List ℕ) (b : Bank) (k : ℕ) (s : Step) → s ≡ stepAt bounds ws b k → (t : Task) (b′ : Bank) (k′ : ℕ) → s ≡ Next t b′ k′ → Sound bounds t
+  pub step-sound : (ws : List ℕ) (b : Bank) (k : ℕ) (s : WalkStep) → s ≡ stepAt bounds ws b k → (t : Task) (b′ : Bank) (k′ : ℕ) → s ≡ Next t b′ k′ → Sound bounds t
   step-sound ws b k s is t b′ k′ e = (rw (simulates bounds ws b k s is .means ∙ ap (decodeAfterStep bounds ws b) e) at (good-from b k start (drop k ws))) .0
 
 -- ---- at most half as many tasks as words
@@ -83,7 +83,7 @@ few-open b k h ws go on =
     opened-all (λ r. 2 * length (r .tasks) ≤ length (h ∷ ws)) b k (λ f. omega arith) h (length ws) go
     (λ l. let c = some (field 15 2 h) (length ws) l in omega (arith, on (c .1)))
 
-few-judged : (b : Bank) (check : Check) (head : ℕ) (after : DecodedBatch) (n : ℕ) → 2 * length (after .tasks) ≤ n → 2 * length (afterTaskCheck check b head after .tasks) + 0 ≤ n + 2
+few-judged : (b : Bank) (check : TaskCheck) (head : ℕ) (after : DecodedBatch) (n : ℕ) → 2 * length (after .tasks) ≤ n → 2 * length (afterTaskCheck check b head after .tasks) + 0 ≤ n + 2
 few-judged b check head after n on =
     judged-all (λ r. 2 * length (r .tasks) + 0 ≤ n + 2) b head (λ f. omega arith) check after (λ e. omega arith)
 
@@ -146,7 +146,7 @@ met-open : (b : Bank) (k h : ℕ) (ws : List ℕ) (go : DecoderState → Decoded
 unfolding taskEndCountFrom
 met-open b k h ws go on = opened-all (Met start (h ∷ ws)) b k (λ f e. stopped e) h (length ws) go (λ l. on)
 
-met-judged : (b : Bank) (check : Check) (head : ℕ) (after : DecodedBatch) (ws : List ℕ) → Met start ws after → (offset : ℕ) → Met (inside 0 offset true head) ws (afterTaskCheck check b head after)
+met-judged : (b : Bank) (check : TaskCheck) (head : ℕ) (after : DecodedBatch) (ws : List ℕ) → Met start ws after → (offset : ℕ) → Met (inside 0 offset true head) ws (afterTaskCheck check b head after)
 met-judged b check head after ws on offset =
     judged-all (Met (inside 0 offset true head) ws) b head (λ f e. stopped e) check after (λ fine e. omega (arith, on e))
 

@@ -9,14 +9,14 @@ use Rattle.word.specs.Field.{field}
 use Rattle.register.specs.Bank.{writeRegister}
 use Rattle.register.specs.Task.{taskOf}
 use Rattle.register.specs.declared.bank.Bank.{Bank}
-use Rattle.register.specs.declared.bank.Write.{Write}
-use Rattle.register.specs.declared.bank.Write.the-variants.{Bank as Taken, Refused}
+use Rattle.register.specs.declared.bank.WriteResult.{WriteResult}
+use Rattle.register.specs.declared.bank.WriteResult.the-variants.{Written, Refused}
 use Rattle.register.specs.declared.task.Task.{Task}
 use Rattle.rules.specs.declared.fault.Fault.{Fault}
 use Rattle.rules.specs.declared.fault.Fault.the-variants.{ReservedBits, GroupLength, OpenTask}
 use Rattle.rules.specs.declared.task.Bounds.{Bounds}
-use Rattle.rules.specs.declared.task.Check.{Check}
-use Rattle.rules.specs.declared.task.Check.the-variants.{Valid, Invalid}
+use Rattle.rules.specs.declared.task.TaskCheck.{TaskCheck}
+use Rattle.rules.specs.declared.task.TaskCheck.the-variants.{Valid, Invalid}
 use Rattle.batch.specs.declared.verdict.Validation.{Validation}
 use Rattle.batch.specs.declared.verdict.Verdict.{Verdict}
 use Rattle.batch.specs.declared.verdict.Verdict.the-variants.{Faultless, Faulty}
@@ -69,12 +69,12 @@ decodeHeader bank k header follow go =
     (go (groupOf k header)))
 
 -- word k is written: 23, 24
-abbrev pub afterWrite : Bank → ℕ → Write → (Bank → DecodedBatch) → DecodedBatch
-afterWrite bank k (Taken next) go = go next
+abbrev pub afterWrite : Bank → ℕ → WriteResult → (Bank → DecodedBatch) → DecodedBatch
+afterWrite bank k (Written next) go = go next
 afterWrite bank k (Refused f) go = stopWith bank (faulty (writeFault f) (4 * k))
 
 -- the group at word `head` ended the task: 25 to 28
-abbrev pub afterTaskCheck : Check → Bank → ℕ → DecodedBatch → DecodedBatch
+abbrev pub afterTaskCheck : TaskCheck → Bank → ℕ → DecodedBatch → DecodedBatch
 afterTaskCheck Valid bank head rest = consTask (taskOf bank) rest
 afterTaskCheck (Invalid f) bank head rest = stopWith bank (faulty f (4 * head))
 

@@ -5,6 +5,6 @@ pub mod walk;
 pub use verdict::Validation;
 pub use verdict::Verdict;
 pub use verdict::validate;
-pub use walk::Step;
+pub use walk::WalkStep;
 pub use walk::next_task;
 pub use walk::word_at;

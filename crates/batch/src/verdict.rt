@@ -4,7 +4,7 @@ ghost use Prim.Native.Nat.{_%_};
 ghost use Rattle.ring.specs.Segment.{batchWords};
 ghost use Rattle.batch.specs.Batch.{decodeBatch, validationOf, statusWordOf, faultNumberOf, faultOffsetOf};
 use crate::walk;
-use crate::walk::Step;
+use crate::walk::WalkStep;
 use register::Bank;
 use rules::Bounds;
 use rules::Fault;
@@ -62,18 +62,18 @@ pub fn validate(ring: &[u8], offset: usize, size: usize, bounds: Bounds, bank: B
     let mut count: usize = 0;
     loop {
         match walk::next_task(ring, offset, size, bounds, current, at) {
-            Step::Task(_, b, next) => {
+            WalkStep::Task(_, b, next) => {
                 current = b;
                 at = next;
                 count = count + 1;
             }
-            Step::Faulty(fault, place, held) => {
+            WalkStep::Faulty(fault, place, held) => {
                 return Validation {
                     verdict: Verdict::Faulty(count, fault, place),
                     bank: held,
                 };
             }
-            Step::End => {
+            WalkStep::End => {
                 return Validation {
                     verdict: Verdict::Faultless(count),
                     bank: current,

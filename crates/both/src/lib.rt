@@ -1,17 +1,17 @@
 // The fast engine and the slow one side by side (02, request 13): they give the same memory and answers.
 ghost use mathlib.Core.Path.{_≡_};
 ghost use Rattle.both.specs.Same.{Same};
-use engine::Ran;
-use record::Record;
+use engine::RunResult;
+use record::EngineRecord;
 
 // What either engine answered.
 pub struct Both {
-    pub fast: Ran,
-    pub slow: Ran,
+    pub fast: RunResult,
+    pub slow: RunResult,
 }
 
 // Runs the oldest batch by both, each in a memory of its own.
-pub fn run_both(engine: Record, ring: &[u8], memory: &mut [u8], copy: &mut [u8]) -> Both
+pub fn run_both(engine: EngineRecord, ring: &[u8], memory: &mut [u8], copy: &mut [u8]) -> Both
     ensures { λ r. ⌜ (now (memory .entry) ≡ now (copy .entry) → Same r (now (memory .exit)) (now (copy .exit))) ⌝ }
 {
     let fast = run::run_by(engine, ring, memory, false);

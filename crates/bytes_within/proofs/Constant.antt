@@ -7,8 +7,8 @@ use lib.ListN.{getD, drop}
 use lib.Seq.{getD-drop}
 use Rattle.pixel.specs.Blending.{factorValue}
 use Rattle.pixel.specs.Rules.{blendModeFactors}
-use Rattle.pixel.specs.declared.blend.Rule.{Rule}
-use Rattle.pixel.specs.declared.blend.RuleName.the-variants.{Add}
+use Rattle.pixel.specs.declared.blend.BlendFactors.{BlendFactors}
+use Rattle.pixel.specs.declared.blend.BlendMode.the-variants.{Add}
 use Rattle.lanes.specs.Lanes.{Done}
 use Rattle.lanes.proofs.Passes.{same-done}
 use Rattle.byte_rows.specs.Apart.{movedByte}
@@ -21,7 +21,7 @@ use Rattle.bytes_within.proofs.Within.{in-drop, row, within-whole, with
 abbrev Always : (ℕ → ℕ → ℕ) → ℕ → Type 0
 Always f v = (x y : ℕ) → f x y ≡ v
 
-module _ (rule : Rule) (m m′ : List ℕ) (to from n : ℕ) where
+module _ (rule : BlendFactors) (m m′ : List ℕ) (to from n : ℕ) where
   pub added-within : Always (factorValue (rule .source)) 255 → Always (factorValue (rule .destination)) 255 →
       Done (blendWithin (blendModeFactors Add) m to from) m m′ to (to + n) → Done (blendWithin rule m to from) m m′ to (to + n)
   added-within is-s is-d did =
@@ -42,7 +42,7 @@ module _ (rule : Rule) (m m′ : List ℕ) (to from n : ℕ) where
   cleared-within is-s is-d did =
       within-whole rule m m′ to from n (did .under) (cleared-row rule (drop from m) (drop to m) (drop to m′) n is-s is-d (row m m′ to n (λ j. 0) did))
 
-pub left-within : (rule : Rule) (m : List ℕ) (to from n : ℕ) → Bytes m → Always (factorValue (rule .source)) 0 → Always (factorValue (rule .destination)) 255 →
+pub left-within : (rule : BlendFactors) (m : List ℕ) (to from n : ℕ) → Bytes m → Always (factorValue (rule .source)) 0 → Always (factorValue (rule .destination)) 255 →
     Done (blendWithin rule m to from) m m to (to + n)
 left-within rule m to from n in-m is-s is-d =
     within-whole rule m m to from n (λ j l. refl) (left-row rule (drop from m) (drop to m) n (in-drop m to in-m) is-s is-d)

@@ -8,7 +8,7 @@ use native.Mathlib.Omega.{arith}
 use lib.ListN.{length, getD, set, drop}
 use lib.Seq.{getD-drop}
 use Rattle.pixel.specs.Blending.{factorValue, blendedChannel}
-use Rattle.pixel.specs.declared.blend.Rule.{Rule}
+use Rattle.pixel.specs.declared.blend.BlendFactors.{BlendFactors}
 use Rattle.lanes.specs.Lanes.{Done}
 use Rattle.lanes.proofs.Laws.{under-or}
 use Rattle.lanes.proofs.Passes.{one-done, same-done, to-end}
@@ -43,12 +43,12 @@ module _ (m m′ : List ℕ) (to n : ℕ) where
     past = λ j l. getD-drop to m′ j 0 ∙ (did .past (to + j) (omega arith) ∙ sym (getD-drop to m j 0));
   }
 
-pub within-whole : (rule : Rule) (m m′ : List ℕ) (to from n : ℕ) → ((j : ℕ) → j < to → getD m′ j 0 ≡ getD m j 0) →
+pub within-whole : (rule : BlendFactors) (m m′ : List ℕ) (to from n : ℕ) → ((j : ℕ) → j < to → getD m′ j 0 ≡ getD m j 0) →
     Done (blendAt rule (drop from m) (drop to m)) (drop to m) (drop to m′) 0 n → Done (blendWithin rule m to from) m m′ to (to + n)
 unfolding blendWithin
 within-whole rule m m′ to from n under did = whole m m′ to n (blendAt rule (drop from m) (drop to m)) under did
 
-pub within-row : (rule : Rule) (m m′ : List ℕ) (to from n : ℕ) → Done (blendWithin rule m to from) m m′ to (to + n) →
+pub within-row : (rule : BlendFactors) (m m′ : List ℕ) (to from n : ℕ) → Done (blendWithin rule m to from) m m′ to (to + n) →
     Done (blendAt rule (drop from m) (drop to m)) (drop to m) (drop to m′) 0 n
 unfolding blendWithin
 within-row rule m m′ to from n did =
@@ -59,10 +59,10 @@ within-row rule m m′ to from n did =
 -- ---- one part more
 
 -- a byte, by the bytes that it reads
-abbrev byteBy : Rule → ℕ → ℕ → ℕ → ℕ → ℕ
+abbrev byteBy : BlendFactors → ℕ → ℕ → ℕ → ℕ → ℕ
 byteBy rule s a d b = blendedChannel s (factorValue (rule .source) a b) d (factorValue (rule .destination) a b)
 
-pub within-reads : (rule : Rule) (m : List ℕ) (to from j : ℕ) →
+pub within-reads : (rule : BlendFactors) (m : List ℕ) (to from j : ℕ) →
     blendWithin rule m to from (to + j)
     ≡ byteBy rule (getD m (from + j) 0) (getD m (from + (j / 4 * 4 + 3)) 0) (getD m (to + j) 0) (getD m (to + (j / 4 * 4 + 3)) 0)
 unfolding blendWithin blendAt
@@ -71,7 +71,7 @@ within-reads rule m to from j =
     rw (e, getD-drop from m j 0, getD-drop from m (j / 4 * 4 + 3) 0, getD-drop to m j 0, getD-drop to m (j / 4 * 4 + 3) 0)
 
 -- the rows from some of their pixels on
-shifted : (rule : Rule) (m : List ℕ) (to from o j : ℕ) → o % 4 ≡ 0 →
+shifted : (rule : BlendFactors) (m : List ℕ) (to from o j : ℕ) → o % 4 ≡ 0 →
     blendWithin rule m (to + o) (from + o) (to + o + j) ≡ blendWithin rule m to from (to + (o + j))
 shifted rule m to from o j four =
     let e₁ : from + o + j ≡ from + (o + j) = omega arith in
@@ -80,7 +80,7 @@ shifted rule m to from o j four =
     let e₄ : to + o + (j / 4 * 4 + 3) ≡ to + ((o + j) / 4 * 4 + 3) = omega arith in
     within-reads rule m (to + o) (from + o) j ∙ ((rw (e₁, e₂, e₃, e₄)) ∙ sym (within-reads rule m to from (o + j)))
 
-module _ (rule : Rule) (m₀ m : List ℕ) (to from n o start : ℕ) (a : Apart (length m₀) to from n) (whole-pixels : n % 4 ≡ 0) (in-row : o ≤ n) (first : to ≤ start) (so-far : start ≤ to + o)
+module _ (rule : BlendFactors) (m₀ m : List ℕ) (to from n o start : ℕ) (a : Apart (length m₀) to from n) (whole-pixels : n % 4 ≡ 0) (in-row : o ≤ n) (first : to ≤ start) (so-far : start ≤ to + o)
     (was : Done (blendWithin rule m₀ to from) m₀ m start (to + o)) where
   source-kept : (j : ℕ) → j < n → getD m (from + j) 0 ≡ getD m₀ (from + j) 0
   source-kept j l = ⊎-elim (λ (h : from + n ≤ to). was .under (from + j) (omega arith)) (λ (h : to + n ≤ from). was .past (from + j) (omega arith)) (a .apart)
@@ -131,7 +131,7 @@ module _ (rule : Rule) (m₀ m : List ℕ) (to from n o start : ℕ) (a : Apart 
 pub none-within : (P : ℕ → ℕ) (m : List ℕ) (to : ℕ) → Done P m m to (to + 0)
 none-within P m to = record { done = λ j h l. absurd (omega arith); under = λ j l. refl; past = λ j l. refl }
 
-pub by-rule : (q r : Rule) (m m′ : List ℕ) (to from n : ℕ) → q ≡ r → Done (blendWithin r m to from) m m′ to (to + n) → Done (blendWithin q m to from) m m′ to (to + n)
+pub by-rule : (q r : BlendFactors) (m m′ : List ℕ) (to from n : ℕ) → q ≡ r → Done (blendWithin r m to from) m m′ to (to + n) → Done (blendWithin q m to from) m m′ to (to + n)
 by-rule q r m m′ to from n h did = rw h did
 
 -- parts of rows that do not meet do not meet

@@ -4,7 +4,7 @@ ghost use mathlib.Core.Bool.{true};
 ghost use Prim.Native.Nat.{_+_, _%_, _≤_};
 ghost use lib.ListN.{length};
 ghost use Rattle.pixel.specs.Rules.{blendModeFactors};
-ghost use Rattle.pixel.specs.declared.blend.RuleName.the-variants.{Add};
+ghost use Rattle.pixel.specs.declared.blend.BlendMode.the-variants.{Add};
 ghost use Rattle.lanes.specs.Lanes.{Done};
 ghost use Rattle.plan.specs.Plan.{Planned};
 ghost use Rattle.byte_rows.specs.Apart.{Apart};

@@ -5,19 +5,19 @@ use Prim.Native.Nat.{ℕ}
 use lib.ListN.{length}
 use Rattle.reset.specs.declared.ResetRule.{ResetRule}
 use Rattle.record.specs.declared.Window.{Window}
-use Rattle.record.specs.declared.Record.{Record}
+use Rattle.record.specs.declared.EngineRecord.{EngineRecord}
 use Rattle.queue.specs.declared.Answer.{Answer}
 use Rattle.queue.specs.declared.Answer.the-variants.{Refused, Done, Opened, Accepted, Ready, Missing}
 use Rattle.queue.specs.Answers.{refusalNumberOf, valueOf}
 use Rattle.queue.specs.Calls.{setUpResult, openResult, submitResult, submitNumber, beginResult, pieceResult, pieceNumber, cancelResult, closeResult, pendingAnswer}
-use Rattle.queue.proofs.Stays.{submit-number, submit-same, piece-number, piece-same, close-number}
+use Rattle.queue.proofs.Preservation.{submit-number, submit-refused-no-op, piece-number, piece-refused-no-op, close-number}
 use Rattle.engine.specs.declared.Outcome.{Outcome}
 use Rattle.engine.specs.declared.Outcome.the-variants.{Refused as NotRun, Completed}
 use Rattle.engine.specs.Outcome.{runRefusalOf as refusalOf}
 use Rattle.engine.specs.Run.{runResult, runNumber}
 use Rattle.engine.specs.Close.{closeNumber}
 use Rattle.engine.proofs.Zeros.{close-left}
-use Rattle.engine.proofs.Stays.{run-number, run-same}
+use Rattle.engine.proofs.Preservation.{run-number, run-refused-no-op}
 use Rattle.answers.specs.Answers.{lastOf, fiveOf}
 use Rattle.record_bytes.specs.Read.{recordOf}
 use Rattle.record_bytes.specs.Written.{bytesOf}
@@ -66,10 +66,10 @@ module _ (bytes bytesNow : List ℕ) (number : ℕ) (refused : number ≡ 0 → 
   submit-none : (ring ringNow : List ℕ) (client : ℕ) (batch : List ℕ) (value : ℕ) → Submits bytes ring client batch number value bytesNow ringNow →
       (value ≡ 0) × (bytesNow ≡ bytes) × (ringNow ≡ ring)
   submit-none ring ringNow client batch value s =
-      let r : Record = recordOf bytes in
+      let r : EngineRecord = recordOf bytes in
       let t = told-none bytes (bytesOf (submitResult r ring client batch .engine)) (submitResult r ring client batch .answer) number value bytesNow refused (s .told) in
       let z : submitNumber r ring client batch ≡ 0 → ⊥ = λ e. refused (s .told .number-is ∙ submit-number r ring client batch ∙ e) in
-      (t .0, t .1, s .ring-is ∙ submit-same r ring client batch z .1)
+      (t .0, t .1, s .ring-is ∙ submit-refused-no-op r ring client batch z .1)
 
   begin-none : (ring : List ℕ) (client total : ℕ) → Begins bytes ring client total number bytesNow → bytesNow ≡ bytes
   unfolding Begins
@@ -86,18 +86,18 @@ module _ (bytes bytesNow : List ℕ) (number : ℕ) (refused : number ≡ 0 → 
   piece-none : (ring ringNow : List ℕ) (client : ℕ) (piece two : List ℕ) → HandsOver bytes ring client piece number two bytesNow ringNow →
       (two ≡ 0 ∷ 0 ∷ []) × (bytesNow ≡ bytes) × (ringNow ≡ ring)
   piece-none ring ringNow client piece two s =
-      let r : Record = recordOf bytes in
+      let r : EngineRecord = recordOf bytes in
       let a : Answer = pieceResult r ring client piece .answer in
       let z : refusalNumberOf a ≡ 0 → ⊥ = λ e. refused (s .told .number-is ∙ e) in
       let n : pieceNumber r ring client piece ≡ 0 → ⊥ = λ e. refused (s .told .number-is ∙ piece-number r ring client piece ∙ e) in (
         s .told .two-are ∙ ap₂ (λ (x y : ℕ). x ∷ y ∷ []) (no-last a z) (no-value a z),
         s .told .record-is ∙ unless-not bytes (bytesOf (pieceResult r ring client piece .engine)) (refusalNumberOf a) z,
-        s .ring-is ∙ piece-same r ring client piece n .1,
+        s .ring-is ∙ piece-refused-no-op r ring client piece n .1,
       )
 
   close-none : (memory memoryNow : List ℕ) (client : ℕ) → Closes bytes memory client number bytesNow memoryNow → (bytesNow ≡ bytes) × (memoryNow ≡ memory)
   close-none memory memoryNow client s =
-      let r : Record = recordOf bytes in
+      let r : EngineRecord = recordOf bytes in
       let reply = closeResult r (length memory) client in
       let n : closeNumber r memory client ≡ 0 → ⊥ = λ e. refused (s .told .number-is ∙ close-number r (length memory) client ∙ e) in
       (silent-none bytes (bytesOf (reply .engine)) (reply .answer) number bytesNow refused (s .told), s .memory-is ∙ close-left r memory client n)
@@ -105,11 +105,11 @@ module _ (bytes bytesNow : List ℕ) (number : ℕ) (refused : number ≡ 0 → 
   run-none : (ring memory memoryNow five : List ℕ) → Runs bytes ring memory number five bytesNow memoryNow →
       (five ≡ 0 ∷ 0 ∷ 0 ∷ 0 ∷ 0 ∷ []) × (bytesNow ≡ bytes) × (memoryNow ≡ memory)
   run-none ring memory memoryNow five s =
-      let r : Record = recordOf bytes in
+      let r : EngineRecord = recordOf bytes in
       let o : Outcome = runResult r ring memory .outcome in
       let z : refusalOf o ≡ 0 → ⊥ = λ e. refused (s .reports .number-is ∙ e) in
       let n : runNumber r ring memory ≡ 0 → ⊥ = λ e. refused (s .reports .number-is ∙ run-number r ring memory ∙ e) in
-      (s .reports .five-are ∙ no-five o z, s .reports .record-is ∙ unless-not bytes (bytesOf (runResult r ring memory .engine)) (refusalOf o) z, s .memory-is ∙ run-same r ring memory n .1)
+      (s .reports .five-are ∙ no-five o z, s .reports .record-is ∙ unless-not bytes (bytesOf (runResult r ring memory .engine)) (refusalOf o) z, s .memory-is ∙ run-refused-no-op r ring memory n .1)
 
   pending-none : (client value : ℕ) → Pends bytes client number value → value ≡ 0
   pending-none client value s = s .value-is ∙ no-value (pendingAnswer (recordOf bytes) client) (λ e. refused (s .number-is ∙ e))

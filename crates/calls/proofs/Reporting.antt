@@ -3,14 +3,14 @@ use mathlib.Core.Path.{_≡_, sym, ap, subst, _∙_}
 use mathlib.Core.List.{List, [], _∷_}
 use Prim.Native.Nat.{ℕ}
 use lib.ListN.{length, getD}
-use Rattle.record.specs.declared.Record.{Record}
+use Rattle.record.specs.declared.EngineRecord.{EngineRecord}
 use Rattle.queue.specs.Calls.{unlessRefused}
 use Rattle.engine.specs.declared.Outcome.{Outcome}
-use Rattle.engine.specs.declared.Ran.{Ran}
+use Rattle.engine.specs.declared.RunResult.{RunResult}
 use Rattle.engine.specs.Outcome.{runRefusalOf as refusalOf}
 use Rattle.engine.specs.Run.{runResult, runMemory}
 use Rattle.engine.proofs.Refusals.{run-allowed}
-use Rattle.engine.proofs.Stays.{run-number}
+use Rattle.engine.proofs.Preservation.{run-number}
 use Rattle.answers.specs.Answers.{outcomeWords, Small}
 use Rattle.answers.proofs.Numbers.{run-small}
 use Rattle.record_bytes.specs.Read.{recordOf}
@@ -36,16 +36,16 @@ module _ (bytes after words : List ℕ) (o : Outcome) (are : words ≡ outcomeWo
     record-is = sym (unless-not bytes after (refusalOf o) (rw are at z));
   }
 
-pub ran-small : (engine : Record) (ring memory : List ℕ) (ran : Ran) → ran ≡ runResult engine ring memory → Small (ran .outcome)
+pub ran-small : (engine : EngineRecord) (ring memory : List ℕ) (ran : RunResult) → ran ≡ runResult engine ring memory → Small (ran .outcome)
 ran-small engine ring memory ran e = rw e (run-small engine ring memory)
 
-pub run-told : (bytes ring memory : List ℕ) (engine : Record) (ran : Ran) (number : ℕ) (five bytesNow memoryNow : List ℕ) → engine ≡ recordOf bytes → ran ≡ runResult engine ring memory →
+pub run-told : (bytes ring memory : List ℕ) (engine : EngineRecord) (ran : RunResult) (number : ℕ) (five bytesNow memoryNow : List ℕ) → engine ≡ recordOf bytes → ran ≡ runResult engine ring memory →
     memoryNow ≡ runMemory engine ring memory → Reports bytes (written (ran .engine) bytes) (ran .outcome) number five bytesNow →
     Runs bytes ring memory number five bytesNow memoryNow
 run-told bytes ring memory engine ran number five bytesNow memoryNow is e q t =
-    let r : Record = recordOf bytes in
-    let both : ran ≡ runResult r ring memory = e ∙ ap (λ (x : Record). runResult x ring memory) is in
-    let s = subst (λ (x : Ran). Reports bytes (written (x .engine) bytes) (x .outcome) number five bytesNow) both t in
+    let r : EngineRecord = recordOf bytes in
+    let both : ran ≡ runResult r ring memory = e ∙ ap (λ (x : EngineRecord). runResult x ring memory) is in
+    let s = subst (λ (x : RunResult). Reports bytes (written (x .engine) bytes) (x .outcome) number five bytesNow) both t in
     record {
       reports = record {
         number-is = s .number-is;
@@ -55,5 +55,5 @@ run-told bytes ring memory engine ran number five bytesNow memoryNow is e q t =
             ∙ whole bytes (runResult r ring memory .engine) (refusalOf (runResult r ring memory .outcome))
             (λ z. fits bytes (run-allowed r (length ring) (length memory) (sym (run-number r ring memory) ∙ z) .ok));
       };
-      memory-is = q ∙ ap (λ (x : Record). runMemory x ring memory) is;
+      memory-is = q ∙ ap (λ (x : EngineRecord). runMemory x ring memory) is;
     }

@@ -7,14 +7,14 @@ use lib.ListN.{length, getD}
 use borrow.Author.Tests.{eq-eqb, ne-eqb}
 use Rattle.reset.specs.declared.ResetRule.{ResetRule}
 use Rattle.record.specs.declared.Window.{Window}
-use Rattle.record.specs.declared.Record.{Record}
+use Rattle.record.specs.declared.EngineRecord.{EngineRecord}
 use Rattle.record.specs.Rules.{valid}
 use Rattle.queue.specs.declared.Answer.{Answer}
 use Rattle.queue.specs.declared.Reply.{Reply}
 use Rattle.queue.specs.Answers.{refusalNumberOf, valueOf}
 use Rattle.queue.specs.Calls.{unlessRefused, setUpResult, openResult, submitResult, submitRing, beginResult, pieceResult, pieceRing, cancelResult, closeResult, pendingAnswer}
 use Rattle.queue.proofs.Refusals.{open-allowed, submit-allowed, piece-allowed, cancel-allowed, close-allowed}
-use Rattle.queue.proofs.Stays.{open-number, submit-number, begin-number, piece-number, cancel-number, close-number}
+use Rattle.queue.proofs.Preservation.{open-number, submit-number, begin-number, piece-number, cancel-number, close-number}
 use Rattle.engine.specs.Close.{closeMemory}
 use Rattle.answers.specs.Answers.{shortAnswer, pieceWords}
 use Rattle.record_bytes.specs.Read.{recordOf}
@@ -68,7 +68,7 @@ module _ (bytes after words : List ℕ) (a : Answer) (w : words ≡ pieceWords a
 -- ---- the record is written whole
 
 -- what is not refused was done on a buffer that a record fits in
-pub whole : (bytes : List ℕ) (engine : Record) (n : ℕ) → (n ≡ 0 → length bytes ≡ 272) → unlessRefused n bytes (written engine bytes) ≡ unlessRefused n bytes (bytesOf engine)
+pub whole : (bytes : List ℕ) (engine : EngineRecord) (n : ℕ) → (n ≡ 0 → length bytes ≡ 272) → unlessRefused n bytes (written engine bytes) ≡ unlessRefused n bytes (bytesOf engine)
 unfolding unlessRefused
 whole bytes engine zero h = written-whole engine bytes (h refl)
 whole bytes engine (suc n) h = refl
@@ -93,12 +93,12 @@ fits bytes v = record-size bytes (valid-record bytes v)
 
 -- ---- the calls
 
-module _ (bytes : List ℕ) (engine : Record) (is : engine ≡ recordOf bytes) where
+module _ (bytes : List ℕ) (engine : EngineRecord) (is : engine ≡ recordOf bytes) where
   pub open-told : (w : Window) (reply : Reply) (number value : ℕ) (bytesNow : List ℕ) → reply ≡ openResult engine w →
       Told bytes (written (reply .engine) bytes) (reply .answer) number value bytesNow → Opens bytes w number value bytesNow
   unfolding Opens
   open-told w reply number value bytesNow e t =
-      let both : reply ≡ openResult (recordOf bytes) w = e ∙ ap (λ (x : Record). openResult x w) is in
+      let both : reply ≡ openResult (recordOf bytes) w = e ∙ ap (λ (x : EngineRecord). openResult x w) is in
       told-whole bytes (openResult (recordOf bytes) w) number value bytesNow
       (λ z. fits bytes (open-allowed (recordOf bytes) w (sym (open-number (recordOf bytes) w) ∙ z) .ok))
       (subst (λ (x : Reply). Told bytes (written (x .engine) bytes) (x .answer) number value bytesNow) both t)
@@ -107,20 +107,20 @@ module _ (bytes : List ℕ) (engine : Record) (is : engine ≡ recordOf bytes) w
       ringNow ≡ submitRing engine ring client batch → Told bytes (written (reply .engine) bytes) (reply .answer) number value bytesNow →
       Submits bytes ring client batch number value bytesNow ringNow
   submit-told ring client batch reply number value bytesNow ringNow e q t =
-      let both : reply ≡ submitResult (recordOf bytes) ring client batch = e ∙ ap (λ (x : Record). submitResult x ring client batch) is in
+      let both : reply ≡ submitResult (recordOf bytes) ring client batch = e ∙ ap (λ (x : EngineRecord). submitResult x ring client batch) is in
       record {
         told =
             told-whole bytes (submitResult (recordOf bytes) ring client batch) number value bytesNow
             (λ z. fits bytes (submit-allowed (recordOf bytes) (length ring) client (length batch) (sym (submit-number (recordOf bytes) ring client batch) ∙ z) .ok))
             (subst (λ (x : Reply). Told bytes (written (x .engine) bytes) (x .answer) number value bytesNow) both t);
-        ring-is = q ∙ ap (λ (x : Record). submitRing x ring client batch) is;
+        ring-is = q ∙ ap (λ (x : EngineRecord). submitRing x ring client batch) is;
       }
 
   pub begin-told : (ring : List ℕ) (client total : ℕ) (reply : Reply) (number value : ℕ) (bytesNow : List ℕ) → reply ≡ beginResult engine (length ring) client total →
       Told bytes (written (reply .engine) bytes) (reply .answer) number value bytesNow → Begins bytes ring client total number bytesNow
   unfolding Begins
   begin-told ring client total reply number value bytesNow e t =
-      let both : reply ≡ beginResult (recordOf bytes) (length ring) client total = e ∙ ap (λ (x : Record). beginResult x (length ring) client total) is in
+      let both : reply ≡ beginResult (recordOf bytes) (length ring) client total = e ∙ ap (λ (x : EngineRecord). beginResult x (length ring) client total) is in
       done-whole bytes (beginResult (recordOf bytes) (length ring) client total) number value bytesNow
       (λ z. fits bytes (submit-allowed (recordOf bytes) (length ring) client total (sym (begin-number (recordOf bytes) (length ring) client total) ∙ z) .ok))
       (subst (λ (x : Reply). Told bytes (written (x .engine) bytes) (x .answer) number value bytesNow) both t)
@@ -129,8 +129,8 @@ module _ (bytes : List ℕ) (engine : Record) (is : engine ≡ recordOf bytes) w
       ringNow ≡ pieceRing engine ring client piece → ToldTwo bytes (written (reply .engine) bytes) (reply .answer) number two bytesNow →
       HandsOver bytes ring client piece number two bytesNow ringNow
   piece-told ring client piece reply number two bytesNow ringNow e q t =
-      let r : Record = recordOf bytes in
-      let both : reply ≡ pieceResult r ring client piece = e ∙ ap (λ (x : Record). pieceResult x ring client piece) is in
+      let r : EngineRecord = recordOf bytes in
+      let both : reply ≡ pieceResult r ring client piece = e ∙ ap (λ (x : EngineRecord). pieceResult x ring client piece) is in
       let s = subst (λ (x : Reply). ToldTwo bytes (written (x .engine) bytes) (x .answer) number two bytesNow) both t in
       record {
         told = record {
@@ -141,14 +141,14 @@ module _ (bytes : List ℕ) (engine : Record) (is : engine ≡ recordOf bytes) w
               ∙ whole bytes (pieceResult r ring client piece .engine) (refusalNumberOf (pieceResult r ring client piece .answer))
               (λ z. fits bytes (piece-allowed r (length ring) client (length piece) (sym (piece-number r ring client piece) ∙ z) .own .ok));
         };
-        ring-is = q ∙ ap (λ (x : Record). pieceRing x ring client piece) is;
+        ring-is = q ∙ ap (λ (x : EngineRecord). pieceRing x ring client piece) is;
       }
 
   pub cancel-told : (client : ℕ) (reply : Reply) (number value : ℕ) (bytesNow : List ℕ) → reply ≡ cancelResult engine client →
       Told bytes (written (reply .engine) bytes) (reply .answer) number value bytesNow → Cancels bytes client number bytesNow
   unfolding Cancels
   cancel-told client reply number value bytesNow e t =
-      let both : reply ≡ cancelResult (recordOf bytes) client = e ∙ ap (λ (x : Record). cancelResult x client) is in
+      let both : reply ≡ cancelResult (recordOf bytes) client = e ∙ ap (λ (x : EngineRecord). cancelResult x client) is in
       done-whole bytes (cancelResult (recordOf bytes) client) number value bytesNow
       (λ z. fits bytes (cancel-allowed (recordOf bytes) client (sym (cancel-number (recordOf bytes) client) ∙ z) .ok))
       (subst (λ (x : Reply). Told bytes (written (x .engine) bytes) (x .answer) number value bytesNow) both t)
@@ -156,14 +156,14 @@ module _ (bytes : List ℕ) (engine : Record) (is : engine ≡ recordOf bytes) w
   pub close-told : (memory : List ℕ) (client : ℕ) (reply : Reply) (number value : ℕ) (bytesNow memoryNow : List ℕ) → reply ≡ closeResult engine (length memory) client →
       memoryNow ≡ closeMemory engine memory client → Told bytes (written (reply .engine) bytes) (reply .answer) number value bytesNow → Closes bytes memory client number bytesNow memoryNow
   close-told memory client reply number value bytesNow memoryNow e q t =
-      let r : Record = recordOf bytes in
-      let both : reply ≡ closeResult r (length memory) client = e ∙ ap (λ (x : Record). closeResult x (length memory) client) is in
+      let r : EngineRecord = recordOf bytes in
+      let both : reply ≡ closeResult r (length memory) client = e ∙ ap (λ (x : EngineRecord). closeResult x (length memory) client) is in
       record {
         told =
             done-whole bytes (closeResult r (length memory) client) number value bytesNow
             (λ z. fits bytes (close-allowed r (length memory) client (sym (close-number r (length memory) client) ∙ z) .ok))
             (subst (λ (x : Reply). Told bytes (written (x .engine) bytes) (x .answer) number value bytesNow) both t);
-        memory-is = q ∙ ap (λ (x : Record). closeMemory x memory client) is;
+        memory-is = q ∙ ap (λ (x : EngineRecord). closeMemory x memory client) is;
       }
 
   pub pending-told : (client : ℕ) (a : Answer) (words : List ℕ) → a ≡ pendingAnswer engine client → words ≡ shortAnswer (refusalNumberOf a) (valueOf a) →

@@ -13,7 +13,7 @@ use Rattle.queue.specs.declared.Reply.{Reply}
 use Rattle.queue.specs.Answers.{refusalNumberOf, valueOf}
 use Rattle.queue.specs.Calls.{unlessRefused, setUpResult, openResult, submitResult, submitRing, beginResult, pieceResult, pieceRing, cancelResult, closeResult, pendingAnswer}
 use Rattle.engine.specs.declared.Outcome.{Outcome}
-use Rattle.engine.specs.declared.Ran.{Ran}
+use Rattle.engine.specs.declared.RunResult.{RunResult}
 use Rattle.engine.specs.Outcome.{runRefusalOf as refusalOf}
 use Rattle.engine.specs.Run.{runResult, runMemory}
 use Rattle.engine.specs.Close.{closeMemory}
@@ -103,6 +103,6 @@ pub record Reports (bytes after : List ℕ) (outcome : Outcome) (number : ℕ) (
 
 pub record Runs (bytes ring memory : List ℕ) (number : ℕ) (five bytesNow memoryNow : List ℕ) : Type 0 where
   pub reports :
-      let ran : Ran = runResult (recordOf bytes) ring memory in
+      let ran : RunResult = runResult (recordOf bytes) ring memory in
       Reports bytes (bytesOf (ran .engine)) (ran .outcome) number five bytesNow
   pub memory-is : memoryNow ≡ runMemory (recordOf bytes) ring memory

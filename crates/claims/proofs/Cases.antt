@@ -10,7 +10,7 @@ use Rattle.record.specs.declared.Window.{Window as Place}
 use Rattle.record.specs.Slots.{readyBatches as readyOf, countOf}
 use Rattle.record.specs.Clients.{clientAt, lowestClosed}
 use Rattle.record.specs.Queue.{writeOffset}
-use Rattle.record.specs.declared.Record.{Record}
+use Rattle.record.specs.declared.EngineRecord.{EngineRecord}
 use Rattle.queue.specs.declared.Answer.{Answer as Told}
 use Rattle.record.specs.Staged.{noStaged, missingBytes}
 use Rattle.queue.specs.declared.Answer.the-variants.{Done, Opened, Accepted, Ready, Missing}
@@ -61,7 +61,7 @@ either zero s done = done
 either (suc n) s done = record { answer = refused (suc n); after = s }
 
 -- each kind of call, with any number
-module _ (e e′ : Record) (r r′ m m′ : List ℕ) where
+module _ (e e′ : EngineRecord) (r r′ m m′ : List ℕ) where
   case-open : (n client : ℕ) →
       record { answer = answerOrRefusal (refusalNumberOf (replied n (Opened client))) (opened (valueOf (replied n (Opened client)))); after = mkState (unlessRefused n e e′) r m } ≡
       either n (mkState e r m) (record { answer = opened client; after = mkState e′ r m })
@@ -112,7 +112,7 @@ module _ (e e′ : Record) (r r′ m m′ : List ℕ) where
   case-piece (suc n) a h = refl
 
 -- no piece that is done answers a refusal
-piece-told : (engine : Record) (size : ℕ) → refusalNumberOf (pieceAnswer engine size) ≡ 0
+piece-told : (engine : EngineRecord) (size : ℕ) → refusalNumberOf (pieceAnswer engine size) ≡ 0
 piece-told engine size = go (isLast (engine .staged) size)
   where
     go : (b : Bool) → refusalNumberOf (cond b (Accepted (engine .next)) (Missing (missingBytes (more (engine .staged) size)))) ≡ 0

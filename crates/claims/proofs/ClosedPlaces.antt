@@ -5,7 +5,7 @@ use mathlib.Core.Logic.{inl, inr}
 use Prim.Native.Nat.{ℕ, zero, suc, _%_}
 use native.Mathlib.Omega.{arith}
 use lib.ListN.{length, getD}
-use Rattle.record.specs.declared.Record.{Record}
+use Rattle.record.specs.declared.EngineRecord.{EngineRecord}
 use Rattle.record.specs.declared.Client.{Client}
 use Rattle.record.specs.declared.Batch.{Batch}
 use Rattle.record.specs.Clients.{noClient, windowsOf, pendingCountsMatch}
@@ -14,9 +14,9 @@ use Rattle.record.specs.Rules.{clientsOpen, valid}
 use Rattle.model.specs.Calls.{Setup, Call}
 use Rattle.claims.specs.Engine.{State, mkState, answersOf, memoriesOf}
 use Rattle.claims.specs.Queue.{SameButClosed, withClients, ClosedPlacesFree}
-use Rattle.claims.proofs.Seen.{seenPlaces}
-use Rattle.claims.proofs.Related.{seen, seenStaging, Sound, Related}
-use Rattle.claims.proofs.Follows.{follow, remember}
+use Rattle.claims.proofs.Abstraction.{seenPlaces}
+use Rattle.claims.proofs.SimulationRelation.{abstraction, seenStaging, Sound, Related}
+use Rattle.claims.proofs.Simulation.{calls-simulate, remember}
 
 -- ---- clients that are the same but for closed ones
 
@@ -62,7 +62,7 @@ same-places (c ∷ cs) (d ∷ ds) (inr e, h) = rw (e .0, e .1, same-places cs ds
 
 -- ---- the record
 
-module _ (engine : Record) (clients : List Client) (h : SameButClosed (engine .clients) clients) where
+module _ (engine : EngineRecord) (clients : List Client) (h : SameButClosed (engine .clients) clients) where
   same-owners : (bs : List Batch) → clientsOpen (withClients engine clients) bs ≡ clientsOpen engine bs
   unfolding clientsOpen
   same-owners [] = refl
@@ -85,10 +85,10 @@ module _ (setup : Setup) (n : ℕ) (s : State) (S : Sound setup n s) (clients : 
   abbrev other : State
   other = mkState (withClients (s .engine) clients) (s .ring) (s .memory)
 
-  related : Related setup n (seen (s .engine .next) s) s
+  related : Related setup n (abstraction (s .engine .next) s) s
   related = record { sound = S; next = own; is = refl }
 
-  related-other : Related setup n (seen (s .engine .next) s) other
+  related-other : Related setup n (abstraction (s .engine .next) s) other
   unfolding seenStaging
   related-other = record {
     sound = record {
@@ -103,7 +103,7 @@ module _ (setup : Setup) (n : ℕ) (s : State) (S : Sound setup n s) (clients : 
 
   both : (calls : List Call) → (answersOf calls other ≡ answersOf calls s) × (memoriesOf calls other ≡ memoriesOf calls s)
   both calls = (
-    follow setup n calls _ other related-other .0 ∙ sym (follow setup n calls _ s related .0),
+    calls-simulate setup n calls _ other related-other .0 ∙ sym (calls-simulate setup n calls _ s related .0),
     remember setup n calls _ other related-other ∙ sym (remember setup n calls _ s related),
   )
 

@@ -26,7 +26,7 @@ use Rattle.model.proofs.Locality.{All, local-tasks}
 use Rattle.rows.specs.Row.{colourAt}
 use Rattle.raster.specs.Task.{pixelColour, drawTask, drawTasks}
 use Rattle.raster.specs.Batch.{drawBatch}
-use Rattle.raster.proofs.Turn.{stride-some}
+use Rattle.raster.proofs.RowByRow.{stride-some}
 use Rattle.raster.proofs.Pixel.{pixel-same, origin-within, destination-within}
 use Rattle.raster.proofs.Judged.{Reach, clear}
 use Rattle.claims.specs.BatchSemantics.{boundsOf, semanticsFrom}

@@ -11,7 +11,7 @@ use Rattle.ring.specs.Copied.{copiedIn}
 use Rattle.ring.proofs.Wrapped.{wrapped-below}
 use Rattle.ring.proofs.Copied.{length-copied}
 use Rattle.record.specs.declared.Staged.{Staged}
-use Rattle.record.specs.declared.Record.{Record}
+use Rattle.record.specs.declared.EngineRecord.{EngineRecord}
 use Rattle.record.specs.Slots.{lowestFree}
 use Rattle.record.specs.Queue.{readyBytes, writeOffset}
 use Rattle.record.specs.Rules.{valid, stagedRule}
@@ -21,14 +21,14 @@ use Rattle.record.proofs.Unfinished.{unfinished-kept}
 use Rattle.queue.specs.Refusals.{firstRefusal}
 use Rattle.queue.specs.Calls.{newBatch, withBatch, submitted, withStaged, begun, withReceived, pieceAnswer, afterPiece}
 use Rattle.queue.proofs.Refusals.{SubmitAllowed, submit-allowed}
-use Rattle.queue.proofs.Kept.{Sized, few-taken, staged-valid}
+use Rattle.queue.proofs.Validity.{Sized, few-taken, staged-valid}
 use Rattle.queue.proofs.Submitted.{submit-addable}
 use Rattle.model.specs.Calls.{Setup, Call, submit, begin, piece, accepted, missing}
 use Rattle.claims.specs.Engine.{State, mkState, CallResult, pieceTold, performCall, stateAfter, SetUpAccepted}
 use Rattle.claims.specs.Demand1.{refusalTableOf}
 use Rattle.claims.specs.Demand3.{finalState, Cutting}
 use Rattle.claims.proofs.Cases.{number, done, either, by-number}
-use Rattle.claims.proofs.Follows.{at-end}
+use Rattle.claims.proofs.Simulation.{at-end}
 
 -- a call that is not refused
 pub allowed : (c : Call) (s : State) → number c s ≡ 0 → performCall c s ≡ done c s
@@ -36,14 +36,14 @@ unfolding either
 allowed c s z = rw (by-number c s, z)
 
 module _ (s : State) (sized : Sized (s .engine)) (client n : ℕ) (z : number (begin client n) s ≡ 0) where
-  abbrev e : Record
+  abbrev e : EngineRecord
   e = s .engine
 
   a : SubmitAllowed e (length (s .ring)) client n
   a = submit-allowed e (length (s .ring)) client n z
 
   -- so many bytes have come
-  abbrev upTo : ℕ → Record
+  abbrev upTo : ℕ → EngineRecord
   upTo k = withStaged e (withReceived (begun e client n) k)
 
   -- the client has begun a batch of n bytes and handed over y
@@ -95,7 +95,7 @@ module _ (s : State) (sized : Sized (s .engine)) (client n : ℕ) (z : number (b
   unfolding withStaged
   more-taken y x h =
       ap (λ (r : CallResult). r .after) (allowed (piece client x) (handed y) (piece-number y x (omega arith) (omega arith)))
-      ∙ ap₂ (λ (r : Record) (q : List ℕ). mkState r q (s .memory)) (after-more y x h) (ring-on y x (omega arith))
+      ∙ ap₂ (λ (r : EngineRecord) (q : List ℕ). mkState r q (s .memory)) (after-more y x h) (ring-on y x (omega arith))
 
   pieces-taken : (xs : List (List ℕ)) (y : List ℕ) → length y + length (flatten xs) < n → stateAfter (map (piece client) xs) (handed y) ≡ handed (y ++ flatten xs)
   unfolding stateAfter flatten

@@ -18,7 +18,7 @@ use Rattle.encoder.specs.declared.Answer.the-variants.{Written, Forbidden, Shor
 use Rattle.encoder.specs.Forms.{Form, formAllowed, formSize}
 use Rattle.encoder.specs.Encoder.{answerOf, bufferOnAnswer, bufferAfter, taskBytes, encodeRefusalOf as encoderNumber}
 use Rattle.queue.specs.Refusals.{firstRefusal}
-use Rattle.queue.proofs.Stays.{set-up-number}
+use Rattle.queue.proofs.Preservation.{set-up-number}
 use Rattle.engine.specs.Run.{oldest, boundsOfClient, oldestWords, resetOf, oldestVerdict, withoutOldest}
 use Rattle.model.specs.Calls.{Call, run, completed, refused}
 use Rattle.claims.specs.Engine.{State, mkState, CallResult, performCall}

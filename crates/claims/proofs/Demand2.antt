@@ -7,7 +7,7 @@ use Rattle.register.specs.declared.bank.Bank.{Bank}
 use Rattle.rules.specs.declared.fault.Fault.{Fault}
 use Rattle.rules.specs.declared.task.Bounds.{Bounds}
 use Rattle.batch.specs.declared.verdict.Verdict.the-variants.{Faulty}
-use Rattle.batch.proofs.Ways.{words-fit}
+use Rattle.batch.proofs.DecoderCases.{words-fit}
 use Rattle.batch.proofs.Tasks.{faultless-marks}
 use Rattle.batch.proofs.Offsets.{fault-inside}
 use Rattle.encoder.proofs.Buffer.{front, others, length-after}

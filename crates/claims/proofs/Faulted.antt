@@ -11,15 +11,15 @@ use Rattle.raster.proofs.Fold.{batch-tasks}
 use Rattle.record.specs.Queue.{waiting}
 use Rattle.engine.specs.Run.{oldest, boundsOfClient, oldestWords, resetOf, oldestVerdict}
 use Rattle.engine.proofs.Refusals.{run-allowed}
-use Rattle.engine.proofs.Stays.{run-waiting}
+use Rattle.engine.proofs.Preservation.{run-waiting}
 use Rattle.model.specs.Calls.{Setup, Call, run, CompletionStatus, completed}
 use Rattle.claims.specs.BatchSemantics.{completionStatusOf}
 use Rattle.claims.specs.Engine.{State, CallResult, performCall, SetUpAccepted}
 use Rattle.claims.specs.Demand1.{standing}
 use Rattle.claims.specs.Demand3.{finalState, FaultyBatchStands}
 use Rattle.claims.proofs.Cases.{number, done, either, by-number}
-use Rattle.claims.proofs.Related.{Sound}
-use Rattle.claims.proofs.Follows.{at-end}
+use Rattle.claims.proofs.SimulationRelation.{Sound}
+use Rattle.claims.proofs.Simulation.{at-end}
 
 -- the number in the upper half of its status word
 upper-half : (r : DecodedBatch) → ¬ (faultNumberOf (verdictOf r) ≡ 0) → length (tasksDrawn r) ≡ statusWordOf (verdictOf r) / 65536

@@ -11,7 +11,7 @@ use borrow.Author.Tests.{ltb-false, le-ltb, lt-leb, le-leb, ne-eqb}
 use Rattle.word.proofs.Tests.{split}
 use Rattle.range.specs.declared.Range.{Range}
 use Rattle.range.specs.Range.{containedIn, overlaps}
-use Rattle.record.specs.declared.Record.{Record}
+use Rattle.record.specs.declared.EngineRecord.{EngineRecord}
 use Rattle.record.specs.declared.Client.{Client}
 use Rattle.record.specs.declared.Window.{Window}
 use Rattle.record.specs.Clients.{noClient, clientAt, isOpen, windowsOf, windowRange, prefixRange, overlapsAny, badWindow}
@@ -23,7 +23,7 @@ use Rattle.record.proofs.Rules.{valid-facts}
 use Rattle.queue.specs.Refusals.{firstRefusal, openTable}
 use Rattle.queue.specs.Calls.{withoutClient}
 use Rattle.queue.proofs.Refusals.{CloseAllowed}
-use Rattle.queue.proofs.Kept.{Sized, close-valid}
+use Rattle.queue.proofs.Validity.{Sized, close-valid}
 
 -- a closed place leaves fewer windows than places
 closed-fewer : (cs : List Client) (k : ℕ) → k < length cs → getD cs k noClient .opened ≡ false → length (windowsOf cs) < length cs
@@ -52,7 +52,7 @@ inside-apart v w q low high e =
     let h = ltb-false (max (v .start) (q .start)) (min (v .start + v .length) (q .end)) e in
     le-ltb (max (w .start) (q .start)) (min (w .start + w .length) (q .end)) (omega arith)
 
-module _ (engine : Record) (sized : Sized engine) (lent client : ℕ) (a : CloseAllowed engine lent client) (w : Window) (some : 0 < w .length)
+module _ (engine : EngineRecord) (sized : Sized engine) (lent client : ℕ) (a : CloseAllowed engine lent client) (w : Window) (some : 0 < w .length)
     (low : clientAt engine client .window .start ≤ w .start) (high : w .start + w .length ≤ clientAt engine client .window .start + clientAt engine client .window .length) where
   place : client < 4
   place = open-place engine client (a .owner) .0

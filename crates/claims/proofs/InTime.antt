@@ -16,8 +16,8 @@ use lib.Dec.{eqb}
 use Rattle.claims.specs.ModelProperties.{batchSemantics}
 use Rattle.claims.specs.Engine.{performCall, SetUpAccepted}
 use Rattle.claims.specs.Demand3.{completedOf, finalState, CompletedSoon, BoundedWaiting}
-use Rattle.claims.proofs.OfModel.{of-model}
-use Rattle.claims.proofs.Follows.{together, follow, at-end}
+use Rattle.claims.proofs.ModelProperties.{of-model}
+use Rattle.claims.proofs.Simulation.{step-simulates, calls-simulate, at-end}
 
 -- completions of these batches, one of each, in order
 data Names : List Answer → List Batch → Type 0 where
@@ -94,8 +94,8 @@ module _ (setup : Setup) (ring : List ℕ) (A : SetUpAccepted setup) (calls late
   soon : (call : Call) (client : ℕ) → ((b : Batch) → HandedIn model call b → b .client ≡ client) → CompletedSoon setup ring calls memory call client later
   soon call client own ticket a h =
       let first : Step = step (batchSemantics setup) setup n call model in
-      let q = together setup n call model (finalState setup ring calls memory) (at-end setup ring A calls memory) in
-      let same = follow setup n later (first .after) (performCall call (finalState setup ring calls memory) .after) (q .1) .0 in
+      let q = step-simulates setup n call model (finalState setup ring calls memory) (at-end setup ring A calls memory) in
+      let same = calls-simulate setup n later (first .after) (performCall call (finalState setup ring calls memory) .after) (q .1) .0 in
       let among = of-model setup n .in-time calls later memory call ticket (sym (q .0) ∙ a) (rw same at h) in
       let t = named 8 (among .batch) (all-named (batchSemantics setup) setup n later (first .after)) (among .soon) in
       rw same (of-client (among .batch) client ticket _ (own (among .batch) (among .own)) (among .numbered) t)

@@ -1,17 +1,17 @@
 -- The promises hold.
 pub mod Confined
-pub mod OfModel
+pub mod ModelProperties
 pub mod Cases
 pub mod Demand1
 pub mod Standing
 pub mod Demand2
-pub mod Seen
-pub mod Related
-pub mod Tables
-pub mod Steps
+pub mod Abstraction
+pub mod SimulationRelation
+pub mod RefusalsAgree
+pub mod SimulationSteps
 pub mod Pieces
 pub mod Runs
-pub mod Follows
+pub mod Simulation
 pub mod InTime
 pub mod Cutting
 pub mod Faulted
@@ -20,4 +20,4 @@ pub mod Freed
 pub mod ClosedPlaces
 pub mod Queue
 pub mod Order
-pub mod Twelve
+pub mod WorkedExamples

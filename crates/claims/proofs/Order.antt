@@ -13,7 +13,7 @@ use Rattle.claims.specs.ModelProperties.{batchSemantics}
 use Rattle.claims.specs.Engine.{SetUpAccepted}
 use Rattle.claims.specs.Order.{SameOutcome, Promise}
 use Rattle.claims.proofs.Confined.{confined}
-use Rattle.claims.proofs.Follows.{like-model}
+use Rattle.claims.proofs.Simulation.{like-model}
 
 module _ (setup : Setup) (ring : List ℕ) (A : SetUpAccepted setup) where
   -- what is the same of the model is the same of the engine

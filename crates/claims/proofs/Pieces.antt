@@ -15,7 +15,7 @@ use Rattle.ring.proofs.Copied.{length-copied, segment-copied}
 use Rattle.record.specs.declared.Setup.{Setup as Numbers}
 use Rattle.record.specs.declared.Batch.{Batch}
 use Rattle.record.specs.declared.Staged.{Staged}
-use Rattle.record.specs.declared.Record.{Record}
+use Rattle.record.specs.declared.EngineRecord.{EngineRecord}
 use Rattle.record.specs.Slots.{totalLength}
 use Rattle.record.specs.Staged.{noStaged, missingBytes}
 use Rattle.record.specs.Queue.{readyBytes, writeOffset, waiting}
@@ -28,9 +28,9 @@ use Rattle.queue.specs.declared.Answer.the-variants.{Accepted, Missing}
 use Rattle.queue.specs.Calls.{newBatch, withBatch, withStaged, more, isLast, pieceOffset}
 use Rattle.queue.proofs.Refusals.{PieceAllowed, piece-allowed}
 use Rattle.queue.proofs.Calls.{more-record}
-use Rattle.queue.proofs.Kept.{few-taken, staged-sized}
+use Rattle.queue.proofs.Validity.{few-taken, staged-sized}
 use Rattle.queue.proofs.Submitted.{Addable, staged-addable, added-sized, added-valid, added-held}
-use Rattle.queue.proofs.Stays.{after-piece}
+use Rattle.queue.proofs.Preservation.{after-piece}
 use Rattle.model.specs.Calls.{Setup, piece, accepted, missing}
 use Rattle.model.specs.State.{Staging, staging}
 use Rattle.model.specs.Model.{Step, plain, enqueue, pieceStep, effect, withStaged as withStagedM}
@@ -38,21 +38,21 @@ use Rattle.claims.specs.ModelProperties.{batchSemantics}
 use Rattle.claims.specs.Engine.{State, mkState, pieceTold}
 use Rattle.claims.specs.Queue.{bytesSoFar}
 use Rattle.claims.proofs.Cases.{number, done}
-use Rattle.claims.proofs.Seen.{seenPlaces, places-recounted, seenBatch, seenWaiting}
-use Rattle.claims.proofs.Related.{seen, seenStaging, none-seen, some-seen, facts, staged-long, Sound, Related}
-use Rattle.claims.proofs.Steps.{Alike}
+use Rattle.claims.proofs.Abstraction.{seenPlaces, places-recounted, seenBatch, seenWaiting}
+use Rattle.claims.proofs.SimulationRelation.{abstraction, seenStaging, none-seen, some-seen, facts, staged-long, Sound, Related}
+use Rattle.claims.proofs.SimulationSteps.{Simulates}
 
 -- the last piece or another one, alike either way
-by-last : (setup : Setup) (n : ℕ) (b : Bool) (told told′ : Told) (engine engine′ : Record) (ring memory : List ℕ) (t t′ : Step) →
-    (b ≡ true → Alike setup n (record { answer = pieceTold told; after = mkState engine ring memory }) t) →
-    (b ≡ false → Alike setup n (record { answer = pieceTold told′; after = mkState engine′ ring memory }) t′) →
-    Alike setup n (record { answer = pieceTold (cond b told told′); after = mkState (cond b engine engine′) ring memory }) (cond b t t′)
+by-last : (setup : Setup) (n : ℕ) (b : Bool) (told told′ : Told) (engine engine′ : EngineRecord) (ring memory : List ℕ) (t t′ : Step) →
+    (b ≡ true → Simulates setup n (record { answer = pieceTold told; after = mkState engine ring memory }) t) →
+    (b ≡ false → Simulates setup n (record { answer = pieceTold told′; after = mkState engine′ ring memory }) t′) →
+    Simulates setup n (record { answer = pieceTold (cond b told told′); after = mkState (cond b engine engine′) ring memory }) (cond b t t′)
 by-last setup n true told told′ engine engine′ ring memory t t′ h k = h refl
 by-last setup n false told told′ engine engine′ ring memory t t′ h k = k refl
 
 module _ (setup : Setup) (n : ℕ) (s : State) (S : Sound setup n s) (count : ℕ) (next : s .engine .next ≡ count % 4294967296)
     (client : ℕ) (bytes : List ℕ) (z : number (piece client bytes) s ≡ 0) where
-  abbrev pub e : Record
+  abbrev pub e : EngineRecord
   e = s .engine
 
   abbrev pub g : Staged
@@ -116,7 +116,7 @@ module _ (setup : Setup) (n : ℕ) (s : State) (S : Sound setup n s) (count : �
     pub addable : Addable e (g .slot) (g .client) (length all)
     addable = subst (λ (t : ℕ). Addable e (g .slot) (g .client) t) (sym whole) (staged-addable e client (may .own))
 
-    abbrev ready : Record
+    abbrev ready : EngineRecord
     ready = withBatch e (g .slot) (newBatch e (g .client) (length all))
 
     last-none : ready .staged ≡ noStaged
@@ -140,31 +140,31 @@ module _ (setup : Setup) (n : ℕ) (s : State) (S : Sound setup n s) (count : �
     unfolding withBatch
     last-next = rw next (omega arith)
 
-    last-related : Related setup n (enqueue (seen count s) (g .client) all .after) (mkState ready filled (s .memory))
+    last-related : Related setup n (enqueue (abstraction count s) (g .client) all .after) (mkState ready filled (s .memory))
     last-related = record {
       sound = last-sound;
       next = last-next;
       is = rw (last-places, added-held seenBatch e (S .sized) (s .ring) (may .ring) (g .slot) (g .client) all addable, none-seen filled ready last-none, next);
     }
 
-    last-done : Alike setup n
+    last-done : Simulates setup n
         (record { answer = accepted (e .next); after = mkState (withBatch e (g .slot) (newBatch e (g .client) (g .total))) (copiedIn (s .ring) (pieceOffset e) bytes) (s .memory) })
-        (enqueue (seen count s) (g .client) all)
+        (enqueue (abstraction count s) (g .client) all)
     last-done = (
       ap accepted next,
-      subst (λ (r : List ℕ). Related setup n (enqueue (seen count s) (g .client) all .after) (mkState (withBatch e (g .slot) (newBatch e (g .client) (g .total))) r (s .memory))) (sym copied)
-          (subst (λ (t : ℕ). Related setup n (enqueue (seen count s) (g .client) all .after) (mkState (withBatch e (g .slot) (newBatch e (g .client) t)) filled (s .memory))) whole last-related),
+      subst (λ (r : List ℕ). Related setup n (enqueue (abstraction count s) (g .client) all .after) (mkState (withBatch e (g .slot) (newBatch e (g .client) (g .total))) r (s .memory))) (sym copied)
+          (subst (λ (t : ℕ). Related setup n (enqueue (abstraction count s) (g .client) all .after) (mkState (withBatch e (g .slot) (newBatch e (g .client) t)) filled (s .memory))) whole last-related),
     )
 
   -- ---- another
 
   module _ (other : isLast g (length bytes) ≡ false) where
-    abbrev on : Record
+    abbrev on : EngineRecord
     on = withStaged e (more g (length bytes))
 
     on-valid : valid on ≡ true
     on-valid =
-        subst (λ (r : Record). valid r ≡ true) (sym (more-record e (length bytes) (eqb-false (g .received + length bytes) (g .total) other)))
+        subst (λ (r : EngineRecord). valid r ≡ true) (sym (more-record e (length bytes) (eqb-false (g .received + length bytes) (g .total) other)))
         (after-piece e (S .sized) (S .ok) (length (s .ring)) client (length bytes) may .0)
 
     on-sound : Sound setup n (mkState on filled (s .memory))
@@ -182,26 +182,26 @@ module _ (setup : Setup) (n : ℕ) (s : State) (S : Sound setup n s) (count : �
     on-seen =
         some-seen filled on (may .own .some) ∙ ap (staging (g .client) (g .total)) come
 
-    on-related : Related setup n (withStagedM (seen count s) (staging (g .client) (g .total) all)) (mkState on filled (s .memory))
+    on-related : Related setup n (withStagedM (abstraction count s) (staging (g .client) (g .total) all)) (mkState on filled (s .memory))
     unfolding withStaged
     on-related = record { sound = on-sound; next = next; is = rw (on-seen, kept seenBatch) }
 
-    on-done : Alike setup n
+    on-done : Simulates setup n
         (record { answer = missing (missingBytes (more g (length bytes))); after = mkState on (copiedIn (s .ring) (pieceOffset e) bytes) (s .memory) })
-        (plain (missing (g .total - length all)) (withStagedM (seen count s) (staging (g .client) (g .total) all)))
+        (plain (missing (g .total - length all)) (withStagedM (abstraction count s) (staging (g .client) (g .total) all)))
     on-done = (
       ap (λ (k : ℕ). missing (g .total - k)) (sym long-all),
-      subst (λ (r : List ℕ). Related setup n (withStagedM (seen count s) (staging (g .client) (g .total) all)) (mkState on r (s .memory))) (sym copied) on-related,
+      subst (λ (r : List ℕ). Related setup n (withStagedM (abstraction count s) (staging (g .client) (g .total) all)) (mkState on r (s .memory))) (sym copied) on-related,
     )
 
   -- ---- either
 
-  pub piece-done : Alike setup n (done (piece client bytes) s) (effect (batchSemantics setup) setup n (piece client bytes) (seen count s))
+  pub piece-done : Simulates setup n (done (piece client bytes) s) (effect (batchSemantics setup) setup n (piece client bytes) (abstraction count s))
   unfolding effect
   piece-done =
-      let last : Step = enqueue (seen count s) (g .client) all in
-      let other : Step = plain (missing (g .total - length all)) (withStagedM (seen count s) (staging (g .client) (g .total) all)) in
-      subst (λ (x : Staging). Alike setup n (done (piece client bytes) s) (pieceStep (seen count s) x bytes)) (sym (some-seen (s .ring) e (may .own .some)))
-      (subst (λ (k : ℕ). Alike setup n (done (piece client bytes) s) (cond (eqb k (g .total)) last other)) (sym long-all)
+      let last : Step = enqueue (abstraction count s) (g .client) all in
+      let other : Step = plain (missing (g .total - length all)) (withStagedM (abstraction count s) (staging (g .client) (g .total) all)) in
+      subst (λ (x : Staging). Simulates setup n (done (piece client bytes) s) (pieceStep (abstraction count s) x bytes)) (sym (some-seen (s .ring) e (may .own .some)))
+      (subst (λ (k : ℕ). Simulates setup n (done (piece client bytes) s) (cond (eqb k (g .total)) last other)) (sym long-all)
       (by-last setup n (isLast g (length bytes)) (Accepted (e .next)) (Missing (missingBytes (more g (length bytes))))
       (withBatch e (g .slot) (newBatch e (g .client) (g .total))) (withStaged e (more g (length bytes))) (copiedIn (s .ring) (pieceOffset e) bytes) (s .memory) last other last-done on-done))

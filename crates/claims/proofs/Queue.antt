@@ -19,10 +19,10 @@ use Rattle.record.proofs.Rules.{valid-facts, write-newest, write-first, free-ro
 use Rattle.queue.specs.Refusals.{firstRefusal}
 use Rattle.queue.specs.Calls.{newBatch, withBatch, withStaged, isLast, withClient, withoutClient}
 use Rattle.queue.proofs.Refusals.{open-allowed, submit-allowed, close-allowed}
-use Rattle.queue.proofs.Kept.{few-taken, close-waiting}
+use Rattle.queue.proofs.Validity.{few-taken, close-waiting}
 use Rattle.queue.proofs.Submitted.{submit-addable, staged-addable, added-waiting, added-held}
 use Rattle.engine.proofs.Refusals.{run-allowed}
-use Rattle.engine.proofs.Stays.{run-waiting, run-kept, oldest-at, oldest-words}
+use Rattle.engine.proofs.Preservation.{run-waiting, run-kept, oldest-at, oldest-words}
 use Rattle.model.specs.Windows.{Window, window}
 use Rattle.model.specs.Calls.{Setup, Call, opens, submit, run, begin, piece, cancel, close}
 use Rattle.model.proofs.Locality.{zero-local, zero-in}
@@ -31,10 +31,10 @@ use Rattle.claims.specs.Demand1.{refusalTableOf}
 use Rattle.claims.specs.Demand3.{finalState}
 use Rattle.claims.specs.Queue.{bytesSoFar, contents, Submitted, Begun, Continued, Finished, Cancelled, Taken, SameQueue, Opened, Closed, Queue, Promise}
 use Rattle.claims.proofs.Cases.{given, done, either, by-number}
-use Rattle.claims.proofs.Related.{Sound, facts}
+use Rattle.claims.proofs.SimulationRelation.{Sound, facts}
 use Rattle.claims.proofs.Pieces.{may, copied, filled, kept, come, whole, addable}
 use Rattle.claims.proofs.Runs.{run-offset}
-use Rattle.claims.proofs.Follows.{at-end}
+use Rattle.claims.proofs.Simulation.{at-end}
 use Rattle.claims.proofs.Freed.{window-freed}
 
 -- a batch's bytes alone

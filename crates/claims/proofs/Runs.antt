@@ -12,14 +12,14 @@ use Rattle.register.specs.Bank.{resetBank}
 use Rattle.rules.specs.declared.task.Bounds.{Bounds}
 use Rattle.batch.specs.Batch.{decodeBatch, verdictOf}
 use Rattle.record.specs.declared.Setup.{Setup as Numbers}
-use Rattle.record.specs.declared.Record.{Record}
+use Rattle.record.specs.declared.EngineRecord.{EngineRecord}
 use Rattle.record.specs.Slots.{sumOver, totalLength}
 use Rattle.record.specs.Queue.{readyBytes, writeOffset, waiting}
 use Rattle.record.proofs.Rules.{valid-facts, sum-waiting, ready-within}
-use Rattle.queue.proofs.Kept.{few-taken}
+use Rattle.queue.proofs.Validity.{few-taken}
 use Rattle.engine.specs.Run.{oldest, boundsOfClient, oldestWords, withoutOldest}
 use Rattle.engine.proofs.Refusals.{RunAllowed, run-allowed}
-use Rattle.engine.proofs.Stays.{run-sized, run-valid, run-kept, run-waiting, oldest-owner, oldest-words, run-held}
+use Rattle.engine.proofs.Preservation.{run-sized, run-valid, run-kept, run-waiting, oldest-owner, oldest-words, run-held}
 use Rattle.model.specs.Calls.{Setup, run, Answer, completed}
 use Rattle.model.specs.State.{Batch, windowOf}
 use Rattle.model.specs.Model.{runStep, effect}
@@ -27,16 +27,16 @@ use Rattle.claims.specs.BatchSemantics.{boundsOf, completionStatusOf}
 use Rattle.claims.specs.ModelProperties.{batchSemantics}
 use Rattle.claims.specs.Engine.{State}
 use Rattle.claims.proofs.Cases.{number, done}
-use Rattle.claims.proofs.Seen.{seenPlaces, places-recounted, seenBatch, seenWaiting}
-use Rattle.claims.proofs.Related.{seen, seenStaging, Sound, window-at}
-use Rattle.claims.proofs.Steps.{Alike}
+use Rattle.claims.proofs.Abstraction.{seenPlaces, places-recounted, seenBatch, seenWaiting}
+use Rattle.claims.proofs.SimulationRelation.{abstraction, seenStaging, Sound, window-at}
+use Rattle.claims.proofs.SimulationSteps.{Simulates}
 
 module _ (setup : Setup) (n : ℕ) (s : State) (S : Sound setup n s) (count : ℕ) (next : s .engine .next ≡ count % 4294967296) (z : number run s ≡ 0) where
   allowed : RunAllowed (s .engine) (length (s .ring)) (length (s .memory))
   allowed = run-allowed (s .engine) (length (s .ring)) (length (s .memory)) z
 
   -- the client's window and common
-  bounds : boundsOfClient (s .engine) (oldest (s .engine) .client) ≡ boundsOf (windowOf (seen count s) (oldest (s .engine) .client)) (setup .common)
+  bounds : boundsOfClient (s .engine) (oldest (s .engine) .client) ≡ boundsOf (windowOf (abstraction count s) (oldest (s .engine) .client)) (setup .common)
   bounds = rw (window-at setup n s S count (oldest (s .engine) .client) (oldest-owner (s .engine) (S .sized) (length (s .ring)) (length (s .memory)) allowed), S .numbers)
 
   -- the reset rule
@@ -74,9 +74,9 @@ module _ (setup : Setup) (n : ℕ) (s : State) (S : Sound setup n s) (count : �
   pub run-offset : writeOffset (withoutOldest (s .engine)) ≡ writeOffset (s .engine)
   unfolding withoutOldest sumOver
   run-offset =
-      let e : Record = s .engine in
+      let e : EngineRecord = s .engine in
       let v = valid-facts e (S .ok) in
-      let after : Record = withoutOldest e in
+      let after : EngineRecord = withoutOldest e in
       let rest : readyBytes after ≡ totalLength (waiting after) =
       sum-waiting after (valid-facts after (run-valid e (S .sized) (length (s .ring)) (length (s .memory)) allowed)) (few-taken after (run-sized e (S .sized))) (λ b. b .length)
       in
@@ -99,7 +99,7 @@ module _ (setup : Setup) (n : ℕ) (s : State) (S : Sound setup n s) (count : �
   abbrev told : Bounds → ResetRule → List ℕ → Answer
   told b r ws = completed (oldest (s .engine) .client) (oldest (s .engine) .ticket) (completionStatusOf (verdictOf (decodeBatch b (resetBank r) ws)))
 
-  run-like : Alike setup n (done run s) (runStep (batchSemantics setup) (setup .common) (seen count s) (first ∷ rest))
+  run-like : Simulates setup n (done run s) (runStep (batchSemantics setup) (setup .common) (abstraction count s) (first ∷ rest))
   run-like = (
     ap (λ (r : ResetRule). told (boundsOfClient (s .engine) (oldest (s .engine) .client)) r (oldestWords (s .engine) (s .ring))) rule
         ∙ ap₂ (λ (b : Bounds) (ws : List ℕ). told b (setup .reset) ws) bounds read,
@@ -110,6 +110,6 @@ module _ (setup : Setup) (n : ℕ) (s : State) (S : Sound setup n s) (count : �
     },
   )
 
-  pub run-done : Alike setup n (done run s) (effect (batchSemantics setup) setup n run (seen count s))
+  pub run-done : Simulates setup n (done run s) (effect (batchSemantics setup) setup n run (abstraction count s))
   unfolding effect
   run-done = rw waits run-like

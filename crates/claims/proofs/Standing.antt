@@ -15,14 +15,14 @@ use Rattle.word.proofs.Tests.{or-false}
 use Rattle.register.specs.Bank.{writeRegister}
 use Rattle.register.specs.Task.{taskOf}
 use Rattle.register.specs.declared.bank.Bank.{Bank}
-use Rattle.register.specs.declared.bank.Write.{Write}
-use Rattle.register.specs.declared.bank.Write.the-variants.{Bank as Taken, Refused}
+use Rattle.register.specs.declared.bank.WriteResult.{WriteResult}
+use Rattle.register.specs.declared.bank.WriteResult.the-variants.{Written, Refused}
 use Rattle.register.specs.declared.task.Task.{Task}
 use Rattle.rules.specs.declared.fault.Fault.{Fault}
 use Rattle.rules.specs.declared.fault.Fault.the-variants.{ReservedBits, GroupLength}
 use Rattle.rules.specs.declared.task.Bounds.{Bounds}
-use Rattle.rules.specs.declared.task.Check.{Check}
-use Rattle.rules.specs.declared.task.Check.the-variants.{Valid, Invalid}
+use Rattle.rules.specs.declared.task.TaskCheck.{TaskCheck}
+use Rattle.rules.specs.declared.task.TaskCheck.the-variants.{Valid, Invalid}
 use Rattle.rules.specs.Rules.{checkTask}
 use Rattle.batch.specs.declared.verdict.Verdict.the-variants.{Faulty}
 use Rattle.batch.specs.Batch.{DecodedBatch, BatchEnd, finished, faulty, stopWith, consTask, DecoderState, start, inside, reservedBits, badGroupLength, decodeHeader, afterWrite, afterTaskCheck, groupOf, decodeFrom, decodeBatch, verdictOf}
@@ -49,12 +49,12 @@ abbrev First : (head : ℕ) → DecodedBatch → Type 0
 First head r = (r .tasks ≡ []) × Above head (r .ending)
 
 -- a group that is whole among fewer words
-whole : (count follow less : ℕ) → badGroupLength count follow ≡ false → count ≤ less → badGroupLength count less ≡ false
-whole zero follow less e h = absurd (eqb-false 0 0 (or-false (eqb 0 0) (ltb follow 0) e .0) refl)
-whole (suc n) follow less e h = rw (eqb·suc-zero n, le-ltb less (suc n) h)
+whole : (count calls-simulate less : ℕ) → badGroupLength count calls-simulate ≡ false → count ≤ less → badGroupLength count less ≡ false
+whole zero calls-simulate less e h = absurd (eqb-false 0 0 (or-false (eqb 0 0) (ltb calls-simulate 0) e .0) refl)
+whole (suc n) calls-simulate less e h = rw (eqb·suc-zero n, le-ltb less (suc n) h)
 
-goes-on : (b : Bank) (k h follow : ℕ) (go : DecoderState → DecodedBatch) → reservedBits h ≡ false → badGroupLength (field 15 2 h) follow ≡ false → decodeHeader b k h follow go ≡ go (groupOf k h)
-goes-on b k h follow go e l = simp (e, l)
+goes-on : (b : Bank) (k h calls-simulate : ℕ) (go : DecoderState → DecodedBatch) → reservedBits h ≡ false → badGroupLength (field 15 2 h) calls-simulate ≡ false → decodeHeader b k h calls-simulate go ≡ go (groupOf k h)
+goes-on b k h calls-simulate go e l = simp (e, l)
 
 module _ (bounds : Bounds) where
   -- a reading of the first words alone, `least` of them at least: the same tasks, and then the end, no later than the fault
@@ -137,11 +137,11 @@ module _ (bounds : Bounds) where
   unfolding decodeFrom
   word-cut b k n offset ends head w ws on lower = by (writeRegister b offset w) refl
     where
-      by : (x : Write) → writeRegister b offset w ≡ x
+      by : (x : WriteResult) → writeRegister b offset w ≡ x
           → First head (afterWrite b k x (onWith bounds k (inside n (offset + 4) ends head) ws))
           ⊎ Cut b k (inside (suc n) offset ends head) (suc n) (w ∷ ws) (afterWrite b k x (onWith bounds k (inside n (offset + 4) ends head) ws))
       by (Refused f) e = inl (refl, omega arith)
-      by (Taken next) e =
+      by (Written next) e =
           let r = decodeFrom bounds next (k + 1) (inside n (offset + 4) ends head) ws in
           ⊎-elim (λ (z : First head r). inl z)
           (λ (c : Cut next (k + 1) (inside n (offset + 4) ends head) n ws r). inr (record {
@@ -149,7 +149,7 @@ module _ (bounds : Bounds) where
             enough = omega (arith, c .enough);
             within = omega (arith, c .within);
             bank = c .bank;
-            reads = ap (λ (x : Write). afterWrite b k x (onWith bounds k (inside n (offset + 4) ends head) (take (c .count) ws))) e ∙ c .reads;
+            reads = ap (λ (x : WriteResult). afterWrite b k x (onWith bounds k (inside n (offset + 4) ends head) (take (c .count) ws))) e ∙ c .reads;
             low = above-less (k + suc (c .count)) (k + 1 + c .count) (r .ending) (omega arith) (c .low);
             rest = ap (λ (m : ℕ). decodeFrom bounds (c .bank) m start (drop (c .count) ws)) (next-word k (c .count)) ∙ c .rest;
           }))
@@ -168,7 +168,7 @@ module _ (bounds : Bounds) where
       after : DecodedBatch
       after = decodeFrom bounds b k start ws
 
-      by : (check : Check) → checkTask bounds (taskOf b) ≡ check → First head (afterTaskCheck check b head after) ⊎ Cut b k (inside zero offset true head) 0 ws (afterTaskCheck check b head after)
+      by : (check : TaskCheck) → checkTask bounds (taskOf b) ≡ check → First head (afterTaskCheck check b head after) ⊎ Cut b k (inside zero offset true head) 0 ws (afterTaskCheck check b head after)
       by Valid e = inr (record {
         count = c .count;
         enough = c .enough;
@@ -176,7 +176,7 @@ module _ (bounds : Bounds) where
         bank = c .bank;
         reads =
             ended b k offset head (take (c .count) ws)
-            ∙ ap (λ (check : Check). afterTaskCheck check b head (decodeFrom bounds b k start (take (c .count) ws))) e
+            ∙ ap (λ (check : TaskCheck). afterTaskCheck check b head (decodeFrom bounds b k start (take (c .count) ws))) e
             ∙ ap (consTask (taskOf b)) (c .reads);
         low = c .low;
         rest = c .rest;

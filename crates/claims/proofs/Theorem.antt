@@ -13,10 +13,10 @@ use Rattle.model.specs.Noninterference.{LowEquivalent}
 use Rattle.claims.specs.ModelProperties.{batchSemantics}
 use Rattle.claims.specs.Engine.{performCall, answersOf, memoriesOf, stateAfter, SetUpAccepted, initialState}
 use Rattle.claims.specs.Demand3.{Isolation, enteredState, leftState, Noninterference, Demand3Holds}
-use Rattle.claims.proofs.OfModel.{of-model}
+use Rattle.claims.proofs.ModelProperties.{of-model}
 use Rattle.claims.proofs.Demand1.{demand1}
-use Rattle.claims.proofs.Related.{Related}
-use Rattle.claims.proofs.Follows.{together, follow, remember, start, at-end, like-model}
+use Rattle.claims.proofs.SimulationRelation.{Related}
+use Rattle.claims.proofs.Simulation.{step-simulates, calls-simulate, remember, start, at-end, like-model}
 use Rattle.claims.proofs.InTime.{in-time}
 use Rattle.claims.proofs.Cutting.{cutting}
 use Rattle.claims.proofs.Faulted.{stands}
@@ -46,36 +46,36 @@ module _ (setup : Setup) (A : SetUpAccepted setup) where
     way = batchSemantics setup
 
     entered-related : Related setup n (entered way setup n (initialModel memory) before w) (enteredState setup ring before w memory)
-    entered-related = together setup n (opens w) (modelAfterAll way setup n before memory) (stateAfter before (initialState setup ring memory)) (at-end setup ring A before memory) .1
+    entered-related = step-simulates setup n (opens w) (modelAfterAll way setup n before memory) (stateAfter before (initialState setup ring memory)) (at-end setup ring A before memory) .1
 
     left-related : Related setup n (after way setup n during (entered way setup n (initialModel memory) before w)) (leftState setup ring before w during memory)
-    left-related = follow setup n during _ _ entered-related .1
+    left-related = calls-simulate setup n during _ _ entered-related .1
 
-    told-before : answersOf (before ++ opens w ∷ []) (initialState setup ring memory) ≡ answers way setup n (before ++ opens w ∷ []) (initialModel memory)
-    told-before = like-model setup ring A (before ++ opens w ∷ []) memory .every-answer
+    answers-before : answersOf (before ++ opens w ∷ []) (initialState setup ring memory) ≡ answers way setup n (before ++ opens w ∷ []) (initialModel memory)
+    answers-before = like-model setup ring A (before ++ opens w ∷ []) memory .every-answer
 
-    told-during : answersOf during (enteredState setup ring before w memory) ≡ answers way setup n during (entered way setup n (initialModel memory) before w)
-    told-during = follow setup n during _ _ entered-related .0
+    answers-during : answersOf during (enteredState setup ring before w memory) ≡ answers way setup n during (entered way setup n (initialModel memory) before w)
+    answers-during = calls-simulate setup n during _ _ entered-related .0
 
     throughout : memoriesOf (before ++ opens w ∷ during) (initialState setup ring memory) ≡ memories way setup n (before ++ opens w ∷ during) (initialModel memory)
     throughout = remember setup n (before ++ opens w ∷ during) (initialModel memory) (initialState setup ring memory) (start setup ring A memory)
 
     closing-told : (later : List Call) → answersOf (close client ∷ later) (leftState setup ring before w during memory) ≡ answers way setup n (close client ∷ later) (after way setup n during (entered way setup n (initialModel memory) before w))
-    closing-told later = follow setup n (close client ∷ later) _ _ left-related .0
+    closing-told later = calls-simulate setup n (close client ∷ later) _ _ left-related .0
 
     closing-left : (later : List Call) → memoriesOf (close client ∷ later) (leftState setup ring before w during memory) ≡ memories way setup n (close client ∷ later) (after way setup n during (entered way setup n (initialModel memory) before w))
     closing-left later = remember setup n (close client ∷ later) _ _ left-related
 
     closing : performCall (close client) (leftState setup ring before w during memory) .answer ≡ step way setup n (close client) (after way setup n during (entered way setup n (initialModel memory) before w)) .answer
-    closing = together setup n (close client) _ _ left-related .0
+    closing = step-simulates setup n (close client) _ _ left-related .0
 
   noninterference : (client : ℕ) (ring ring′ : List ℕ) (before : List Call) (w : Window) (during during′ : List Call) (memory memory′ : List ℕ) → length ring ≡ length ring′ →
       LowEquivalent (batchSemantics setup) setup (length ring) client before w during during′ memory memory′ → Noninterference setup ring client ring′ before w during during′ memory memory′
   noninterference client ring ring′ before w during during′ memory memory′ long t =
       let q = of-model setup (length ring) .noninterference client before w during during′ memory memory′ t in
       record {
-        told-before = told-before ring client before w during memory ∙ q .told-before ∙ sym (rw (← long) at (told-before ring′ client before w during′ memory′));
-        told-during = rw (told-during ring client before w during memory, told-during ring′ client before w during′ memory′, ← long) (q .told-during);
+        answers-before = answers-before ring client before w during memory ∙ q .answers-before ∙ sym (rw (← long) at (answers-before ring′ client before w during′ memory′));
+        answers-during = rw (answers-during ring client before w during memory, answers-during ring′ client before w during′ memory′, ← long) (q .answers-during);
         throughout = rw (throughout ring client before w during memory, throughout ring′ client before w during′ memory′, ← long) (q .throughout);
         from-closing = λ later z.
             let c = q .from-closing later (sym (closing ring client before w during memory) ∙ z) in (

@@ -108,8 +108,8 @@ module _ (setup : Setup) (ring : List ℕ) where
   -- throughout", that is after every call; "and all of memory agrees from the stay's closing on", and so does every answer, whatever calls follow. Both
   -- start from the same set up, so they have the same reset rule (02, request 2: "Demand 3 compares runs with the same choice").
   pub record Noninterference (client : ℕ) (ring′ : List ℕ) (before : List Call) (w : Window) (during during′ : List Call) (memory memory′ : List ℕ) : Type 0 where
-    pub told-before : answersOf (before ++ opens w ∷ []) (initialState setup ring memory) ≡ answersOf (before ++ opens w ∷ []) (initialState setup ring′ memory′)
-    pub told-during : Pointwise (LowEqualAnswer client) (answersOf during (enteredState setup ring before w memory)) (answersOf during′ (enteredState setup ring′ before w memory′))
+    pub answers-before : answersOf (before ++ opens w ∷ []) (initialState setup ring memory) ≡ answersOf (before ++ opens w ∷ []) (initialState setup ring′ memory′)
+    pub answers-during : Pointwise (LowEqualAnswer client) (answersOf during (enteredState setup ring before w memory)) (answersOf during′ (enteredState setup ring′ before w memory′))
     pub throughout : Pointwise (AgreeOutside w)
         (memoriesOf (before ++ opens w ∷ during) (initialState setup ring memory))
         (memoriesOf (before ++ opens w ∷ during′) (initialState setup ring′ memory′))

@@ -4,13 +4,13 @@ use mathlib.Core.Path.{_≡_}
 use mathlib.Core.List.{List, [], _∷_}
 use Prim.Native.Nat.{ℕ, zero, suc}
 use lib.ListN.{length}
-use Rattle.record.specs.declared.Record.{Record}
+use Rattle.record.specs.declared.EngineRecord.{EngineRecord}
 use Rattle.queue.specs.declared.Answer.{Answer as Told}
 use Rattle.queue.specs.declared.Answer.the-variants.{Refused, Done, Opened, Accepted, Ready, Missing}
 use Rattle.queue.specs.declared.Reply.{Reply}
 use Rattle.queue.specs.Answers.{refusalNumberOf, valueOf}
 use Rattle.queue.specs.Calls.{setUpResult, openResult, submitResult, submitRing, beginResult, pieceResult, pieceRing, cancelResult, closeResult, pendingAnswer}
-use Rattle.engine.specs.declared.Ran.{Ran}
+use Rattle.engine.specs.declared.RunResult.{RunResult}
 use Rattle.engine.specs.Outcome.{CompletionValues, runRefusalOf as refusalOf, valuesOf}
 use Rattle.engine.specs.Run.{runResult, runMemory}
 use Rattle.engine.specs.Close.{closeMemory}
@@ -18,11 +18,11 @@ use Rattle.model.specs.Calls.{Setup, Call, opens, submit, run, pending, begin, 
 
 -- the engine record, and the ring and memory that are lent to every call
 pub record State : Type 0 where
-  pub engine : Record
+  pub engine : EngineRecord
   pub ring : List ℕ
   pub memory : List ℕ
 
-abbrev pub mkState : Record → (ring memory : List ℕ) → State
+abbrev pub mkState : EngineRecord → (ring memory : List ℕ) → State
 mkState engine ring memory = record { engine = engine; ring = ring; memory = memory }
 
 -- what a call answered, and what it left
@@ -59,7 +59,7 @@ performCall (submit client bytes) s =
       after = mkState (r .engine) (submitRing (s .engine) (s .ring) client bytes) (s .memory);
     }
 performCall run s =
-    let r : Ran = runResult (s .engine) (s .ring) (s .memory) in
+    let r : RunResult = runResult (s .engine) (s .ring) (s .memory) in
     record {
       answer = answerOrRefusal (refusalOf (r .outcome)) (completion (valuesOf (r .outcome)));
       after = mkState (r .engine) (s .ring) (runMemory (s .engine) (s .ring) (s .memory));

@@ -11,7 +11,7 @@ use Rattle.word.specs.Word.{words}
 use Rattle.ring.specs.Segment.{segment, wrapOffset}
 use Rattle.record.specs.declared.Batch.{Batch}
 use Rattle.record.specs.declared.Client.{Client}
-use Rattle.record.specs.declared.Record.{Record}
+use Rattle.record.specs.declared.EngineRecord.{EngineRecord}
 use Rattle.record.specs.Slots.{totalLength}
 use Rattle.record.specs.Staged.{noStaged}
 use Rattle.record.specs.Clients.{clientAt, isOpen, lowestClosed}
@@ -120,7 +120,7 @@ SameButClosed (c ∷ cs) [] = ⊥
 SameButClosed (c ∷ cs) (d ∷ ds) = ((c ≡ d) ⊎ ((c .opened ≡ false) × (d .opened ≡ false))) × SameButClosed cs ds
 
 -- the same record, but for its clients
-abbrev pub withClients : Record → List Client → Record
+abbrev pub withClients : EngineRecord → List Client → EngineRecord
 withClients engine clients = record {
   setup = engine .setup;
   clients = clients;

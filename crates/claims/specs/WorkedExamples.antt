@@ -1,5 +1,5 @@
 -- The twelve (01, "Twelve for the table"): what the definitions that the contracts cite make of the paper's numbers, beside what the paper says.
--- proofs/Twelve.antt computes it.
+-- proofs/WorkedExamples.antt computes it.
 use mathlib.Core.Path.{_≡_}
 use mathlib.Core.List.{List, [], _∷_, _++_}
 use mathlib.Core.Bool.{Bool, true, false, cond}
@@ -11,7 +11,7 @@ use Rattle.ring.specs.Segment.{segment}
 use Rattle.pixel.specs.declared.colour.Colour.{Colour}
 use Rattle.pixel.specs.declared.format.Format.the-variants.{Argb8888, Rgb565}
 use Rattle.pixel.specs.declared.blend.AlphaMode.the-variants.{Mixed}
-use Rattle.pixel.specs.declared.blend.RuleName.the-variants.{None, SrcOver, Add}
+use Rattle.pixel.specs.declared.blend.BlendMode.the-variants.{None, SrcOver, Add}
 use Rattle.pixel.specs.Formats.{layoutOf}
 use Rattle.pixel.specs.Colours.{unpacked, packed}
 use Rattle.pixel.specs.Alpha.{effectiveAlpha}

@@ -9,7 +9,7 @@ use queue::Answer;
 use queue::Reply;
 use range::Range;
 use record::Client;
-use record::Record;
+use record::EngineRecord;
 use record::Setup;
 use record::Slot;
 use record::SlotState;
@@ -32,14 +32,14 @@ fn no_client() -> Client
 }
 
 // A record of no client and no batch.
-fn fresh_record(setup: Setup) -> Record
+fn fresh_record(setup: Setup) -> EngineRecord
     ensures { λ r. ⌜ r ≡ initialRecord setup ⌝ }
 {
     let clients = [no_client(); 4];
     let slots = [Slot {
         state: SlotState::Free,
     }; 8];
-    Record {
+    EngineRecord {
         setup: setup,
         clients: clients,
         slots: slots,
@@ -85,7 +85,7 @@ pub fn set_up(ring: usize, memory: usize, common: usize, reset: ResetRule) -> Re
     }
 }
 
-fn open_refusal(engine: Record, w: Window) -> u32
+fn open_refusal(engine: EngineRecord, w: Window) -> u32
     ensures { λ r. ⌜ r ≡ firstRefusal (openTable engine w) ⌝ }
 {
     if !record::is_valid(engine) {
@@ -99,7 +99,7 @@ fn open_refusal(engine: Record, w: Window) -> u32
 }
 
 // The record with a client more, whose id is the lowest that is free.
-fn with_client(engine: Record, id: usize, w: Window) -> Record
+fn with_client(engine: EngineRecord, id: usize, w: Window) -> EngineRecord
     requires { ⌜ (id ≡ lowestClosed (engine .clients)) × (id < 4) ⌝ }
     ensures { λ r. ⌜ r ≡ withClient engine w ⌝ }
 {
@@ -115,7 +115,7 @@ fn with_client(engine: Record, id: usize, w: Window) -> Record
 }
 
 // Opens a client with a window.
-pub fn open(engine: Record, start: u32, length: u32) -> Reply
+pub fn open(engine: EngineRecord, start: u32, length: u32) -> Reply
     ensures { λ r. ⌜ r ≡ openResult engine (record { start = start; length = length }) ⌝ }
 {
     let w = Window {
@@ -138,7 +138,7 @@ pub fn open(engine: Record, start: u32, length: u32) -> Reply
 }
 
 // What close is refused with, 0 if it is not; `given` is the length of the memory that is lent.
-pub fn close_refusal(engine: Record, given: usize, client: u32) -> u32
+pub fn close_refusal(engine: EngineRecord, given: usize, client: u32) -> u32
     ensures { λ r. ⌜ r ≡ firstRefusal (closeTable engine given client) ⌝ }
 {
     let setup = engine.setup;
@@ -153,7 +153,7 @@ pub fn close_refusal(engine: Record, given: usize, client: u32) -> u32
 }
 
 // The record without a client: its id and its window are free.
-pub fn without_client(engine: Record, client: u32) -> Record
+pub fn without_client(engine: EngineRecord, client: u32) -> EngineRecord
     requires { ⌜ client < 4 ⌝ }
     ensures { λ r. ⌜ r ≡ withoutClient engine client ⌝ }
 {
@@ -185,7 +185,7 @@ fn pending_at(clients: [Client; 4], client: u32) -> u32
     own.pending
 }
 
-fn pending_refusal(engine: Record, client: u32) -> u32
+fn pending_refusal(engine: EngineRecord, client: u32) -> u32
     ensures { λ r. ⌜ r ≡ firstRefusal (pendingTable engine client) ⌝ }
 {
     let no5 = queue::first_refusal(!record::is_open(engine, client), 5, 0);
@@ -193,7 +193,7 @@ fn pending_refusal(engine: Record, client: u32) -> u32
 }
 
 // How many batches of a client are ready.
-pub fn pending(engine: Record, client: u32) -> Answer
+pub fn pending(engine: EngineRecord, client: u32) -> Answer
     ensures { λ r. ⌜ r ≡ pendingAnswer engine client ⌝ }
 {
     let number = pending_refusal(engine, client);

@@ -5,10 +5,10 @@ ghost use Rattle.queue.specs.Calls.{closeResult};
 ghost use Rattle.engine.specs.Close.{closeMemory};
 use queue::Answer;
 use queue::Reply;
-use record::Record;
+use record::EngineRecord;
 
 // Closes a client: its window is filled with zeros, and its id and window are free. Either engine closes so: nothing is drawn.
-pub fn close(engine: Record, memory: &mut [u8], client: u32) -> Reply
+pub fn close(engine: EngineRecord, memory: &mut [u8], client: u32) -> Reply
     ensures { λ r. ⌜ (r ≡ closeResult engine (length (now (memory .entry))) client)
         × (now (memory .exit) ≡ closeMemory engine (now (memory .entry)) client) ⌝ }
 {

@@ -9,8 +9,8 @@ use native.Mathlib.Nat.{eq-zero-or-pos}
 use lib.ListN.{getD}
 use Rattle.pixel.specs.Blending.{factorValue, blendedChannel}
 use Rattle.pixel.specs.Rules.{blendModeFactors}
-use Rattle.pixel.specs.declared.blend.Rule.{Rule}
-use Rattle.pixel.specs.declared.blend.RuleName.the-variants.{SrcOver, Add}
+use Rattle.pixel.specs.declared.blend.BlendFactors.{BlendFactors}
+use Rattle.pixel.specs.declared.blend.BlendMode.the-variants.{SrcOver, Add}
 use Rattle.lanes.specs.Lanes.{two, Done}
 use Rattle.lanes.proofs.Laws.{under-or, two-low, two-high, two-small}
 use Rattle.lanes.proofs.Passes.{same-done}
@@ -21,14 +21,14 @@ use Rattle.plan.proofs.Blends.{Bytes}
 use Rattle.channels.proofs.Channels.{duo-low, duo-high, copied, stayed, cleared}
 
 -- lane k of the rows s and d from o on, blended
-unfoldable pub twoAt : Rule → List ℕ → List ℕ → ℕ → ℕ → ℕ
+unfoldable pub twoAt : BlendFactors → List ℕ → List ℕ → ℕ → ℕ → ℕ
 twoAt rule s d o k =
     duo
     (two s (o + k * 2)) (factorValue (rule .source) (two s (o + (k / 2 * 2 + 1) * 2) / 256) (two d (o + (k / 2 * 2 + 1) * 2) / 256))
     (two d (o + k * 2)) (factorValue (rule .destination) (two s (o + (k / 2 * 2 + 1) * 2) / 256) (two d (o + (k / 2 * 2 + 1) * 2) / 256))
 
 module _ (s d a b : List ℕ) (o : ℕ) (is-b : (k : ℕ) → k < 8 → getD b k 0 ≡ two d (o + k * 2)) where
-  pub blend-two : (rule : Rule) → ((k : ℕ) → k < 8 → getD a k 0 ≡ two s (o + k * 2)) → (k : ℕ) → k < 8 → laneAt rule a b k ≡ twoAt rule s d o k
+  pub blend-two : (rule : BlendFactors) → ((k : ℕ) → k < 8 → getD a k 0 ≡ two s (o + k * 2)) → (k : ℕ) → k < 8 → laneAt rule a b k ≡ twoAt rule s d o k
   unfolding laneAt twoAt
   blend-two rule is-a k l =
       let t : k / 2 * 2 + 1 < 8 = omega arith in
@@ -45,7 +45,7 @@ module _ (s d a b : List ℕ) (o : ℕ) (is-b : (k : ℕ) → k < 8 → getD b k
       cc (is-b k l)
 
 -- the lanes blended and stored
-module _ (rule : Rule) (s d r e : List ℕ) (o : ℕ) (four : o % 4 ≡ 0) (in-s : Bytes s) (in-d : Bytes d)
+module _ (rule : BlendFactors) (s d r e : List ℕ) (o : ℕ) (four : o % 4 ≡ 0) (in-s : Bytes s) (in-d : Bytes d)
     (is-r : (k : ℕ) → k < 8 → getD r k 0 ≡ twoAt rule s d o k)
     (low : (k : ℕ) → k < 8 → getD e (o + k * 2) 0 ≡ getD r k 0 % 256)
     (high : (k : ℕ) → k < 8 → getD e (o + k * 2 + 1) 0 ≡ getD r k 0 / 256)
@@ -84,7 +84,7 @@ alphas-at v s o four all j h l =
 
 -- ---- four pixels whose alphas are all 255, or all 0
 
-module _ (rule : Rule) (s d e : List ℕ) (o : ℕ) (four : o % 4 ≡ 0) (in-s : Bytes s) (in-d : Bytes d) where
+module _ (rule : BlendFactors) (s d e : List ℕ) (o : ℕ) (four : o % 4 ≡ 0) (in-s : Bytes s) (in-d : Bytes d) where
   pub copy-done : ((y : ℕ) → (factorValue (rule .source) 255 y ≡ 255) × (factorValue (rule .destination) 255 y ≡ 0)) →
       alphasAre 255 s o ≡ true →
       Done (λ j. getD s j 0) d e o (o + 16) → Done (blendAt rule s d) d e o (o + 16)

@@ -3,7 +3,7 @@ ghost use mathlib.Core.Path.{_≡_};
 ghost use Prim.Native.Nat.{_+_, _%_, _≤_};
 ghost use lib.ListN.{length};
 ghost use Rattle.pixel.specs.Rules.{blendModeFactors};
-ghost use Rattle.pixel.specs.declared.blend.RuleName.the-variants.{SrcOver};
+ghost use Rattle.pixel.specs.declared.blend.BlendMode.the-variants.{SrcOver};
 ghost use Rattle.lanes.specs.Lanes.{Done};
 ghost use Rattle.plan.specs.Blend.{blendAt};
 ghost use Rattle.plan.specs.Plan.{Planned};

@@ -8,8 +8,8 @@ use lib.ListN.{getD, drop}
 use lib.Seq.{getD-drop}
 use Rattle.pixel.specs.Blending.{factorValue}
 use Rattle.pixel.specs.Rules.{blendModeFactors}
-use Rattle.pixel.specs.declared.blend.Rule.{Rule}
-use Rattle.pixel.specs.declared.blend.RuleName.the-variants.{SrcOver, Add}
+use Rattle.pixel.specs.declared.blend.BlendFactors.{BlendFactors}
+use Rattle.pixel.specs.declared.blend.BlendMode.the-variants.{SrcOver, Add}
 use Rattle.lanes.specs.Lanes.{two, Done}
 use Rattle.lanes.proofs.Laws.{copy-at}
 use Rattle.lanes.proofs.Passes.{same-done}
@@ -46,7 +46,7 @@ module _ (m r m′ : List ℕ) (to from : ℕ) (in-m : Bytes m)
   row-past : (j : ℕ) → 0 + 16 ≤ j → getD (drop to m′) j 0 ≡ getD (drop to m) j 0
   row-past j l = getD-drop to m′ j 0 ∙ (past (to + j) (omega arith) ∙ sym (getD-drop to m j 0))
 
-  four : (rule : Rule) → ((k : ℕ) → k < 8 → getD r k 0 ≡ twoAt rule (drop from m) (drop to m) 0 k) → Done (blendWithin rule m to from) m m′ to (to + 16)
+  four : (rule : BlendFactors) → ((k : ℕ) → k < 8 → getD r k 0 ≡ twoAt rule (drop from m) (drop to m) 0 k) → Done (blendWithin rule m to from) m m′ to (to + 16)
   four rule is-r =
       within-whole rule m m′ to from 16 under
       (four-done rule (drop from m) (drop to m) r (drop to m′) 0 refl (in-drop m from in-m) (in-drop m to in-m) is-r row-low row-high (λ j l. absurd (omega arith)) row-past)
@@ -63,7 +63,7 @@ module _ (m r m′ : List ℕ) (to from : ℕ) (in-m : Bytes m)
 
   -- the words of both rows blended: under any rule, and under SRC_OVER by the source's complement
   module _ (a b : List ℕ) (is-b : (k : ℕ) → k < 8 → getD b k 0 ≡ two m (to + k * 2)) where
-    pub four-blended : (rule : Rule) → ((k : ℕ) → k < 8 → getD a k 0 ≡ two m (from + k * 2)) → ((k : ℕ) → k < 8 → getD r k 0 ≡ laneAt rule a b k) →
+    pub four-blended : (rule : BlendFactors) → ((k : ℕ) → k < 8 → getD a k 0 ≡ two m (from + k * 2)) → ((k : ℕ) → k < 8 → getD r k 0 ≡ laneAt rule a b k) →
         Done (blendWithin rule m to from) m m′ to (to + 16)
     four-blended rule is-a is-r =
         four rule
@@ -79,7 +79,7 @@ module _ (m r m′ : List ℕ) (to from : ℕ) (in-m : Bytes m)
         (λ q h. is-a q h ∙ ap (λ (w : ℕ). 65535 - w) (two-drop m from q)) k l)
 
 -- whose alphas are all 255, or all 0
-module _ (rule : Rule) (m m′ : List ℕ) (to from : ℕ) (in-m : Bytes m) where
+module _ (rule : BlendFactors) (m m′ : List ℕ) (to from : ℕ) (in-m : Bytes m) where
   pub opaque-within : ((y : ℕ) → (factorValue (rule .source) 255 y ≡ 255) × (factorValue (rule .destination) 255 y ≡ 0)) →
       alphasAre 255 m from ≡ true →
       Done (movedByte m to from) m m′ to (to + 16) → Done (blendWithin rule m to from) m m′ to (to + 16)

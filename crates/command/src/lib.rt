@@ -9,8 +9,8 @@ ghost use Rattle.io.specs.Counts.{Counts};
 ghost use Rattle.ppm.specs.Words.{parseNumber, formatNamed};
 use libc::STDERR_FILENO;
 use libc::STDOUT_FILENO;
-use ppm::Named;
-use ppm::Number;
+use ppm::ParsedFormat;
+use ppm::ParsedNumber;
 
 // ---- arguments
 
@@ -35,22 +35,22 @@ pub fn complain(what: &[u8], why: &[u8]) -> Printed
 
 // The number that an argument's text spells; that it spells none is reported, with the argument's name. One that was too long for its buffer is an empty
 // text (`os::arg`), and so none.
-pub fn number_in(text: &[u8], name: &[u8]) -> Number
+pub fn number_in(text: &[u8], name: &[u8]) -> ParsedNumber
     ensures { λ r. ⌜ r ≡ parseNumber (now (text .entry)) ⌝ }
 {
     let number = ppm::number_of(text);
-    if let Number::Invalid = number {
+    if let ParsedNumber::Invalid = number {
         complain(name, b" is not a number from 0 to 4294967295\n");
     }
     number
 }
 
 // The format that an argument's text names; that it names none is reported.
-pub fn format_in(text: &[u8]) -> Named
+pub fn format_in(text: &[u8]) -> ParsedFormat
     ensures { λ r. ⌜ r ≡ formatNamed (now (text .entry)) ⌝ }
 {
     let format = ppm::format_named(text);
-    if let Named::Unknown = format {
+    if let ParsedFormat::Unknown = format {
         complain(b"FORMAT", b" is not argb8888, rgb888 or rgb565\n");
     }
     format

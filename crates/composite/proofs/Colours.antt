@@ -7,7 +7,7 @@ use native.Mathlib.Omega.{arith}
 use lib.ListN.{length, getD}
 use Rattle.pixel.specs.Alpha.{withAlpha}
 use Rattle.pixel.specs.declared.blend.AlphaMode.{AlphaMode}
-use Rattle.pixel.specs.declared.blend.Rule.{Rule}
+use Rattle.pixel.specs.declared.blend.BlendFactors.{BlendFactors}
 use Rattle.pixel.specs.declared.format.Format.the-variants.{Argb8888}
 use Rattle.register.specs.declared.task.Alpha.{Alpha}
 use Rattle.register.specs.declared.task.Blending.{Blending}
@@ -57,7 +57,7 @@ module _ (d e : List ℕ) (width : ℕ) (in-d : Row d) (in-e : Row e) (long-d : 
   prepared-colour false = kept-colour
 
 -- the passes of a row: a premultiplied source divided, alpha modes on both rows, then the rule
-pub mix-is : (blending : Blending) (source destination : Alpha) (rule : Rule) (s t s′ d d′ e : List ℕ) (width : ℕ) → Row s → Row t → Row s′ → Row d → Row d′ → Row e →
+pub mix-is : (blending : Blending) (source destination : Alpha) (rule : BlendFactors) (s t s′ d d′ e : List ℕ) (width : ℕ) → Row s → Row t → Row s′ → Row d → Row d′ → Row e →
     Done (preparedAt (blending .premultiplied) s) s t 0 (width * 4) →
     width * 4 ≤ length s → length t ≡ length s → length s′ ≡ length t → length d ≡ width * 4 → length d′ ≡ length d → length e ≡ length d → rule ≡ blending .rule →
     Done (modeAt (source .mode) (source .global) t) t s′ 0 (width * 4) → Done (modeAt (destination .mode) (destination .global) d) d d′ 0 (width * 4) →

@@ -22,7 +22,7 @@ use Rattle.surface.proofs.Outside.{drawnOn-ext}
 use Rattle.register.specs.Size.{sizeOf}
 use Rattle.rows.specs.Row.{colourAt, sourcePixelOf}
 use Rattle.composition.specs.Twice.{turned, Fits, EqualDrawing, Orientations}
-use Rattle.raster.proofs.Turn.{stride-some}
+use Rattle.raster.proofs.RowByRow.{stride-some}
 
 -- ---- the same orientation
 

@@ -31,7 +31,7 @@ use Rattle.register.specs.Size.{sizeOf}
 use Rattle.rows.specs.Row.{colourAt, sourcePixelOf}
 use Rattle.raster.specs.Task.{sourceModeColour, sourceColour, drawTask}
 use Rattle.composition.specs.Twice.{turned, Fits, Tasks, twice, once, TwoTurns, TwoTasks}
-use Rattle.raster.proofs.Turn.{stride-some}
+use Rattle.raster.proofs.RowByRow.{stride-some}
 use Rattle.raster.proofs.Pixel.{pixel-plain}
 
 -- ---- the tasks that draw so

@@ -6,15 +6,15 @@ use native.Mathlib.Omega.{arith}
 use lib.ListN.{getD}
 use Rattle.pixel.specs.Blending.{factorValue, blendedChannel}
 use Rattle.pixel.specs.Rules.{blendModeFactors}
-use Rattle.pixel.specs.declared.blend.Rule.{Rule}
-use Rattle.pixel.specs.declared.blend.RuleName.the-variants.{Add}
+use Rattle.pixel.specs.declared.blend.BlendFactors.{BlendFactors}
+use Rattle.pixel.specs.declared.blend.BlendMode.the-variants.{Add}
 use Rattle.lanes.specs.Lanes.{Done}
 use Rattle.lanes.proofs.Passes.{same-done}
 use Rattle.plan.specs.Blend.{alphaAt, blendAt}
 use Rattle.channels.proofs.Channels.{copied, stayed, emptied}
 use Rattle.plan.proofs.Blends.{Bytes}
 
-module _ (rule : Rule) (s d e : List ℕ) (n : ℕ) where
+module _ (rule : BlendFactors) (s d e : List ℕ) (n : ℕ) where
   -- a pass that makes each byte what the two factors make of it
   by-factors : (fs fd : ℕ) (P : ℕ → ℕ) → ((x y : ℕ) → factorValue (rule .source) x y ≡ fs) → ((x y : ℕ) → factorValue (rule .destination) x y ≡ fd) →
       ((j : ℕ) → P j ≡ blendedChannel (getD s j 0) fs (getD d j 0) fd) → Done P d e 0 n → Done (blendAt rule s d) d e 0 n
@@ -35,7 +35,7 @@ module _ (rule : Rule) (s d e : List ℕ) (n : ℕ) where
       Done (λ j. 0) d e 0 n → Done (blendAt rule s d) d e 0 n
   cleared-row is-s is-d did = by-factors 0 0 (λ j. 0) is-s is-d (λ j. sym (emptied (getD s j 0) (getD d j 0))) did
 
-pub left-row : (rule : Rule) (s d : List ℕ) (n : ℕ) → Bytes d → ((x y : ℕ) → factorValue (rule .source) x y ≡ 0) → ((x y : ℕ) → factorValue (rule .destination) x y ≡ 255) →
+pub left-row : (rule : BlendFactors) (s d : List ℕ) (n : ℕ) → Bytes d → ((x y : ℕ) → factorValue (rule .source) x y ≡ 0) → ((x y : ℕ) → factorValue (rule .destination) x y ≡ 255) →
     Done (blendAt rule s d) d d 0 n
 left-row rule s d n in-d is-s is-d =
     by-factors rule s d d n 0 255 (λ j. getD d j 0) is-s is-d (λ j. sym (stayed (getD s j 0) (getD d j 0) (omega (arith, in-d j))))

@@ -5,7 +5,7 @@ ghost use Prim.Native.Nat.{_≤_};
 ghost use lib.ListN.{length};
 ghost use Rattle.pixel.specs.Rules.{blendModeFactors};
 ghost use Rattle.pixel.specs.Blending.{blendedChannel};
-ghost use Rattle.pixel.specs.declared.blend.RuleName.the-variants.{Add};
+ghost use Rattle.pixel.specs.declared.blend.BlendMode.the-variants.{Add};
 ghost use Rattle.lanes.specs.Lanes.{Done};
 ghost use Rattle.plan.specs.Blend.{blendAt};
 ghost use Rattle.plan.specs.Plan.{Planned};

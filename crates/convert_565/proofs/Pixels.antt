@@ -1,10 +1,10 @@
--- One or two pixels of RGB565 more.
+-- One pixel of RGB565 more.
 use mathlib.Core.Path.{_≡_, refl, sym, ap, _∙_, subst}
 use mathlib.Core.List.{List}
-use Prim.Native.Nat.{ℕ, _+_, _*_, _/_, _%_, _^_, _≤_, _<_, suc}
+use Prim.Native.Nat.{ℕ, _+_, _*_, _/_, _%_, _^_, _≤_, _<_}
 use native.Mathlib.Omega.{arith}
-use lib.ListN.{length, getD, set, length-set}
-use Rattle.word.specs.Word.{byteOf, le32At, leBytes}
+use lib.ListN.{length, getD}
+use Rattle.word.specs.Word.{byteOf, le32At}
 use Rattle.pixel.specs.Colours.{widened, narrowed, packed, unpacked}
 use Rattle.pixel.specs.Formats.{layoutOf}
 use Rattle.pixel.specs.declared.colour.Colour.{Colour}
@@ -14,11 +14,9 @@ use Rattle.surface.specs.Rows.{rowByte}
 use Rattle.surface.proofs.Loaded.{pixel-bytes}
 use Rattle.rows.specs.Row.{colourIn}
 use Rattle.lanes.specs.Lanes.{two, Done}
-use Rattle.lanes.proofs.Laws.{under-or, put-two}
-use Rattle.lanes.proofs.Passes.{more-done, to-end}
+use Rattle.lanes.proofs.Laws.{under-or}
+use Rattle.lanes.proofs.Passes.{more-done}
 use Rattle.row_colours.proofs.Colours.{Row, bytesAt, all-bytes, four-bytes, colour-is}
-use Rattle.word.specs.Splice.{spliced}
-use Rattle.word.proofs.Splice.{sets-spliced}
 use Rattle.row_colours.specs.Line.{pixelByte}
 
 module _ (p : ℕ → Colour) (d₀ d e : List ℕ) (x v : ℕ) (is : v ≡ packed (layoutOf Rgb565) (p x)) (small : v ≤ 65535)
@@ -50,60 +48,6 @@ module _ (p : ℕ → Colour) (d₀ d e : List ℕ) (x v : ℕ) (is : v ≡ pack
         under = under;
         past = λ j l. past j (omega arith);
       })
-
--- the last pixel of an odd number
-pub odd-more : (p : ℕ → Colour) (d₀ d e : List ℕ) (o x v : ℕ) → o ≡ x * 2 → v ≡ packed (layoutOf Rgb565) (p x) → v ≤ 65535 → getD e o 0 ≡ v % 256 → getD e (o + 1) 0 ≡ v / 256 →
-    ((j : ℕ) → j < o → getD e j 0 ≡ getD d j 0) → ((j : ℕ) → o + 2 ≤ j → getD e j 0 ≡ getD d j 0) → Done (pixelByte Rgb565 p) d₀ d 0 o → Done (pixelByte Rgb565 p) d₀ e 0 (o + 2)
-odd-more p d₀ d e o x v i is small low high under past was =
-    to-end _ _ _ _ ((x + 1) * 2) _ (omega arith)
-    (two-more p d₀ d e x v is small (subst (λ (q : ℕ). getD e q 0 ≡ v % 256) i low) (subst (λ (q : ℕ). getD e (q + 1) 0 ≡ v / 256) i high)
-    (λ j l. under j (omega arith)) (λ j l. past j (omega arith)) (to-end _ _ _ _ o _ i was))
-
--- the bytes of a word of two pixels
-word-0 : (v w : ℕ) → v ≤ 65535 → byteOf (v + w * 65536) 0 ≡ v % 256
-unfolding byteOf
-word-0 v w h = omega arith
-
-word-1 : (v w : ℕ) → v ≤ 65535 → byteOf (v + w * 65536) 1 ≡ v / 256
-unfolding byteOf
-word-1 v w h = omega arith
-
-word-2 : (v w : ℕ) → v ≤ 65535 → w ≤ 65535 → byteOf (v + w * 65536) 2 ≡ w % 256
-unfolding byteOf
-word-2 v w h k = omega arith
-
-word-3 : (v w : ℕ) → v ≤ 65535 → w ≤ 65535 → byteOf (v + w * 65536) 3 ≡ w / 256
-unfolding byteOf
-word-3 v w h k = omega arith
-
--- two pixels stored as one word
-pub pair-put : (d : List ℕ) (o v w : ℕ) → o + 4 ≤ length d → v ≤ 65535 → w ≤ 65535 →
-    spliced o (leBytes (v + w * 65536)) d ≡ set (set (set (set d o (v % 256)) (o + 1) (v / 256)) (o + 2) (w % 256)) (o + 3) (w / 256)
-unfolding leBytes
-pair-put d o v w fits small-v small-w =
-    let e1 : suc o ≡ o + 1 = omega arith in
-    let e2 : suc (suc o) ≡ o + 2 = omega arith in
-    let e3 : suc (suc (suc o)) ≡ o + 3 = omega arith in
-    sym (sets-spliced o (leBytes (v + w * 65536)) d fits) ∙ cc (word-0 v w small-v, word-1 v w small-v, word-2 v w small-v small-w, word-3 v w small-v small-w)
-
--- and two pixels more
-pub pair-more : (p : ℕ → Colour) (d₀ d e : List ℕ) (x v w : ℕ) → x * 4 + 4 ≤ length d → v ≡ packed (layoutOf Rgb565) (p (x * 2)) → v ≤ 65535 → w ≡ packed (layoutOf Rgb565) (p (x * 2 + 1)) → w ≤ 65535 →
-    e ≡ set (set (set (set d (x * 4) (v % 256)) (x * 4 + 1) (v / 256)) (x * 4 + 2) (w % 256)) (x * 4 + 3) (w / 256) →
-    Done (pixelByte Rgb565 p) d₀ d 0 (x * 4) → Done (pixelByte Rgb565 p) d₀ e 0 ((x + 1) * 4)
-pair-more p d₀ d e x v w room is-v small-v is-w small-w is-e was =
-    let i0 : x * 4 ≡ x * 2 * 2 = omega arith in
-    let i1 : x * 4 + 1 ≡ x * 2 * 2 + 1 = omega arith in
-    let i2 : x * 4 + 2 ≡ (x * 2 + 1) * 2 = omega arith in
-    let i3 : x * 4 + 3 ≡ (x * 2 + 1) * 2 + 1 = omega arith in
-    let f : List ℕ = set (set d (x * 2 * 2) (v % 256)) (x * 2 * 2 + 1) (v / 256) in
-    let g : List ℕ = set (set f ((x * 2 + 1) * 2) (w % 256)) ((x * 2 + 1) * 2 + 1) (w / 256) in
-    let q : g ≡ e = sym (is-e ∙ cc) in
-    let a = put-two d (x * 2 * 2) (v % 256) (v / 256) (omega arith) in
-    let b = put-two f ((x * 2 + 1) * 2) (w % 256) (w / 256) (simp length-set (omega arith)) in
-    to-end _ _ _ _ ((x * 2 + 1 + 1) * 2) _ (omega arith)
-    (subst (λ (l : List ℕ). Done (pixelByte Rgb565 p) d₀ l 0 ((x * 2 + 1 + 1) * 2)) q
-    (two-more p d₀ f g (x * 2 + 1) w is-w small-w (b .0) (b .1 .0) (b .1 .1 .0) (b .1 .1 .1)
-    (two-more p d₀ d f (x * 2) v is-v small-v (a .0) (a .1 .0) (a .1 .1 .0) (a .1 .1 .1) (to-end _ _ _ _ (x * 4) _ (omega arith) was))))
 
 -- the word of a buffer's pixel, narrowed
 narrow-blue : (b m w : ℕ) → b < 256 → w ≡ b + 256 * m → w / 8 % 32 ≡ b / 8

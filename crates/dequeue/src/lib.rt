@@ -14,14 +14,14 @@ ghost use Rattle.engine.specs.Run.{runTable, oldestTicket, oldest, boundsOfClie
 use record::Batch;
 use record::Checked;
 use record::Client;
-use record::Record;
+use record::EngineRecord;
 use record::Slot;
 use record::SlotState;
 use register::Bank;
 use rules::Bounds;
 
 // What run is refused with, 0 if it takes a batch; `found` is what the check of the record found, `ring` and `memory` are the lengths of what is lent.
-pub fn run_refusal(engine: Record, found: Checked, ring: usize, memory: usize) -> u32
+pub fn run_refusal(engine: EngineRecord, found: Checked, ring: usize, memory: usize) -> u32
     requires { ⌜ found ≡ checkedOf engine ⌝ }
     ensures { λ r. ⌜ r ≡ firstRefusal (runTable engine ring memory) ⌝ }
 {
@@ -35,7 +35,7 @@ pub fn run_refusal(engine: Record, found: Checked, ring: usize, memory: usize) -
 }
 
 // What a client may touch: its window, and common.
-pub fn bounds_for(engine: Record, client: u32) -> Bounds
+pub fn bounds_for(engine: EngineRecord, client: u32) -> Bounds
     requires { ⌜ client < 4 ⌝ }
     ensures { λ r. ⌜ (r ≡ boundsOfClient engine client) × (length (engine .clients) ≡ 4) ⌝ }
 {
@@ -48,7 +48,7 @@ pub fn bounds_for(engine: Record, client: u32) -> Bounds
 }
 
 // The registers at the start of every batch.
-pub fn bank_for(engine: Record) -> Bank
+pub fn bank_for(engine: EngineRecord) -> Bank
     ensures { λ r. ⌜ r ≡ resetOf engine ⌝ }
 {
     let setup = engine.setup;
@@ -74,7 +74,7 @@ fn lower(clients: [Client; 4], client: u32) -> [Client; 4]
 }
 
 // The slot of the oldest of so many ready batches.
-pub fn oldest_slot(engine: Record, ready: usize) -> usize
+pub fn oldest_slot(engine: EngineRecord, ready: usize) -> usize
     requires { ⌜ (readySlots engine ≤ 8) × (ready ≡ readySlots engine) ⌝ }
     ensures { λ r. ⌜ r ≡ slotOfTicket (oldestTicket engine) (engine .slots) ⌝ }
 {
@@ -95,7 +95,7 @@ fn freed(slots: [Slot; 8], at: usize) -> [Slot; 8]
 }
 
 // The record without the oldest batch, which is in the slot `at`: the slot and its ring bytes are free again.
-pub fn without_oldest(engine: Record, at: usize, batch: Batch) -> Record
+pub fn without_oldest(engine: EngineRecord, at: usize, batch: Batch) -> EngineRecord
     requires { ⌜ (valid engine ≡ true) × (0 < readySlots engine) × (length (engine .clients) ≡ 4) × (length (engine .slots) ≡ 8)
         × (at ≡ slotOfTicket (oldestTicket engine) (engine .slots)) × (batch ≡ oldest engine) ⌝ }
     ensures { λ r. ⌜ r ≡ withoutOldest engine ⌝ }
@@ -108,6 +108,6 @@ pub fn without_oldest(engine: Record, at: usize, batch: Batch) -> Record
     let mut after = engine;
     after.clients = fewer;
     after.slots = left;
-    after.read = record::wrap(setup.ring, engine.read + batch.length);
+    after.read = record::wrap_offset(setup.ring, engine.read + batch.length);
     after
 }

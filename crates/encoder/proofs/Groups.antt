@@ -13,7 +13,7 @@ use Rattle.gradient.specs.declared.Steps.{Steps}
 use Rattle.register.specs.Bank.{surfaceAfterWrite, stepsAfterWrite, bankAfterWrite, writeRegister}
 use Rattle.register.specs.Task.{taskOf}
 use Rattle.register.specs.declared.bank.Bank.{Bank}
-use Rattle.register.specs.declared.bank.Write.the-variants.{Bank as Taken}
+use Rattle.register.specs.declared.bank.WriteResult.the-variants.{Written}
 use Rattle.rules.specs.declared.task.Bounds.{Bounds}
 use Rattle.rules.specs.Rules.{checkTask}
 use Rattle.batch.specs.Batch.{start, inside, reservedBits, badGroupLength, afterTaskCheck, decodeFrom}
@@ -21,7 +21,7 @@ use Rattle.encoder.specs.Words.{taskWords, shadedWords}
 
 -- the register at an offset takes a word
 abbrev TakenAt : ℕ → ℕ → Type 0
-TakenAt offset w = (b : Bank) → writeRegister b offset w ≡ Taken (bankAfterWrite b offset w)
+TakenAt offset w = (b : Bank) → writeRegister b offset w ≡ Written (bankAfterWrite b offset w)
 
 taken-at : (offset w : ℕ) → isWritable (registerKindOf offset) ≡ true → acceptsWord (registerKindOf offset) w ≡ true → TakenAt offset w
 unfolding writeRegister

@@ -9,20 +9,20 @@ use Rattle.batch.specs.declared.verdict.Verdict.{Verdict}
 use Rattle.batch.specs.Batch.{decodeBatch, verdictOf}
 use Rattle.raster.specs.Batch.{drawBatch}
 use Rattle.record.specs.declared.Batch.{Batch}
-use Rattle.record.specs.declared.Record.{Record}
+use Rattle.record.specs.declared.EngineRecord.{EngineRecord}
 use Rattle.queue.specs.Calls.{unlessRefused}
 use Rattle.engine.specs.declared.Completion.{Completion}
 use Rattle.engine.specs.declared.Outcome.the-variants.{Refused, Completed}
 use Rattle.engine.specs.Run.{runNumber, oldest, boundsOfClient, oldestWords, resetOf, oldestVerdict, withoutOldest, outcomeUnlessRefused, runResult, runMemory}
 
 -- what run answers of the oldest batch, and memory after it
-abbrev pub completion : Record → List ℕ → Completion
+abbrev pub completion : EngineRecord → List ℕ → Completion
 completion engine ring = record { client = oldest engine .client; ticket = oldest engine .ticket; verdict = oldestVerdict engine ring }
 
-abbrev pub drawn : Record → (ring memory : List ℕ) → List ℕ
+abbrev pub drawn : EngineRecord → (ring memory : List ℕ) → List ℕ
 drawn engine ring memory = drawBatch (boundsOfClient engine (oldest engine .client)) (resetOf engine) (oldestWords engine ring) memory
 
-module _ (engine : Record) (ring memory : List ℕ) where
+module _ (engine : EngineRecord) (ring memory : List ℕ) where
   -- a refusal changes neither record nor memory
   pub run-refused : (n : ℕ) → n ≡ runNumber engine ring memory → (n ≡ 0 → ⊥) →
       (record { outcome = Refused n; engine = engine } ≡ runResult engine ring memory) × (memory ≡ runMemory engine ring memory)
@@ -37,7 +37,7 @@ module _ (engine : Record) (ring memory : List ℕ) where
 
   -- the same of what the code made
   pub run-made : runNumber engine ring memory ≡ 0 → (b : Batch) → b ≡ oldest engine → (bounds : Bounds) → bounds ≡ boundsOfClient engine (b .client) → (bank : Bank) → bank ≡ resetOf engine →
-      (verdict : Verdict) → verdict ≡ verdictOf (decodeBatch bounds bank (batchWords ring (b .offset) (b .length))) → (after : Record) → after ≡ withoutOldest engine →
+      (verdict : Verdict) → verdict ≡ verdictOf (decodeBatch bounds bank (batchWords ring (b .offset) (b .length))) → (after : EngineRecord) → after ≡ withoutOldest engine →
       (new : List ℕ) → new ≡ drawBatch bounds bank (batchWords ring (b .offset) (b .length)) memory →
       (record { outcome = Completed (record { client = b .client; ticket = b .ticket; verdict = verdict }); engine = after } ≡ runResult engine ring memory) × (new ≡ runMemory engine ring memory)
   run-made z b is bounds e bank r verdict v after a new d =

@@ -2,5 +2,5 @@
 pub mod Oldest
 pub mod Refusals
 pub mod Calls
-pub mod Stays
+pub mod Preservation
 pub mod Zeros

@@ -14,7 +14,7 @@ use Rattle.raster.specs.Preconditions.{BoundsInMemory}
 use Rattle.record.specs.declared.Batch.{Batch}
 use Rattle.record.specs.declared.Client.{Client}
 use Rattle.record.specs.declared.Slot.{Slot}
-use Rattle.record.specs.declared.Record.{Record}
+use Rattle.record.specs.declared.EngineRecord.{EngineRecord}
 use Rattle.record.specs.Slots.{free, readyBatches, sumOver, countOf}
 use Rattle.record.specs.Tickets.{ticketBefore, slotOfTicket, batchOfTicket, ticketsConsecutive, inTicketOrder}
 use Rattle.record.specs.Clients.{isOpen, clientAt}
@@ -30,7 +30,7 @@ use Rattle.queue.proofs.Room.{pending-right}
 use Rattle.engine.specs.Run.{oldestTicket, oldest, boundsOfClient, pendingLowered, withoutOldest}
 
 -- its client is open
-pub owner-open : (engine : Record) → valid engine ≡ true → 0 < readySlots engine → isOpen engine (oldest engine .client) ≡ true
+pub owner-open : (engine : EngineRecord) → valid engine ≡ true → 0 < readySlots engine → isOpen engine (oldest engine .client) ≡ true
 unfolding inTicketOrder clientsOpen
 owner-open engine ok some = go (readySlots engine) refl some
   where
@@ -41,12 +41,12 @@ owner-open engine ok some = go (readySlots engine) refl some
         rw e (and-true (isOpen engine (b .client)) (clientsOpen engine (inTicketOrder k (engine .next) (engine .slots))) (rw e at (valid-facts engine ok .owners)) .0)
 
 -- it is one of the four
-pub owner-small : (engine : Record) → valid engine ≡ true → 0 < readySlots engine → oldest engine .client < 4
+pub owner-small : (engine : EngineRecord) → valid engine ≡ true → 0 < readySlots engine → oldest engine .client < 4
 owner-small engine ok some =
     open-place engine (oldest engine .client) (owner-open engine ok some) .0
 
 -- its slot is one of the eight
-pub slot-below : (engine : Record) → valid engine ≡ true → 0 < readySlots engine → length (engine .slots) ≡ 8 → slotOfTicket (oldestTicket engine) (engine .slots) < 8
+pub slot-below : (engine : EngineRecord) → valid engine ≡ true → 0 < readySlots engine → length (engine .slots) ≡ 8 → slotOfTicket (oldestTicket engine) (engine .slots) < 8
 slot-below engine ok some eight =
     let k : ℕ = readySlots engine - 1 in
     let more : readySlots engine ≡ suc k = omega arith in
@@ -57,7 +57,7 @@ slot-below engine ok some eight =
     omega arith
 
 -- k batches are ready beside it
-module _ (engine : Record) (ok : valid engine ≡ true) (k : ℕ) (more : readySlots engine ≡ suc k) (four : length (engine .clients) ≡ 4) (eight : length (engine .slots) ≡ 8) where
+module _ (engine : EngineRecord) (ok : valid engine ≡ true) (k : ℕ) (more : readySlots engine ≡ suc k) (four : length (engine .clients) ≡ 4) (eight : length (engine .slots) ≡ 8) where
   v : Valid engine
   v = valid-facts engine ok
 
@@ -86,13 +86,13 @@ module _ (engine : Record) (ok : valid engine ≡ true) (k : ℕ) (more : readyS
   good = rw first-is (first-good engine ok k more few four)
 
 -- what taking it needs
-pub record Takes (engine : Record) : Type 0 where
+pub record Takes (engine : EngineRecord) : Type 0 where
   pub slot : slotOfTicket (oldestTicket engine) (engine .slots) < 8
   pub client : oldest engine .client < 4
   pub counted : 1 ≤ clientAt engine (oldest engine .client) .pending
   pub offset : engine .read + oldest engine .length < 65536
 
-pub takes : (engine : Record) → valid engine ≡ true → 0 < readySlots engine → length (engine .clients) ≡ 4 → length (engine .slots) ≡ 8 → Takes engine
+pub takes : (engine : EngineRecord) → valid engine ≡ true → 0 < readySlots engine → length (engine .clients) ≡ 4 → length (engine .slots) ≡ 8 → Takes engine
 takes engine ok some four eight =
     let k : ℕ = readySlots engine - 1 in
     let more : readySlots engine ≡ suc k = omega arith in
@@ -105,7 +105,7 @@ takes engine ok some four eight =
     }
 
 -- the record that the code makes without it
-pub without-made : (engine : Record) (at : ℕ) → at ≡ slotOfTicket (oldestTicket engine) (engine .slots) → (b : Batch) → b ≡ oldest engine →
+pub without-made : (engine : EngineRecord) (at : ℕ) → at ≡ slotOfTicket (oldestTicket engine) (engine .slots) → (b : Batch) → b ≡ oldest engine →
     (clients : List Client) → clients ≡ pendingLowered (engine .clients) (b .client) → (slots : List Slot) → slots ≡ set (engine .slots) at free →
     (read : ℕ) → read ≡ wrapOffset (engine .setup .ring) (engine .read + b .length) →
     record { setup = engine .setup; clients = clients; slots = slots; read = read; next = engine .next; staged = engine .staged } ≡ withoutOldest engine
@@ -113,7 +113,7 @@ unfolding withoutOldest
 without-made engine at ea b eb clients ec slots es read er = rw (ec, es, er, ea, eb)
 
 -- its client's window and common lie in memory
-pub oldest-room : (engine : Record) → valid engine ≡ true → 0 < readySlots engine →
+pub oldest-room : (engine : EngineRecord) → valid engine ≡ true → 0 < readySlots engine →
     (n : ℕ) → n ≡ engine .setup .memory → (b : Batch) → b ≡ oldest engine → (bounds : Bounds) → bounds ≡ boundsOfClient engine (b .client) → BoundsInMemory bounds n
 oldest-room engine ok some n en b eb bounds is =
     let v = valid-facts engine ok in

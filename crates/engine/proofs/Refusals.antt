@@ -6,20 +6,20 @@ use native.Mathlib.Omega.{arith}
 use lib.Dec.{eqb}
 use borrow.Author.Tests.{eqb-true, eqb-false, not-false}
 use Rattle.word.proofs.Tests.{or-false}
-use Rattle.record.specs.declared.Record.{Record}
+use Rattle.record.specs.declared.EngineRecord.{EngineRecord}
 use Rattle.record.specs.Queue.{readySlots}
 use Rattle.record.specs.Rules.{valid}
 use Rattle.queue.specs.Refusals.{firstRefusal}
 use Rattle.queue.proofs.Refusals.{clear}
 use Rattle.engine.specs.Run.{runTable}
 
-pub record RunAllowed (engine : Record) (given lent : ℕ) : Type 0 where
+pub record RunAllowed (engine : EngineRecord) (given lent : ℕ) : Type 0 where
   pub ok : valid engine ≡ true
   pub ring : given ≡ engine .setup .ring
   pub memory : lent ≡ engine .setup .memory
   pub some : 0 < readySlots engine
 
-pub run-allowed : (engine : Record) (given lent : ℕ) → firstRefusal (runTable engine given lent) ≡ 0 → RunAllowed engine given lent
+pub run-allowed : (engine : EngineRecord) (given lent : ℕ) → firstRefusal (runTable engine given lent) ≡ 0 → RunAllowed engine given lent
 run-allowed engine given lent e =
     let eleven = clear (runTable engine given lent) e (omega arith) in
     let ten = eleven .1 (omega arith) in

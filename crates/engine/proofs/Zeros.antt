@@ -9,7 +9,7 @@ use borrow.Rule.Slice.PartMut.{putMid}
 use Rattle.range.specs.declared.Range.{Range}
 use Rattle.lanes.specs.Lanes.{Done}
 use Rattle.record.specs.declared.Window.{Window}
-use Rattle.record.specs.declared.Record.{Record}
+use Rattle.record.specs.declared.EngineRecord.{EngineRecord}
 use Rattle.record.specs.Clients.{clientAt, windowRange}
 use Rattle.record.proofs.Rules.{valid-facts}
 use Rattle.record.proofs.Windows.{window-placed}
@@ -25,7 +25,7 @@ zeros-all before bytes n e zeros =
 
 -- ---- close
 
-module _ (engine : Record) (memory : List ℕ) (client : ℕ) where
+module _ (engine : EngineRecord) (memory : List ℕ) (client : ℕ) where
   pub close-left : (closeNumber engine memory client ≡ 0 → ⊥) → closeMemory engine memory client ≡ memory
   unfolding closeMemory
   close-left z = unless-no (closeNumber engine memory client) memory _ z
@@ -47,7 +47,7 @@ module _ (engine : Record) (memory : List ℕ) (client : ℕ) where
       ∙ sym (close-zeroed z)
 
 -- the window of a client that may be closed lies in memory
-pub window-inside : (engine : Record) (given client : ℕ) → CloseAllowed engine given client → (windowRange (clientAt engine client .window) .start ≤ windowRange (clientAt engine client .window) .end) × (windowRange (clientAt engine client .window) .end ≤ given)
+pub window-inside : (engine : EngineRecord) (given client : ℕ) → CloseAllowed engine given client → (windowRange (clientAt engine client .window) .start ≤ windowRange (clientAt engine client .window) .end) × (windowRange (clientAt engine client .window) .end ≤ given)
 window-inside engine given client a =
     let p = window-placed engine (valid-facts engine (a .ok)) client (a .owner) in
     (omega arith, omega (arith, p .fits, a .memory))

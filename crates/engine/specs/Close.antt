@@ -5,7 +5,7 @@ use Prim.Native.Nat.{ℕ}
 use lib.ListN.{length, replicate}
 use borrow.Rule.Slice.PartMut.{putMid}
 use Rattle.record.specs.declared.Window.{Window}
-use Rattle.record.specs.declared.Record.{Record}
+use Rattle.record.specs.declared.EngineRecord.{EngineRecord}
 use Rattle.record.specs.Clients.{clientAt}
 use Rattle.queue.specs.Refusals.{firstRefusal, closeTable}
 use Rattle.queue.specs.Calls.{unlessRefused}
@@ -15,8 +15,8 @@ abbrev pub zeroed : Window → (memory : List ℕ) → List ℕ
 zeroed w memory = putMid (w .start) (w .length) memory (replicate (w .length) 0)
 
 -- what close is refused with, 0 if it is accepted
-abbrev pub closeNumber : Record → (memory : List ℕ) → (client : ℕ) → ℕ
+abbrev pub closeNumber : EngineRecord → (memory : List ℕ) → (client : ℕ) → ℕ
 closeNumber engine memory client = firstRefusal (closeTable engine (length memory) client)
 
-unfoldable pub closeMemory : Record → (memory : List ℕ) → (client : ℕ) → List ℕ
+unfoldable pub closeMemory : EngineRecord → (memory : List ℕ) → (client : ℕ) → List ℕ
 closeMemory engine memory client = unlessRefused (closeNumber engine memory client) memory (zeroed (clientAt engine client .window) memory)

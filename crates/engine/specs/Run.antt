@@ -15,7 +15,7 @@ use Rattle.batch.specs.Batch.{decodeBatch, verdictOf}
 use Rattle.raster.specs.Batch.{drawBatch}
 use Rattle.record.specs.declared.Client.{Client}
 use Rattle.record.specs.declared.Batch.{Batch}
-use Rattle.record.specs.declared.Record.{Record}
+use Rattle.record.specs.declared.EngineRecord.{EngineRecord}
 use Rattle.record.specs.Slots.{free}
 use Rattle.record.specs.Tickets.{ticketBefore, slotOfTicket, batchOfTicket}
 use Rattle.record.specs.Clients.{noClient, clientAt, windowRange}
@@ -25,10 +25,10 @@ use Rattle.queue.specs.Refusals.{RefusalRow, _when_, firstRefusal}
 use Rattle.queue.specs.Calls.{unlessRefused}
 use Rattle.engine.specs.declared.Outcome.{Outcome}
 use Rattle.engine.specs.declared.Outcome.the-variants.{Refused, Completed}
-use Rattle.engine.specs.declared.Ran.{Ran}
+use Rattle.engine.specs.declared.RunResult.{RunResult}
 
 -- when run is refused; ring and memory: the lengths of those that are lent
-abbrev pub runTable : Record → (ring memory : ℕ) → List RefusalRow
+abbrev pub runTable : EngineRecord → (ring memory : ℕ) → List RefusalRow
 runTable engine ring memory =
     11 when not (valid engine)
     ∷ 10 when (not (eqb ring (engine .setup .ring)) || not (eqb memory (engine .setup .memory)))
@@ -36,31 +36,31 @@ runTable engine ring memory =
     ∷ []
 
 -- what run is refused with, 0 if it takes a batch
-abbrev pub runNumber : Record → (ring memory : List ℕ) → ℕ
+abbrev pub runNumber : EngineRecord → (ring memory : List ℕ) → ℕ
 runNumber engine ring memory = firstRefusal (runTable engine (length ring) (length memory))
 
 -- ---- the batch that is taken
 
 -- of n ready batches the oldest has the ticket n before the next to be given
-abbrev pub oldestTicket : Record → ℕ
+abbrev pub oldestTicket : EngineRecord → ℕ
 oldestTicket engine = ticketBefore (engine .next) (readySlots engine)
 
-abbrev pub oldest : Record → Batch
+abbrev pub oldest : EngineRecord → Batch
 oldest engine = batchOfTicket (oldestTicket engine) (engine .slots)
 
 -- its client's window, and common
-abbrev pub boundsOfClient : Record → (client : ℕ) → Bounds
+abbrev pub boundsOfClient : EngineRecord → (client : ℕ) → Bounds
 boundsOfClient engine client = record { window = windowRange (clientAt engine client .window); common = engine .setup .common }
 
 -- its words, in order
-abbrev pub oldestWords : Record → (ring : List ℕ) → List ℕ
+abbrev pub oldestWords : EngineRecord → (ring : List ℕ) → List ℕ
 oldestWords engine ring = batchWords ring (oldest engine .offset) (oldest engine .length)
 
 -- "Registers are at reset values at the start of every batch", by the record's reset rule (02, request 2)
-abbrev pub resetOf : Record → Bank
+abbrev pub resetOf : EngineRecord → Bank
 resetOf engine = resetBank (engine .setup .reset)
 
-abbrev pub oldestVerdict : Record → (ring : List ℕ) → Verdict
+abbrev pub oldestVerdict : EngineRecord → (ring : List ℕ) → Verdict
 oldestVerdict engine ring = verdictOf (decodeBatch (boundsOfClient engine (oldest engine .client)) (resetOf engine) (oldestWords engine ring))
 
 -- ---- record, answer and memory after it
@@ -70,7 +70,7 @@ abbrev pub pendingLowered : List Client → ℕ → List Client
 pendingLowered clients client = set clients client (record { window = getD clients client noClient .window; pending = getD clients client noClient .pending - 1; opened = getD clients client noClient .opened })
 
 -- its slot is free, and "each run moves" the read offset "past its batch"
-unfoldable pub withoutOldest : Record → Record
+unfoldable pub withoutOldest : EngineRecord → EngineRecord
 withoutOldest engine = record {
   setup = engine .setup;
   clients = pendingLowered (engine .clients) (oldest engine .client);
@@ -85,7 +85,7 @@ unfoldable pub outcomeUnlessRefused : (number : ℕ) → Outcome → Outcome
 outcomeUnlessRefused zero otherwise = otherwise
 outcomeUnlessRefused (suc n) otherwise = Refused (suc n)
 
-unfoldable pub runResult : Record → (ring memory : List ℕ) → Ran
+unfoldable pub runResult : EngineRecord → (ring memory : List ℕ) → RunResult
 runResult engine ring memory =
     let number : ℕ = runNumber engine ring memory in
     record {
@@ -94,6 +94,6 @@ runResult engine ring memory =
     }
 
 -- memory after it: the batch drawn with its client's window; of a faulty one the tasks before the fault
-unfoldable pub runMemory : Record → (ring memory : List ℕ) → List ℕ
+unfoldable pub runMemory : EngineRecord → (ring memory : List ℕ) → List ℕ
 runMemory engine ring memory =
     unlessRefused (runNumber engine ring memory) memory (drawBatch (boundsOfClient engine (oldest engine .client)) (resetOf engine) (oldestWords engine ring) memory)

@@ -15,13 +15,13 @@ ghost use Rattle.queue.specs.Calls.{pendingRaised, withBatch};
 use record::Batch;
 use record::Checked;
 use record::Client;
-use record::Record;
+use record::EngineRecord;
 use record::Slot;
 use record::SlotState;
 use record::Staged;
 
 // The ring bytes that are free; `ready` is how many the ready batches have.
-fn free_bytes(engine: Record, ready: usize) -> usize
+fn free_bytes(engine: EngineRecord, ready: usize) -> usize
     requires { ⌜ (valid engine ≡ true) × (readySlots engine ≤ 8) × (ready ≡ readyBytes engine) ⌝ }
     ensures { λ r. ⌜ r ≡ freeBytes engine ⌝ }
 {
@@ -39,7 +39,7 @@ fn staged_slots(staged: Staged) -> usize
 }
 
 // The slots that are taken: each of the ready batches has one, and so has a staged submission.
-fn taken_slots(engine: Record, ready: usize) -> usize
+fn taken_slots(engine: EngineRecord, ready: usize) -> usize
     requires { ⌜ (readySlots engine ≤ 8) × (ready ≡ readySlots engine) ⌝ }
     ensures { λ r. ⌜ r ≡ takenSlots engine ⌝ }
 {
@@ -50,16 +50,16 @@ fn taken_slots(engine: Record, ready: usize) -> usize
 
 // Where the next batch goes, and where the staged one lies: after the newest ready one, at the read offset if none is ready; `ready` is how many ring bytes the ready
 // batches have.
-pub fn write_offset(engine: Record, ready: usize) -> usize
+pub fn write_offset(engine: EngineRecord, ready: usize) -> usize
     requires { ⌜ (valid engine ≡ true) × (readySlots engine ≤ 8) × (ready ≡ readyBytes engine) ⌝ }
     ensures { λ r. ⌜ r ≡ writeOffset engine ⌝ }
 {
     let setup = engine.setup;
-    record::wrap(setup.ring, engine.read + ready)
+    record::wrap_offset(setup.ring, engine.read + ready)
 }
 
 // What submit and begin are refused with, 0 if they are not; `found` is what the check of the record found.
-pub fn submit_refusal(engine: Record, found: Checked, given: usize, client: u32, size: usize) -> u32
+pub fn submit_refusal(engine: EngineRecord, found: Checked, given: usize, client: u32, size: usize) -> u32
     requires { ⌜ (found ≡ checkedOf engine) × (readySlots engine ≤ 8) ⌝ }
     ensures { λ r. ⌜ r ≡ firstRefusal (submitTable engine given client size) ⌝ }
 {
@@ -115,7 +115,7 @@ fn next_ticket(ticket: u32) -> u32
 }
 
 // The record with a batch more, in the slot `at`.
-pub fn with_batch(engine: Record, at: usize, batch: Batch) -> Record
+pub fn with_batch(engine: EngineRecord, at: usize, batch: Batch) -> EngineRecord
     requires { ⌜ (batch .client < 4) × (clientAt engine (batch .client) .pending ≤ 8) × (at < 8) ⌝ }
     ensures { λ r. ⌜ r ≡ withBatch engine at batch ⌝ }
 {

@@ -1,13 +1,13 @@
 // Why the batch of a replay with a ticket faulted: `fault FILE TICKET`.
 use inquiry::Question;
 use inquiry_io::Asked;
-use ppm::Number;
+use ppm::ParsedNumber;
 
 // The ticket that the arguments name. What is wrong with them is reported.
-fn asked() -> Number {
+fn ticket_argument() -> ParsedNumber {
     if os::arg_count() != 3 {
         command::complain(b"fault", b" takes two arguments\n");
-        return Number::Invalid;
+        return ParsedNumber::Invalid;
     }
     let mut text = io::buffer();
     let n = os::arg(2, &mut text);
@@ -20,7 +20,7 @@ fn usage() {
 }
 
 fn main() {
-    let Number::Value(ticket) = asked() else {
+    let ParsedNumber::Value(ticket) = ticket_argument() else {
         usage();
         return;
     };

@@ -14,9 +14,9 @@ use convert_888::from_888;
 use pixel::Colour;
 use pixel::Format;
 use rows::is_reversed;
-use rows::is_straight;
+use rows::is_identity_row;
 use rows::origin;
-use rows::step_of;
+use rows::pixel_stride;
 use strided_rows::fetch_steps;
 use surface::Surface;
 use transform::Rotation;
@@ -100,7 +100,7 @@ fn fetch_turned(
     let format = s.format;
     let rotation = transform.rotation;
     let start = origin(s, transform, 0, y);
-    let step = step_of(s, rotation);
+    let step = pixel_stride(s, rotation);
     let back = is_reversed(transform);
     fetch_steps(buffer, width, memory, start, step, back, format);
 }
@@ -117,7 +117,7 @@ pub fn fetch_along(
     requires { ⌜ FetchInBounds (now memory) (now buffer) s (transform .rotation) y width ⌝ }
     ensures { λ _. ⌜ HoldsColours (now (buffer .exit)) width (λ x. colourAt s (now (memory .entry)) (sourcePixelOf s transform x y)) ⌝ }
 {
-    if is_straight(transform) {
+    if is_identity_row(transform) {
         fetch_straight(buffer, width, memory, s, transform, y);
         return;
     }

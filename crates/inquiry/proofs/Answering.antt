@@ -32,7 +32,7 @@ use Rattle.provenance.specs.declared.Why.{Why}
 use Rattle.inquiry.specs.declared.Question.{Question}
 use Rattle.inquiry.specs.declared.Finding.{Finding}
 use Rattle.inquiry.specs.declared.Inquiry.{Inquiry}
-use Rattle.inquiry.specs.declared.Fed.{Fed}
+use Rattle.inquiry.specs.declared.FeedResult.{FeedResult}
 use Rattle.provenance.specs.Drawn.{Drawn, numbered, drawnBy, drawnFrom}
 use Rattle.provenance.specs.Touched.{lastFrom, touchedBy}
 use Rattle.provenance.specs.Faulted.{explained, whyFrom, faultedBy}
@@ -141,7 +141,7 @@ module _ (q : Question) where
     on-answers BadVersion held rest = refl
     on-answers BadRecord held rest = refl
 
-  pub feeds-by : (seen held input held′ : List ℕ) (s : Inquiry) (t : Taken) (fed : Fed) (g : Finding) → g ≡ findingOn q (s .finding) (t .found) held′
+  pub feeds-by : (seen held input held′ : List ℕ) (s : Inquiry) (t : Taken) (fed : FeedResult) (g : Finding) → g ≡ findingOn q (s .finding) (t .found) held′
       → fed ≡ record { inquiry = record { reader = t .reader; finding = g }; used = t .used }
       → (Ready First (s .reader) held → Takes First (s .reader) held input t held′) → Stands q seen s held → Feeds q seen input fed held′
   feeds-by seen held input held′ s t fed g g-is fed-is takes S =
@@ -186,7 +186,7 @@ module _ (q : Question) (s : Inquiry) (seen held : List ℕ) (S : Stands q seen 
 
 -- ---- a piece
 
-module _ (q : Question) (seen piece : List ℕ) (used : ℕ) (fed : Fed) (held′ : List ℕ) where
+module _ (q : Question) (seen piece : List ℕ) (used : ℕ) (fed : FeedResult) (held′ : List ℕ) where
   -- what is left of it
   abbrev left : List ℕ
   left = take (length piece - used) (drop used piece)

@@ -21,7 +21,7 @@ use Rattle.provenance.specs.Faulted.{explained}
 use Rattle.inquiry.specs.declared.Question.{Question}
 use Rattle.inquiry.specs.declared.Finding.{Finding}
 use Rattle.inquiry.specs.declared.Inquiry.{Inquiry}
-use Rattle.inquiry.specs.declared.Fed.{Fed}
+use Rattle.inquiry.specs.declared.FeedResult.{FeedResult}
 use Rattle.provenance.specs.declared.TouchedAnswer.{TouchedAnswer}
 use Rattle.provenance.specs.declared.FaultAnswer.{FaultAnswer}
 use Rattle.provenance.specs.Answers.{toldTouched, toldFault}
@@ -61,7 +61,7 @@ pub record Stands (q : Question) (seen : List ℕ) (s : Inquiry) (held : List �
       → answersOf q (findingFrom q nothingYet (records First (seen ++ rest) .entries)) ≡ answersOf q (findingFrom q (s .finding) (fileAt First (s .reader) held rest .entries))
 
 -- after some input more, and it uses a byte of it if there is one
-pub record Feeds (q : Question) (seen : List ℕ) (input : List ℕ) (f : Fed) (held : List ℕ) : Type 0 where
+pub record Feeds (q : Question) (seen : List ℕ) (input : List ℕ) (f : FeedResult) (held : List ℕ) : Type 0 where
   pub stands : Stands q (seen ++ take (f .used) input) (f .inquiry) held
   pub some : 1 ≤ length input → 1 ≤ f .used
 

@@ -43,7 +43,7 @@ pub struct Inquiry {
 }
 
 // An inquiry after some input, and how many bytes of it were used.
-pub struct Fed {
+pub struct FeedResult {
     pub inquiry: Inquiry,
     pub used: usize,
 }
@@ -126,7 +126,7 @@ pub fn start() -> Inquiry
 }
 
 // Takes some bytes of the input, at most those of one record. `held` is to be 32,773 bytes long.
-pub fn feed(question: Question, inquiry: Inquiry, held: &mut [u8], input: &[u8]) -> Fed
+pub fn feed(question: Question, inquiry: Inquiry, held: &mut [u8], input: &[u8]) -> FeedResult
     ensures { λ r. ⌜ (r .used ≤ length (now (input .entry)))
         × ((seen : List ℕ) → Stands question seen inquiry (now (held .entry)) → Feeds question seen (now (input .entry)) r (now (held .exit))) ⌝ }
 {
@@ -136,7 +136,7 @@ pub fn feed(question: Question, inquiry: Inquiry, held: &mut [u8], input: &[u8])
     let after = taken.reader;
     let found = taken.found;
     let next = after_found(question, finding, found, held);
-    Fed {
+    FeedResult {
         inquiry: Inquiry {
             reader: after,
             finding: next,

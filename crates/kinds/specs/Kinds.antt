@@ -8,7 +8,7 @@ use Rattle.pixel.specs.declared.blend.AlphaMode.{AlphaMode}
 use Rattle.pixel.specs.declared.blend.AlphaMode.the-variants.{Pixel, Global, Mixed}
 use Rattle.pixel.specs.declared.blend.Factor.{Factor}
 use Rattle.pixel.specs.declared.blend.Factor.the-variants.{Zero, One, SourceAlpha, InverseSourceAlpha, DestinationAlpha, InverseDestinationAlpha}
-use Rattle.pixel.specs.declared.blend.Rule.{Rule}
+use Rattle.pixel.specs.declared.blend.BlendFactors.{BlendFactors}
 use Rattle.pixel.specs.declared.format.Format.the-variants.{Argb8888}
 use Rattle.surface.specs.Surface.{span}
 use Rattle.surface.specs.declared.Surface.{Surface}
@@ -60,7 +60,7 @@ isInverseSourceAlpha InverseSourceAlpha = true
 isInverseSourceAlpha DestinationAlpha = false
 isInverseSourceAlpha InverseDestinationAlpha = false
 
-abbrev pub isSrcOver : Rule → Bool
+abbrev pub isSrcOver : BlendFactors → Bool
 isSrcOver rule = isOne (rule .source) && isInverseSourceAlpha (rule .destination)
 
 -- the source's rows can be taken byte by byte as they are: a buffer of the output's format, neither turned nor flipped from left to right

@@ -5,13 +5,13 @@ ghost use Rattle.kinds.specs.Kinds.{isUniform, isMoved, isInPlace, isCol
 use pixel::AlphaMode;
 use pixel::Factor;
 use pixel::Format;
-use pixel::Rule;
+use pixel::BlendFactors;
 use range::Range;
 use register::Alpha;
 use register::Source;
 use register::SourceMode;
 use register::Task;
-use rows::is_straight;
+use rows::is_identity_row;
 use rules::same_format;
 use surface::Surface;
 
@@ -103,7 +103,7 @@ fn is_inverse_source_alpha(f: Factor) -> bool
     }
 }
 
-fn is_src_over(rule: Rule) -> bool
+fn is_src_over(rule: BlendFactors) -> bool
     ensures { λ r. ⌜ r ≡ isSrcOver rule ⌝ }
 {
     let s = rule.source;
@@ -124,7 +124,7 @@ fn is_moved(source: Source, output: Surface) -> bool
     ensures { λ r. ⌜ r ≡ isMoved source output ⌝ }
 {
     let mode = source.mode;
-    mode.is_buffer() & is_straight(source.transform) & have_one_format(source.surface, output)
+    mode.is_buffer() & is_identity_row(source.transform) & have_one_format(source.surface, output)
 }
 
 // Whether the output is its own destination, in the format of the buffers.

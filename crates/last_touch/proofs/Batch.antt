@@ -7,8 +7,8 @@ use Rattle.register.specs.declared.bank.Bank.{Bank}
 use Rattle.register.specs.declared.task.Task.{Task}
 use Rattle.rules.specs.declared.fault.Fault.{Fault}
 use Rattle.rules.specs.declared.task.Bounds.{Bounds}
-use Rattle.batch.specs.declared.walk.Step.{Step}
-use Rattle.batch.specs.declared.walk.Step.the-variants.{Task as Next, Faulty as Stop, End}
+use Rattle.batch.specs.declared.walk.WalkStep.{WalkStep}
+use Rattle.batch.specs.declared.walk.WalkStep.the-variants.{Task as Next, Faulty as Stop, End}
 use Rattle.batch.specs.Batch.{DecodedBatch, consTask, tasksDrawn}
 use Rattle.batch.specs.Walk.{decodeRest, stepAt}
 use Rattle.batch.proofs.Steps.{reads-task, reads-fault, reads-end}
@@ -30,7 +30,7 @@ module _ (i ticket : ℕ) where
   unfolding lastFrom numbered
   one-more number last t r = refl
 
-  module _ (bounds : Bounds) (ws : List ℕ) (b : Bank) (k : ℕ) (s : Step) (is : s ≡ stepAt bounds ws b k) (number : ℕ) (last : Touched) where
+  module _ (bounds : Bounds) (ws : List ℕ) (b : Bank) (k : ℕ) (s : WalkStep) (is : s ≡ stepAt bounds ws b k) (number : ℕ) (last : Touched) where
     pub rest-task : (t : Task) (b′ : Bank) (k′ : ℕ) → s ≡ Next t b′ k′
         → restFrom number last (decodeRest bounds ws b k) ≡ restFrom (number + 1) (after number last t) (decodeRest bounds ws b′ k′)
     rest-task t b′ k′ e =

@@ -8,7 +8,7 @@ ghost use Rattle.batch.specs.Batch.{decodeBatch, tasksDrawn};
 ghost use Rattle.provenance.specs.declared.Touched.the-variants.{By};
 ghost use Rattle.provenance.specs.Drawn.{numbered};
 ghost use Rattle.provenance.specs.Touched.{holds, modeNumber, touchOf, lastFrom};
-use batch::Step;
+use batch::WalkStep;
 use batch::next_task;
 use provenance::Touch;
 use provenance::Touched;
@@ -78,17 +78,17 @@ pub fn after_batch(
     let mut last = found;
     loop {
         match next_task(ring, offset, size, bounds, current, at) {
-            Step::Task(task, b, next) => {
+            WalkStep::Task(task, b, next) => {
                 last = after_task(last, i, ticket, number, task);
                 current = b;
                 at = next;
                 number = number + 1;
             }
             // the tasks before a fault are drawn
-            Step::Faulty(_, _, _) => {
+            WalkStep::Faulty(_, _, _) => {
                 return last;
             }
-            Step::End => {
+            WalkStep::End => {
                 return last;
             }
         }

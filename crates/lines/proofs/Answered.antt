@@ -21,9 +21,9 @@ use Rattle.model.specs.Model.{refuse, enqueue, runStep, refuseOr, effect, step,
 use Rattle.claims.specs.ModelProperties.{batchSemantics}
 use Rattle.claims.specs.Engine.{State, CallResult, answerOrRefusal, performCall, SetUpAccepted}
 use Rattle.claims.proofs.Confined.{confined}
-use Rattle.claims.proofs.Related.{Related}
-use Rattle.claims.proofs.Steps.{Alike}
-use Rattle.claims.proofs.Follows.{together, at-end}
+use Rattle.claims.proofs.SimulationRelation.{Related}
+use Rattle.claims.proofs.SimulationSteps.{Simulates}
+use Rattle.claims.proofs.Simulation.{step-simulates, at-end}
 use Rattle.records.specs.declared.Edition.{Edition}
 use Rattle.records.specs.Records.{Entry, FileEnd, File}
 use Rattle.editions.specs.Editions.{scoreHolds, submission}
@@ -108,13 +108,13 @@ module _ (edition : Edition) where
     abbrev ran : CallResult
     ran = performCall run (submitted .after)
 
-    submit-alike : Alike (setup edition) 32768 submitted (refuseOr (recordRefusal entry) now (enqueue now (entry .client) (entry .batch)))
+    submit-alike : Simulates (setup edition) 32768 submitted (refuseOr (recordRefusal entry) now (enqueue now (entry .client) (entry .batch)))
     unfolding effect
-    submit-alike = rw (← refusal-is count (S .memory) entry) (together (setup edition) 32768 (submit (entry .client) (entry .batch)) now s (S .related))
+    submit-alike = rw (← refusal-is count (S .memory) entry) (step-simulates (setup edition) 32768 (submit (entry .client) (entry .batch)) now s (S .related))
 
     -- refused
     module _ (k : ℕ) (e : recordRefusal entry ≡ suc k) where
-      told-no : Alike (setup edition) 32768 submitted (refuse (suc k) now)
+      told-no : Simulates (setup edition) 32768 submitted (refuse (suc k) now)
       unfolding refuseOr
       told-no = rw e at submit-alike
 
@@ -124,7 +124,7 @@ module _ (edition : Edition) where
 
     -- accepted
     module _ (e : recordRefusal entry ≡ 0) where
-      told-yes : Alike (setup edition) 32768 submitted (enqueue now (entry .client) (entry .batch))
+      told-yes : Simulates (setup edition) 32768 submitted (enqueue now (entry .client) (entry .batch))
       unfolding refuseOr
       told-yes = rw e at submit-alike
 
@@ -136,8 +136,8 @@ module _ (edition : Edition) where
       unfolding refuseOr effect refusalTable firstHolding
       run-step = rw (S .size)
 
-      run-alike : Alike (setup edition) 32768 ran (runStep (batchSemantics (setup edition)) 16384 taken (taken .waiting))
-      run-alike = rw run-step at (together (setup edition) 32768 run taken (submitted .after) (told-yes .1))
+      run-alike : Simulates (setup edition) 32768 ran (runStep (batchSemantics (setup edition)) 16384 taken (taken .waiting))
+      run-alike = rw run-step at (step-simulates (setup edition) 32768 run taken (submitted .after) (told-yes .1))
 
       completes : ran .answer ≡ completed (entry .client) (count % 4294967296) (verdict edition entry)
       completes = rw (window-is count (S .memory) (entry .client) (owner entry e)) at (run-alike .0)

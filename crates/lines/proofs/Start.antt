@@ -4,7 +4,7 @@ use mathlib.Core.List.{List}
 use Prim.Native.Nat.{ℕ}
 use lib.ListN.{replicate}
 use Rattle.record.specs.declared.Window.{Window}
-use Rattle.record.specs.declared.Record.{Record}
+use Rattle.record.specs.declared.EngineRecord.{EngineRecord}
 use Rattle.queue.specs.Calls.{setUpResult, openResult}
 use Rattle.claims.specs.Engine.{mkState, performCall, stateAfter}
 use Rattle.records.specs.declared.Edition.{Edition}
@@ -15,12 +15,12 @@ abbrev windowFrom : ℕ → Window
 windowFrom start = record { start = start; length = 12288 }
 
 module _ (edition : Edition) where
-  abbrev opened : Record
+  abbrev opened : EngineRecord
   opened =
-      let none : Record = setUpResult 32768 65536 16384 (resetOf edition) .engine in
-      let one : Record = openResult none (windowFrom 16384) .engine in
-      let two : Record = openResult one (windowFrom 28672) .engine in
-      let three : Record = openResult two (windowFrom 40960) .engine in
+      let none : EngineRecord = setUpResult 32768 65536 16384 (resetOf edition) .engine in
+      let one : EngineRecord = openResult none (windowFrom 16384) .engine in
+      let two : EngineRecord = openResult one (windowFrom 28672) .engine in
+      let three : EngineRecord = openResult two (windowFrom 40960) .engine in
       openResult three (windowFrom 53248) .engine
 
   pub started-engine : (ring memory : List ℕ) → engineOpened edition ring memory .engine ≡ opened

@@ -100,8 +100,8 @@ module _ (way : BatchSemantics) (L : Confined way) (setup : Setup) (ring : ℕ) 
 
   -- what it replays to, and is told, of these events; told and final are of the calls
   abbrev Follows : List Event → List Answer → (finalModel world : Model) → Type 0
-  Follows es told finalModel world =
-      Shadow (finalModel .places) (finalModel .memory) (play way (setup .common) (seenBy k es) world) × (verdictsOf k told ≡ judged way (setup .common) (seenBy k es) world)
+  Follows es same-answers finalModel world =
+      Shadow (finalModel .places) (finalModel .memory) (play way (setup .common) (seenBy k es) world) × (verdictsOf k same-answers ≡ judged way (setup .common) (seenBy k es) world)
 
   module _ (model world : Model) (S : Sound setup model) (K : Shadow (model .places) (model .memory) world) where
     ev : (d : ℕ) → windowOf model d ≡ windowOf world d
@@ -148,13 +148,13 @@ module _ (way : BatchSemantics) (L : Confined way) (setup : Setup) (ring : ℕ) 
         }
 
     abbrev Goes : Call → List Event → List Answer → Model → Step → Type 0
-    Goes c es told finalModel s = ((next : Model) → Shadow (s .after .places) (s .after .memory) next → Follows es told finalModel next) →
-        Follows (changes c (s .answer) ++ (jobs (s .executed) ++ es)) (s .answer ∷ told) finalModel world
+    Goes c es same-answers finalModel s = ((next : Model) → Shadow (s .after .places) (s .after .memory) next → Follows es same-answers finalModel next) →
+        Follows (changes c (s .answer) ++ (jobs (s .executed) ++ es)) (s .answer ∷ same-answers) finalModel world
 
-    goes : (c : Call) (es : List Event) (told : List Answer) (finalModel : Model) → Goes c es told finalModel (step way setup ring c model)
+    goes : (c : Call) (es : List Event) (same-answers : List Answer) (finalModel : Model) → Goes c es same-answers finalModel (step way setup ring c model)
     unfolding changes jobs seenBy play judged verdictsOf
-    goes c es told finalModel = step-cases way setup ring model (Goes c es told finalModel) c (record {
-      staging = λ a g p _ _ f. rw (p .1, plain-told k a told (p .0)) (f world K);
+    goes c es same-answers finalModel = step-cases way setup ring model (Goes c es same-answers finalModel) c (record {
+      staging = λ a g p _ _ f. rw (p .1, plain-told k a same-answers (p .0)) (f world K);
       entering = λ d x o _ _ f. rw (handed-still model c _ _ o) (f world K);
       opening = λ w e A f. rw e (f (openStep world w .after) (record {
         places = rw (K .places);
@@ -294,7 +294,7 @@ module _ (way : BatchSemantics) (L : Confined way) (setup : Setup) (ring : ℕ) 
 
   record Ran (bs rest : List Batch) (model : Model) : Type 0 where
     events : executions way setup ring (runEach bs) model ≡ jobs bs
-    told : answers way setup ring (runEach bs) model ≡ map (completion model) bs
+    same-answers : answers way setup ring (runEach bs) model ≡ map (completion model) bs
     left : after way setup ring (runEach bs) model ≡ settled model rest (after way setup ring (runEach bs) model .memory)
 
   taken-run : (model : Model) (b : Batch) (bs : List Batch) → Lent setup ring model → model .waiting ≡ b ∷ bs → step way setup ring run model ≡ runStep way (setup .common) model (b ∷ bs)
@@ -303,7 +303,7 @@ module _ (way : BatchSemantics) (L : Confined way) (setup : Setup) (ring : ℕ) 
 
   ran : (bs rest : List Batch) (model : Model) → Sound setup model → Lent setup ring model → model .waiting ≡ bs ++ rest → Ran bs rest model
   unfolding executions answers after jobs changes
-  ran [] rest model S l e = record { events = refl; told = refl; left = ap (withWaiting model) e }
+  ran [] rest model S l e = record { events = refl; same-answers = refl; left = ap (withWaiting model) e }
   ran (b ∷ bs) rest model S l e =
       let s : Step = runStep way (setup .common) model (b ∷ (bs ++ rest)) in
       let is : step way setup ring run model ≡ s = taken-run model b (bs ++ rest) l e in
@@ -311,7 +311,7 @@ module _ (way : BatchSemantics) (L : Confined way) (setup : Setup) (ring : ℕ) 
       let r = ran bs rest (s .after) (rw is at (step-sound way setup ring run model S)) (l .0, size) refl in
       record {
         events = rw is (ap (λ es. job (b .client) (b .bytes) ∷ es) (r .events));
-        told = rw is (ap (λ more. completion model b ∷ more) (r .told));
+        same-answers = rw is (ap (λ more. completion model b ∷ more) (r .same-answers));
         left = subst (λ (z : Step). after way setup ring (runEach bs) (z .after) ≡ settled model rest (after way setup ring (runEach bs) (z .after) .memory)) (sym is) (r .left);
       }
 
@@ -369,8 +369,8 @@ module _ (way : BatchSemantics) (L : Confined way) (setup : Setup) (ring : ℕ) 
       let r′ = ran (b ∷ a ∷ []) rest other S′ l refl in
       let same = same-outcome way L setup ring (run ∷ run ∷ []) (run ∷ run ∷ []) model other S S′ refl refl
       (λ k. ap (seenBy k) (r .events) ∙ same-own _ _ (exchanged-own a b n) k ∙ ap (seenBy k) (sym (r′ .events))) .memory in
-      let v : completion model a ∷ completion model b ∷ [] ≡ completed (a .client) (a .ticket) first ∷ completed (b .client) (b .ticket) second ∷ [] = sym (r .told) ∙ t in
-      record { told = r′ .told ∙ cc; left = r′ .left ∙ ap (settled model rest) (sym same) ∙ sym (r .left) }
+      let v : completion model a ∷ completion model b ∷ [] ≡ completed (a .client) (a .ticket) first ∷ completed (b .client) (b .ticket) second ∷ [] = sym (r .same-answers) ∙ t in
+      record { same-answers = r′ .same-answers ∙ cc; left = r′ .left ∙ ap (settled model rest) (sym same) ∙ sym (r .left) }
 
   none-run : (bs : List Batch) (model : Model) → ¬ (Lent setup ring model) → executions way setup ring (runEach bs) model ≡ []
   unfolding executions changes jobs

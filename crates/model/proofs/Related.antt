@@ -97,7 +97,7 @@ Both X s s′ = X .Told (s .answer) (s′ .answer) × Rel X (s .after) (s′ .af
 
 -- two lists of calls; w holds the hidden bytes
 pub record Runs (way : BatchSemantics) (setup : Setup) (ring : ℕ) (X : View) (w : Window) (cs cs′ : List Call) (model model′ : Model) : Type 0 where
-  pub told : Pointwise (X .Told) (answers way setup ring cs model) (answers way setup ring cs′ model′)
+  pub same-answers : Pointwise (X .Told) (answers way setup ring cs model) (answers way setup ring cs′ model′)
   pub seen : Pointwise (AgreeOutside w) (memories way setup ring cs model) (memories way setup ring cs′ model′)
   pub rel : Rel X (after way setup ring cs model) (after way setup ring cs′ model′)
 
@@ -296,12 +296,12 @@ module _ (way : BatchSemantics) (L : Confined way) (setup : Setup) (ring : ℕ) 
       (pair-both : (c c′ : Call) → Pair c c′ → (model model′ : Model) → Sound setup model → Hidden setup X model → Rel X model model′ → Both X (step way setup ring c model) (step way setup ring c′ model′)) where
     pub runs : (cs cs′ : List Call) → Pointwise Pair cs cs′ → (model model′ : Model) → Inv cs model → Rel X model model′ → Runs way setup ring X w cs cs′ model model′
     unfolding answers memories after
-    runs _ _ none model model′ I R = record { told = none; seen = none; rel = R }
+    runs _ _ none model model′ I R = record { same-answers = none; seen = none; rel = R }
     runs _ _ (more {x = c} {y = c′} {xs = cs} {ys = cs′} q qs) model model′ I R =
         let s = pair-both c c′ q model model′ (sound (c ∷ cs) model I) (hides c cs model I) R in
         let r = runs cs cs′ qs (step way setup ring c model .after) (step way setup ring c′ model′ .after) (next c cs model I) (s .1) in
         record {
-          told = more (s .0) (r .told);
+          same-answers = more (s .0) (r .same-answers);
           seen = more (record { size = s .1 .size; bytes = λ i o. s .1 .bytes i (λ h. o (inside i h)) }) (r .seen);
           rel = r .rel;
         }

@@ -3,8 +3,8 @@ use Prim.Native.Nat.{ℕ}
 use Rattle.model.specs.Calls.{Setup}
 use Rattle.model.specs.BatchSemantics.{BatchSemantics}
 use Rattle.model.specs.Properties.{ModelProperties}
-use Rattle.model.proofs.Alone as alone
-use Rattle.model.proofs.TwoRuns as two-runs
+use Rattle.model.proofs.ReplayedAlone as alone
+use Rattle.model.proofs.Noninterference as two-runs
 use Rattle.model.proofs.Tenancies as tenancies
 use Rattle.model.proofs.Sound as sound
 use Rattle.model.proofs.Order as order

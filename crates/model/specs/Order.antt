@@ -120,7 +120,7 @@ module _ (way : BatchSemantics) (setup : Setup) (ring : ℕ) where
 
   -- The other order of the first two that wait: the same status, fault and offset for each, and the same model after both, memory too.
   pub record Exchanged (a b : Batch) (first second : CompletionStatus) (rest : List Batch) (model : Model) : Type 0 where
-    pub told : answers way setup ring (run ∷ run ∷ []) (withWaiting model (b ∷ a ∷ rest)) ≡
+    pub same-answers : answers way setup ring (run ∷ run ∷ []) (withWaiting model (b ∷ a ∷ rest)) ≡
         completed (b .client) (b .ticket) second ∷ completed (a .client) (a .ticket) first ∷ []
     pub left : after way setup ring (run ∷ run ∷ []) (withWaiting model (b ∷ a ∷ rest)) ≡ after way setup ring (run ∷ run ∷ []) model
 

@@ -133,8 +133,8 @@ module _ (way : BatchSemantics) (setup : Setup) (ring : ℕ) where
     -- of that tenancy's own batches; "memory outside that window agrees throughout", that is after every call; "and all of memory agrees from the
     -- stay's closing on", and so does every answer, whatever calls follow.
     pub record Noninterference : Type 0 where
-      pub told-before : answers way setup ring (before ++ opens w ∷ []) (initialModel memory) ≡ answers way setup ring (before ++ opens w ∷ []) (initialModel memory′)
-      pub told-during : Pointwise (LowEqualAnswer client) (answers way setup ring during inner) (answers way setup ring during′ inner′)
+      pub answers-before : answers way setup ring (before ++ opens w ∷ []) (initialModel memory) ≡ answers way setup ring (before ++ opens w ∷ []) (initialModel memory′)
+      pub answers-during : Pointwise (LowEqualAnswer client) (answers way setup ring during inner) (answers way setup ring during′ inner′)
       pub throughout : Pointwise (AgreeOutside w)
           (memories way setup ring (before ++ opens w ∷ during) (initialModel memory))
           (memories way setup ring (before ++ opens w ∷ during′) (initialModel memory′))

@@ -64,10 +64,10 @@ at p = p .x + 2 * p .y
 seen : Transform → ℕ
 seen t = at (sourcePixel t square (place 0)) + 4 * at (sourcePixel t square (place 1))
 
-told : (a b : Transform) → sourcePixel a square (place 0) ≡ sourcePixel b square (place 0) → sourcePixel a square (place 1) ≡ sourcePixel b square (place 1) →
+determined : (a b : Transform) → sourcePixel a square (place 0) ≡ sourcePixel b square (place 0) → sourcePixel a square (place 1) ≡ sourcePixel b square (place 1) →
     SameOrientation a b
 unfolding seen sourcePixel opposite
-told a b e f = tells seen tt a b (ap₂ (λ (p q : Point). at p + 4 * at q) e f)
+determined a b e f = tells seen tt a b (ap₂ (λ (p q : Point). at p + 4 * at q) e f)
 
 -- turned, it is again 2 by 2
 pub turned-square : (r : Rotation) → rotatedSize r square ≡ square
@@ -80,7 +80,7 @@ square-within : (r : Rotation) (x : ℕ) → x < 2 → InPicture (rotatedSize r 
 square-within r x l = rw (turned-square r) (record { across = l; down = lit< tt })
 
 same : (a b : Transform) → Alike a b → SameOrientation a b
-same a b h = told a b (h .source square (place 0) (square-within (a .rotation) 0 (lit< tt))) (h .source square (place 1) (square-within (a .rotation) 1 (lit< tt)))
+same a b h = determined a b (h .source square (place 0) (square-within (a .rotation) 0 (lit< tt))) (h .source square (place 1) (square-within (a .rotation) 1 (lit< tt)))
 
 pub exactly : Exactly
-exactly = record { alike = alike; same = same; told = told }
+exactly = record { alike = alike; same = same; determined = determined }

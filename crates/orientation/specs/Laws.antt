@@ -51,5 +51,5 @@ pub record Exactly : Type 0 where
   pub alike : (a b : Transform) → SameOrientation a b → Alike a b
   pub same : (a b : Transform) → Alike a b → SameOrientation a b
   -- a picture of 2 by 2 distinguishes orientations, by the source pixels of two places of its upper row
-  pub told : (a b : Transform) → sourcePixel a square (place 0) ≡ sourcePixel b square (place 0) → sourcePixel a square (place 1) ≡ sourcePixel b square (place 1) →
+  pub determined : (a b : Transform) → sourcePixel a square (place 0) ≡ sourcePixel b square (place 0) → sourcePixel a square (place 1) ≡ sourcePixel b square (place 1) →
       SameOrientation a b

@@ -30,7 +30,7 @@ fn shares_rows(first: Surface, later: Surface) -> bool
     };
     (y < first.height as usize)
         & (0 < later.height)
-        & row.shares(Range {
+        & row.overlaps(Range {
             start: from,
             end: to,
         })
@@ -41,7 +41,7 @@ pub fn surfaces_overlap(a: Surface, b: Surface) -> bool
     ensures { λ r. ⌜ r ≡ surfacesOverlap a b ⌝ }
 {
     if a.stride != b.stride {
-        return a.shares(b);
+        return a.overlaps(b);
     }
     if a.address <= b.address {
         return shares_rows(a, b);

@@ -2,34 +2,34 @@
 ghost use mathlib.Core.Bool.{false};
 ghost use Rattle.records.specs.declared.Edition.the-variants.{First};
 ghost use Rattle.replay_pieces.specs.Reached.{ReplayedInZeros};
-use ppm::Named;
-use ppm::Number;
+use ppm::ParsedFormat;
+use ppm::ParsedNumber;
 use ppm::Rectangle;
 use records::Edition;
 use replay_io::Replaying;
 use surface::Surface;
 
 // The rectangle that the arguments name. What is wrong with them is reported.
-fn asked() -> Rectangle {
+fn rectangle_argument() -> Rectangle {
     let mut text = io::buffer();
     let n = os::arg(2, &mut text);
-    let Number::Value(address) = command::number_in(&text[..n], b"ADDRESS") else {
+    let ParsedNumber::Value(address) = command::number_in(&text[..n], b"ADDRESS") else {
         return Rectangle::Outside;
     };
     let n = os::arg(3, &mut text);
-    let Number::Value(stride) = command::number_in(&text[..n], b"STRIDE") else {
+    let ParsedNumber::Value(stride) = command::number_in(&text[..n], b"STRIDE") else {
         return Rectangle::Outside;
     };
     let n = os::arg(4, &mut text);
-    let Number::Value(width) = command::number_in(&text[..n], b"WIDTH") else {
+    let ParsedNumber::Value(width) = command::number_in(&text[..n], b"WIDTH") else {
         return Rectangle::Outside;
     };
     let n = os::arg(5, &mut text);
-    let Number::Value(height) = command::number_in(&text[..n], b"HEIGHT") else {
+    let ParsedNumber::Value(height) = command::number_in(&text[..n], b"HEIGHT") else {
         return Rectangle::Outside;
     };
     let n = os::arg(6, &mut text);
-    let Named::Known(format) = command::format_in(&text[..n]) else {
+    let ParsedFormat::Known(format) = command::format_in(&text[..n]) else {
         return Rectangle::Outside;
     };
     let rectangle = ppm::rectangle_of(address, stride, width, height, format);
@@ -91,7 +91,7 @@ fn main() {
         usage();
         return;
     }
-    let Rectangle::Inside(s) = asked() else {
+    let Rectangle::Inside(s) = rectangle_argument() else {
         usage();
         return;
     };

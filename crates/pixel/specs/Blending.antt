@@ -5,7 +5,7 @@ use lib.Dec.{eqb, leb}
 use Rattle.pixel.specs.declared.colour.Colour.{Colour}
 use Rattle.pixel.specs.declared.blend.Factor.{Factor}
 use Rattle.pixel.specs.declared.blend.Factor.the-variants.{Zero, One, SourceAlpha, InverseSourceAlpha, DestinationAlpha, InverseDestinationAlpha}
-use Rattle.pixel.specs.declared.blend.Rule.{Rule}
+use Rattle.pixel.specs.declared.blend.BlendFactors.{BlendFactors}
 use Rattle.division.specs.Division.{div255}
 
 -- a number is the code of a factor
@@ -36,7 +36,7 @@ unfoldable pub blendedChannel : ℕ → ℕ → ℕ → ℕ → ℕ
 blendedChannel s fs d fd = min 255 (div255 (s * fs + d * fd))
 
 -- all four channels, alpha among them, by the same two factors; both colours have their alphas after the alpha modes
-unfoldable pub blended : Rule → Colour → Colour → Colour
+unfoldable pub blended : BlendFactors → Colour → Colour → Colour
 blended rule s d =
     let fs : ℕ = factorValue (rule .source) (s .alpha) (d .alpha) in
     let fd : ℕ = factorValue (rule .destination) (s .alpha) (d .alpha) in

@@ -1,15 +1,15 @@
 -- The blending rules by name (01, "Pixels": 000 and 001 number them differently; only the names count).
-use Rattle.pixel.specs.declared.blend.Rule.{Rule}
-use Rattle.pixel.specs.declared.blend.RuleName.{RuleName}
-use Rattle.pixel.specs.declared.blend.RuleName.the-variants.{None, Clear, Src, Dst, SrcOver, DstOver, SrcIn, DstIn, SrcOut, DstOut, SrcAtop, DstAtop, Xor, Add}
+use Rattle.pixel.specs.declared.blend.BlendFactors.{BlendFactors}
+use Rattle.pixel.specs.declared.blend.BlendMode.{BlendMode}
+use Rattle.pixel.specs.declared.blend.BlendMode.the-variants.{None, Clear, Src, Dst, SrcOver, DstOver, SrcIn, DstIn, SrcOut, DstOut, SrcAtop, DstAtop, Xor, Add}
 use Rattle.pixel.specs.Blending.{factorOf}
 use Prim.Native.Nat.{ℕ}
 
 -- the rule of a source factor and a destination factor, by their codes
-abbrev pub factorPair : ℕ → ℕ → Rule
+abbrev pub factorPair : ℕ → ℕ → BlendFactors
 factorPair s d = record { source = factorOf s; destination = factorOf d }
 
-abbrev pub blendModeFactors : RuleName → Rule
+abbrev pub blendModeFactors : BlendMode → BlendFactors
 blendModeFactors None = factorPair 2 3
 blendModeFactors Clear = factorPair 0 0
 blendModeFactors Src = factorPair 1 0

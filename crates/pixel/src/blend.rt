@@ -23,12 +23,12 @@ pub enum Factor {
 }
 
 // The factor of the source and that of the destination.
-pub struct Rule {
+pub struct BlendFactors {
     pub source: Factor,
     pub destination: Factor,
 }
 
-pub enum RuleName {
+pub enum BlendMode {
     None,
     Clear,
     Src,
@@ -78,7 +78,7 @@ impl AlphaMode {
         match self {
             AlphaMode::Pixel => pixel,
             AlphaMode::Global => global,
-            AlphaMode::Mixed => division::near(product(pixel, global)) as u8,
+            AlphaMode::Mixed => division::div_255(product(pixel, global)) as u8,
         }
     }
 
@@ -132,95 +132,95 @@ impl Factor {
     }
 }
 
-impl Rule {
-    pub const NONE: Rule = Rule {
+impl BlendFactors {
+    pub const NONE: BlendFactors = BlendFactors {
         source: Factor::SourceAlpha,
         destination: Factor::InverseSourceAlpha,
     };
 
-    pub const CLEAR: Rule = Rule {
+    pub const CLEAR: BlendFactors = BlendFactors {
         source: Factor::Zero,
         destination: Factor::Zero,
     };
 
-    pub const SRC: Rule = Rule {
+    pub const SRC: BlendFactors = BlendFactors {
         source: Factor::One,
         destination: Factor::Zero,
     };
 
-    pub const DST: Rule = Rule {
+    pub const DST: BlendFactors = BlendFactors {
         source: Factor::Zero,
         destination: Factor::One,
     };
 
-    pub const SRC_OVER: Rule = Rule {
+    pub const SRC_OVER: BlendFactors = BlendFactors {
         source: Factor::One,
         destination: Factor::InverseSourceAlpha,
     };
 
-    pub const DST_OVER: Rule = Rule {
+    pub const DST_OVER: BlendFactors = BlendFactors {
         source: Factor::InverseDestinationAlpha,
         destination: Factor::One,
     };
 
-    pub const SRC_IN: Rule = Rule {
+    pub const SRC_IN: BlendFactors = BlendFactors {
         source: Factor::DestinationAlpha,
         destination: Factor::Zero,
     };
 
-    pub const DST_IN: Rule = Rule {
+    pub const DST_IN: BlendFactors = BlendFactors {
         source: Factor::Zero,
         destination: Factor::SourceAlpha,
     };
 
-    pub const SRC_OUT: Rule = Rule {
+    pub const SRC_OUT: BlendFactors = BlendFactors {
         source: Factor::InverseDestinationAlpha,
         destination: Factor::Zero,
     };
 
-    pub const DST_OUT: Rule = Rule {
+    pub const DST_OUT: BlendFactors = BlendFactors {
         source: Factor::Zero,
         destination: Factor::InverseSourceAlpha,
     };
 
-    pub const SRC_ATOP: Rule = Rule {
+    pub const SRC_ATOP: BlendFactors = BlendFactors {
         source: Factor::DestinationAlpha,
         destination: Factor::InverseSourceAlpha,
     };
 
-    pub const DST_ATOP: Rule = Rule {
+    pub const DST_ATOP: BlendFactors = BlendFactors {
         source: Factor::InverseDestinationAlpha,
         destination: Factor::SourceAlpha,
     };
 
-    pub const XOR: Rule = Rule {
+    pub const XOR: BlendFactors = BlendFactors {
         source: Factor::InverseDestinationAlpha,
         destination: Factor::InverseSourceAlpha,
     };
 
-    pub const ADD: Rule = Rule {
+    pub const ADD: BlendFactors = BlendFactors {
         source: Factor::One,
         destination: Factor::One,
     };
 
-    pub fn named(name: RuleName) -> Rule
+    pub fn for_mode(name: BlendMode) -> BlendFactors
         ensures { λ r. ⌜ r ≡ blendModeFactors name ⌝ }
     {
         match name {
-            RuleName::None => Rule::NONE,
-            RuleName::Clear => Rule::CLEAR,
-            RuleName::Src => Rule::SRC,
-            RuleName::Dst => Rule::DST,
-            RuleName::SrcOver => Rule::SRC_OVER,
-            RuleName::DstOver => Rule::DST_OVER,
-            RuleName::SrcIn => Rule::SRC_IN,
-            RuleName::DstIn => Rule::DST_IN,
-            RuleName::SrcOut => Rule::SRC_OUT,
-            RuleName::DstOut => Rule::DST_OUT,
-            RuleName::SrcAtop => Rule::SRC_ATOP,
-            RuleName::DstAtop => Rule::DST_ATOP,
-            RuleName::Xor => Rule::XOR,
-            RuleName::Add => Rule::ADD,
+            BlendMode::None => BlendFactors::NONE,
+            BlendMode::Clear => BlendFactors::CLEAR,
+            BlendMode::Src => BlendFactors::SRC,
+            BlendMode::Dst => BlendFactors::DST,
+            BlendMode::SrcOver => BlendFactors::SRC_OVER,
+            BlendMode::DstOver => BlendFactors::DST_OVER,
+            BlendMode::SrcIn => BlendFactors::SRC_IN,
+            BlendMode::DstIn => BlendFactors::DST_IN,
+            BlendMode::SrcOut => BlendFactors::SRC_OUT,
+            BlendMode::DstOut => BlendFactors::DST_OUT,
+            BlendMode::SrcAtop => BlendFactors::SRC_ATOP,
+            BlendMode::DstAtop => BlendFactors::DST_ATOP,
+            BlendMode::Xor => BlendFactors::XOR,
+            BlendMode::Add => BlendFactors::ADD,
         }
     }
 
@@ -245,6 +245,6 @@ impl Rule {
 pub fn blend_channel(s: u8, fs: u8, d: u8, fd: u8) -> u8
     ensures { λ r. ⌜ r ≡ blendedChannel s fs d fd ⌝ }
 {
-    let sum = division::near(product(s, fs) + product(d, fd));
+    let sum = division::div_255(product(s, fs) + product(d, fd));
     if sum < 255 { sum as u8 } else { 255 }
 }

@@ -5,8 +5,8 @@ pub mod format;
 
 pub use blend::AlphaMode;
 pub use blend::Factor;
-pub use blend::Rule;
-pub use blend::RuleName;
+pub use blend::BlendFactors;
+pub use blend::BlendMode;
 pub use colour::Colour;
 pub use format::Argb8888;
 pub use format::Format;

@@ -2,4 +2,4 @@
 -- what a pixel reads lies in memory
 pub mod Inside
 -- a row drawn pixel by pixel: no pixel before it changes what a pixel reads
-pub mod Turn
+pub mod PixelByPixel

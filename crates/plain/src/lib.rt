@@ -16,7 +16,7 @@ use register::Destination;
 use register::Source;
 use register::SourceMode;
 use register::Task;
-use rows::mix;
+use rows::composite;
 use rows::origin;
 use rows::source_point;
 use surface::Surface;
@@ -86,7 +86,7 @@ fn pixel_colour(memory: &[u8], task: Task, x: u16, y: u16) -> Colour
     let s = source_colour(memory, source, x as usize, y as usize);
     if task.blending.on {
         let d = destination_colour(memory, destination, x, y);
-        return mix(task.blending, source.alpha, destination.alpha, s, d);
+        return composite(task.blending, source.alpha, destination.alpha, s, d);
     }
     s
 }

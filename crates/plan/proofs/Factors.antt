@@ -12,8 +12,8 @@ use mathlib.Core.Bool.{Bool}
 use lib.Dec.{eqb}
 use borrow.Author.Tests.{eqb-true}
 use Rattle.pixel.specs.Rules.{blendModeFactors}
-use Rattle.pixel.specs.declared.blend.Rule.{Rule}
-use Rattle.pixel.specs.declared.blend.RuleName.the-variants.{SrcOver}
+use Rattle.pixel.specs.declared.blend.BlendFactors.{BlendFactors}
+use Rattle.pixel.specs.declared.blend.BlendMode.the-variants.{SrcOver}
 use Rattle.lanes.proofs.Laws.{both}
 use Rattle.plan.specs.declared.Masks.{Masks}
 use Rattle.plan.specs.declared.Plan.{Plan}
@@ -95,7 +95,7 @@ nothing InverseDestinationAlpha x y c n = absurd (false≢true c)
 
 -- ---- a plan
 
-pub plan-is : (rule : Rule) (s d : Masks) (o₁ o₂ a₁ a₂ : Bool) (f₁ f₂ e₁ e₂ : ℕ) → s ≡ masksOf (rule .source) → d ≡ masksOf (rule .destination) →
+pub plan-is : (rule : BlendFactors) (s d : Masks) (o₁ o₂ a₁ a₂ : Bool) (f₁ f₂ e₁ e₂ : ℕ) → s ≡ masksOf (rule .source) → d ≡ masksOf (rule .destination) →
     o₁ ≡ ends (rule .source) 255 255 → o₂ ≡ ends (rule .destination) 0 255 → a₁ ≡ isConstant (rule .source) → a₂ ≡ isConstant (rule .destination) →
     f₁ ≡ fullOf (rule .source) → f₂ ≡ fullOf (rule .destination) → e₁ ≡ emptyOf (rule .source) → e₂ ≡ emptyOf (rule .destination) →
     record { rule = rule; source = s; destination = d; over = o₁ && o₂; constant = a₁ && a₂; copies = eqb f₁ 255 && eqb f₂ 0; leaves = eqb e₁ 0 && eqb e₂ 255 } ≡ planOf rule
@@ -105,10 +105,10 @@ plan-is rule s d o₁ o₂ a₁ a₂ f₁ f₂ e₁ e₂ h₀ h₁ h₂ h₃ h�
 ends-are : (f : Factor) (u v : ℕ) → ends f u v ≡ true → (fullOf f ≡ u) × (emptyOf f ≡ v)
 ends-are f u v e = let b = both _ _ e in (eqb-true (fullOf f) u (b .0), eqb-true (emptyOf f) v (b .1))
 
-rule-is : (r : Rule) (s d : Factor) → r .source ≡ s → r .destination ≡ d → r ≡ record { source = s; destination = d }
+rule-is : (r : BlendFactors) (s d : Factor) → r .source ≡ s → r .destination ≡ d → r ≡ record { source = s; destination = d }
 rule-is r s d h k = ap (λ (f : Factor). record { source = f; destination = r .destination }) h ∙ ap (λ (f : Factor). record { source = s; destination = f }) k
 
-pub planned-is : (rule : Rule) (p : Plan) → p ≡ planOf rule → Planned p × (p .rule ≡ rule)
+pub planned-is : (rule : BlendFactors) (p : Plan) → p ≡ planOf rule → Planned p × (p .rule ≡ rule)
 unfolding planOf
 planned-is rule p e = let r : p .rule ≡ rule = ap (λ (q : Plan). q .rule) e in (e ∙ ap planOf (sym r), r)
 

@@ -3,14 +3,14 @@ use Prim.Native.Nat.{ℕ, _+_, _*_, _/_, _%_}
 use mathlib.Core.List.{List}
 use lib.ListN.{getD}
 use Rattle.pixel.specs.Blending.{factorValue, blendedChannel}
-use Rattle.pixel.specs.declared.blend.Rule.{Rule}
+use Rattle.pixel.specs.declared.blend.BlendFactors.{BlendFactors}
 
 -- the alpha of the pixel to which byte j belongs
 abbrev pub alphaAt : List ℕ → ℕ → ℕ
 alphaAt row j = getD row (j / 4 * 4 + 3) 0
 
 -- byte j of the row s blended with the row d
-unfoldable pub blendAt : Rule → List ℕ → List ℕ → ℕ → ℕ
+unfoldable pub blendAt : BlendFactors → List ℕ → List ℕ → ℕ → ℕ
 blendAt rule s d j =
     blendedChannel
     (getD s j 0) (factorValue (rule .source) (alphaAt s j) (alphaAt d j))
@@ -25,7 +25,7 @@ abbrev pub topAt : List ℕ → ℕ → ℕ
 topAt lanes k = getD lanes (k / 2 * 2 + 1) 0 / 256
 
 -- lane k of the lanes s blended with the lanes d
-unfoldable pub laneAt : Rule → List ℕ → List ℕ → ℕ → ℕ
+unfoldable pub laneAt : BlendFactors → List ℕ → List ℕ → ℕ → ℕ
 laneAt rule s d k =
     duo
     (getD s k 0) (factorValue (rule .source) (topAt s k) (topAt d k))

@@ -6,7 +6,7 @@ use lib.Dec.{eqb}
 use lib.Bits.{bitAnd, bitXor}
 use Rattle.pixel.specs.declared.blend.Factor.{Factor}
 use Rattle.pixel.specs.declared.blend.Factor.the-variants.{Zero, One, SourceAlpha, InverseSourceAlpha, DestinationAlpha, InverseDestinationAlpha}
-use Rattle.pixel.specs.declared.blend.Rule.{Rule}
+use Rattle.pixel.specs.declared.blend.BlendFactors.{BlendFactors}
 use Rattle.plan.specs.declared.Masks.{Masks}
 use Rattle.plan.specs.declared.Plan.{Plan}
 
@@ -51,7 +51,7 @@ isConstant InverseSourceAlpha = false
 isConstant DestinationAlpha = false
 isConstant InverseDestinationAlpha = false
 
-unfoldable pub planOf : Rule → Plan
+unfoldable pub planOf : BlendFactors → Plan
 planOf rule = record {
   rule = rule;
   source = masksOf (rule .source);

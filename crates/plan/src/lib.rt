@@ -2,7 +2,7 @@
 ghost use mathlib.Core.Path.{_≡_};
 ghost use Rattle.plan.specs.Plan.{masksOf, factorBy, fullOf, emptyOf, ends, isConstant, planOf};
 use pixel::Factor;
-use pixel::Rule;
+use pixel::BlendFactors;
 
 // A factor without a branch: all or nothing of each alpha, and then as it is or taken from 255.
 pub struct Masks {
@@ -12,7 +12,7 @@ pub struct Masks {
 }
 
 pub struct Plan {
-    pub rule: Rule,
+    pub rule: BlendFactors,
     pub source: Masks,
     pub destination: Masks,
     // it is SRC_OVER
@@ -112,7 +112,7 @@ fn is_constant(f: Factor) -> bool
     }
 }
 
-pub fn plan_of(rule: Rule) -> Plan
+pub fn plan_of(rule: BlendFactors) -> Plan
     ensures { λ r. ⌜ r ≡ planOf rule ⌝ }
 {
     let s = rule.source;

@@ -12,7 +12,7 @@ use Rattle.text.proofs.Typing.{rest-next}
 use Rattle.numerals.specs.declared.Numeral.{Numeral}
 use Rattle.numerals.specs.Numerals.{allDigits, decimalValue, numeralFrom}
 use Rattle.numerals.proofs.Reading.{numeral-whole, numeral-part}
-use Rattle.ppm.specs.declared.words.Number.the-variants.{Value, Invalid}
+use Rattle.ppm.specs.declared.words.ParsedNumber.the-variants.{Value, Invalid}
 use Rattle.ppm.specs.Words.{parseNumber, toLower, equalsIgnoringCase}
 
 -- ---- numbers

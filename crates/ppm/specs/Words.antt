@@ -7,15 +7,15 @@ use lib.Dec.{eqb, leb, ltb}
 use Rattle.numerals.specs.Numerals.{allDigits, decimalValue}
 use Rattle.pixel.specs.declared.format.Format.{Format}
 use Rattle.pixel.specs.declared.format.Format.the-variants.{Argb8888, Rgb888, Rgb565}
-use Rattle.ppm.specs.declared.words.Number.{Number}
-use Rattle.ppm.specs.declared.words.Number.the-variants.{Value, Invalid}
-use Rattle.ppm.specs.declared.words.Named.{Named}
-use Rattle.ppm.specs.declared.words.Named.the-variants.{Known, Unknown}
+use Rattle.ppm.specs.declared.words.ParsedNumber.{ParsedNumber}
+use Rattle.ppm.specs.declared.words.ParsedNumber.the-variants.{Value, Invalid}
+use Rattle.ppm.specs.declared.words.ParsedFormat.{ParsedFormat}
+use Rattle.ppm.specs.declared.words.ParsedFormat.the-variants.{Known, Unknown}
 
 -- ---- numbers
 
 -- one digit at least, nothing but digits, and a number of 32 bits
-unfoldable pub parseNumber : List ℕ → Number
+unfoldable pub parseNumber : List ℕ → ParsedNumber
 parseNumber text = cond (ltb 0 (length text) && allDigits text && ltb (decimalValue 0 text) 4294967296) (Value (decimalValue 0 text)) Invalid
 
 -- ---- formats
@@ -37,7 +37,7 @@ nameOf Argb8888 = 97 ∷ 114 ∷ 103 ∷ 98 ∷ 56 ∷ 56 ∷ 56 ∷ 56 ∷ []
 nameOf Rgb888 = 114 ∷ 103 ∷ 98 ∷ 56 ∷ 56 ∷ 56 ∷ []
 nameOf Rgb565 = 114 ∷ 103 ∷ 98 ∷ 53 ∷ 54 ∷ 53 ∷ []
 
-unfoldable pub formatNamed : List ℕ → Named
+unfoldable pub formatNamed : List ℕ → ParsedFormat
 formatNamed text =
     cond (equalsIgnoringCase text (nameOf Argb8888)) (Known Argb8888)
     (cond (equalsIgnoringCase text (nameOf Rgb888)) (Known Rgb888)

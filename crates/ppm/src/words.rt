@@ -3,29 +3,29 @@ ghost use mathlib.Core.Path.{_≡_};
 ghost use Rattle.ppm.specs.Words.{parseNumber, toLower as smallOf, equalsIgnoringCase, formatNamed};
 use pixel::Format;
 
-pub enum Number {
+pub enum ParsedNumber {
     Value(u32),
     Invalid,
 }
 
-pub enum Named {
+pub enum ParsedFormat {
     Known(Format),
     Unknown,
 }
 
 // A number in decimal digits, and nothing else. The reading stops as soon as the number is too large, so that no sum wraps, however long the text is.
-pub fn number_of(text: &[u8]) -> Number
+pub fn number_of(text: &[u8]) -> ParsedNumber
     ensures { λ r. ⌜ r ≡ parseNumber (now (text .entry)) ⌝ }
 {
     let numeral = numerals::read(text, 0, 4294967295);
     let whole = (0 < text.len()) & (numeral.end == text.len());
     if !whole {
-        return Number::Invalid;
+        return ParsedNumber::Invalid;
     }
-    Number::Value(numeral.value as u32)
+    ParsedNumber::Value(numeral.value as u32)
 }
 
-fn small(byte: u8) -> u8
+fn to_lower(byte: u8) -> u8
     ensures { λ r. ⌜ r ≡ smallOf byte ⌝ }
 {
     if (b'A' <= byte) & (byte <= b'Z') {
@@ -44,7 +44,7 @@ fn equals_ignoring_case(text: &[u8], word: &[u8]) -> bool
     }
     let mut i = 0;
     while i < text.len() {
-        if small(text[i]) != word[i] {
+        if to_lower(text[i]) != word[i] {
             return false;
         }
         i += 1;
@@ -52,17 +52,17 @@ fn equals_ignoring_case(text: &[u8], word: &[u8]) -> bool
     true
 }
 
-pub fn format_named(text: &[u8]) -> Named
+pub fn format_named(text: &[u8]) -> ParsedFormat
     ensures { λ r. ⌜ r ≡ formatNamed (now (text .entry)) ⌝ }
 {
     if equals_ignoring_case(text, b"argb8888") {
-        return Named::Known(Format::Argb8888);
+        return ParsedFormat::Known(Format::Argb8888);
     }
     if equals_ignoring_case(text, b"rgb888") {
-        return Named::Known(Format::Rgb888);
+        return ParsedFormat::Known(Format::Rgb888);
     }
     if equals_ignoring_case(text, b"rgb565") {
-        return Named::Known(Format::Rgb565);
+        return ParsedFormat::Known(Format::Rgb565);
     }
-    Named::Unknown
+    ParsedFormat::Unknown
 }

@@ -13,7 +13,7 @@ use Rattle.word.specs.Word.{words}
 use Rattle.word.proofs.Tests.{and-true}
 use Rattle.register.specs.Bank.{writeRegister}
 use Rattle.register.specs.declared.bank.Bank.{Bank}
-use Rattle.register.specs.declared.bank.Write.the-variants.{Refused}
+use Rattle.register.specs.declared.bank.WriteResult.the-variants.{Refused}
 use Rattle.register.specs.declared.bank.WriteFault.the-variants.{Forbidden as NotTaken}
 use Rattle.rules.specs.declared.fault.Fault.{Fault}
 use Rattle.rules.specs.declared.fault.Fault.the-variants.{ReservedBits, GroupLength, OpenTask, NotWritable, Forbidden, BadSurface, SizeMismatch, OutOfBounds, Overlap}

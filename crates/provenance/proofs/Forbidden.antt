@@ -10,15 +10,15 @@ use Rattle.word.specs.Field.{field}
 use Rattle.register.specs.Bank.{writeRegister}
 use Rattle.register.specs.Task.{taskOf}
 use Rattle.register.specs.declared.bank.Bank.{Bank}
-use Rattle.register.specs.declared.bank.Write.{Write}
-use Rattle.register.specs.declared.bank.Write.the-variants.{Bank as Taken, Refused}
+use Rattle.register.specs.declared.bank.WriteResult.{WriteResult}
+use Rattle.register.specs.declared.bank.WriteResult.the-variants.{Written, Refused}
 use Rattle.register.specs.declared.bank.WriteFault.the-variants.{NotWritable as Unwritable, Forbidden as NotTaken}
 use Rattle.register.specs.declared.task.Task.{Task}
 use Rattle.rules.specs.declared.fault.Fault.{Fault}
 use Rattle.rules.specs.declared.fault.Fault.the-variants.{ReservedBits, GroupLength, OpenTask, NotWritable, Forbidden, BadSurface, SizeMismatch, OutOfBounds, Overlap}
 use Rattle.rules.specs.declared.task.Bounds.{Bounds}
-use Rattle.rules.specs.declared.task.Check.{Check}
-use Rattle.rules.specs.declared.task.Check.the-variants.{Valid, Invalid}
+use Rattle.rules.specs.declared.task.TaskCheck.{TaskCheck}
+use Rattle.rules.specs.declared.task.TaskCheck.the-variants.{Valid, Invalid}
 use Rattle.rules.specs.Rules.{badSurface, sizeMismatch, outOfBounds, outputOverlaps, checkTask}
 use Rattle.batch.specs.Batch.{DecodedBatch, BatchEnd, finished, faulty, stopWith, consTask, DecoderState, start, inside, reservedBits, badGroupLength, decodeHeader, afterWrite, afterTaskCheck, groupOf, decodeFrom, decodeBatch}
 use Rattle.batch.proofs.Readings.{onFrom, onWith}
@@ -77,7 +77,7 @@ module _ (bounds : Bounds) where
   judged-claim : (b : Bank) (head k : ℕ) (g : Group) (ws : List ℕ) (after : DecodedBatch) → Claim after k g ws → Claim (afterTaskCheck (checkTask bounds (taskOf b)) b head after) k g ws
   judged-claim b head k g ws after on = by (checkTask bounds (taskOf b)) refl
     where
-      by : (check : Check) → checkTask bounds (taskOf b) ≡ check → Claim (afterTaskCheck check b head after) k g ws
+      by : (check : TaskCheck) → checkTask bounds (taskOf b) ≡ check → Claim (afterTaskCheck check b head after) k g ws
       by Valid e place same = on place same
       by (Invalid f) e place same = absurd (other f (4 * head) place (judged-other (taskOf b) f e) same)
 
@@ -91,8 +91,8 @@ module _ (bounds : Bounds) where
           let less : suc n - 1 ≡ n = omega arith in
           rw (eqb·suc-zero n, less)
 
-      by : (x : Write) → writeRegister b offset w ≡ x → Claim (afterWrite b k x go) k (record { left = suc n; register = offset }) (w ∷ ws)
-      by (Taken next) e place same = further (go next) k (record { left = suc n; register = offset }) w ws (rw next-group (on next)) place same
+      by : (x : WriteResult) → writeRegister b offset w ≡ x → Claim (afterWrite b k x go) k (record { left = suc n; register = offset }) (w ∷ ws)
+      by (Written next) e place same = further (go next) k (record { left = suc n; register = offset }) w ws (rw next-group (on next)) place same
       by (Refused Unwritable) e place same = absurd (other NotWritable (4 * k) place (λ (z : NotWritable ≡ Forbidden). let y : _≡_ {A = ℕ} 0 1 = cc in omega arith) same)
       by (Refused NotTaken) e place same =
           let there : 4 * k ≡ place = cc in

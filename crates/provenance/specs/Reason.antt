@@ -8,7 +8,7 @@ use Rattle.records.specs.declared.Edition.the-variants.{First}
 use Rattle.word.specs.Word.{words}
 use Rattle.surface.specs.Surface.{InRow}
 use Rattle.register.specs.Bank.{writeRegister}
-use Rattle.register.specs.declared.bank.Write.the-variants.{Refused}
+use Rattle.register.specs.declared.bank.WriteResult.the-variants.{Refused}
 use Rattle.register.specs.declared.bank.WriteFault.the-variants.{Forbidden as NotTaken}
 use Rattle.register.specs.declared.task.Task.{Task}
 use Rattle.batch.specs.Batch.{tasksDrawn}

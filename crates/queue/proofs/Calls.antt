@@ -8,7 +8,7 @@ use lib.ListN.{length}
 use Rattle.ring.specs.Copied.{copiedIn}
 use Rattle.record.specs.declared.Setup.{Setup}
 use Rattle.record.specs.declared.Window.{Window}
-use Rattle.record.specs.declared.Record.{Record}
+use Rattle.record.specs.declared.EngineRecord.{EngineRecord}
 use Rattle.record.specs.Slots.{readyBatches, countOf}
 use Rattle.record.specs.Clients.{lowestClosed}
 use Rattle.record.specs.Staged.{noStaged}
@@ -38,10 +38,10 @@ pub unless-yes : {A : Type 0} (n : ℕ) (before after : A) → n ≡ 0 → unles
 unfolding unlessRefused
 unless-yes n before after e = rw e
 
-reply : {a a′ : Answer} {e e′ : Record} → a ≡ a′ → e ≡ e′ → _≡_ {A = Reply} (record { answer = a; engine = e }) (record { answer = a′; engine = e′ })
-reply p q = ap₂ (λ (a : Answer) (e : Record). record { answer = a; engine = e }) p q
+reply : {a a′ : Answer} {e e′ : EngineRecord} → a ≡ a′ → e ≡ e′ → _≡_ {A = Reply} (record { answer = a; engine = e }) (record { answer = a′; engine = e′ })
+reply p q = ap₂ (λ (a : Answer) (e : EngineRecord). record { answer = a; engine = e }) p q
 
-module _ (setup : Setup) (n : ℕ) (is : n ≡ firstRefusal (setUpTable setup)) (after : Record) where
+module _ (setup : Setup) (n : ℕ) (is : n ≡ firstRefusal (setUpTable setup)) (after : EngineRecord) where
   pub set-up-done : n ≡ 0 → after ≡ initialRecord setup → record { answer = Done; engine = after } ≡ setUpResult (setup .ring) (setup .memory) (setup .common) (setup .reset)
   unfolding setUpResult
   set-up-done z e = reply (sym (answered-yes _ Done (sym is ∙ z))) (e ∙ sym (unless-yes _ (initialRecord noSetup) (initialRecord setup) (sym is ∙ z)))
@@ -51,18 +51,18 @@ module _ (setup : Setup) (n : ℕ) (is : n ≡ firstRefusal (setUpTable setup)) 
   set-up-refused z e =
       reply (ap Refused is ∙ sym (answered-no _ Done (λ q. z (is ∙ q)))) (e ∙ sym (unless-no _ (initialRecord noSetup) (initialRecord setup) (λ q. z (is ∙ q))))
 
-module _ (engine : Record) (w : Window) (n : ℕ) (is : n ≡ firstRefusal (openTable engine w)) where
+module _ (engine : EngineRecord) (w : Window) (n : ℕ) (is : n ≡ firstRefusal (openTable engine w)) where
   pub open-refused : (n ≡ 0 → ⊥) → record { answer = Refused n; engine = engine } ≡ openResult engine w
   unfolding openResult
   open-refused z =
       reply (ap Refused is ∙ sym (answered-no _ (Opened (lowestClosed (engine .clients))) (λ q. z (is ∙ q)))) (sym (unless-no _ engine (withClient engine w) (λ q. z (is ∙ q))))
 
-  pub open-done : n ≡ 0 → (id : ℕ) → id ≡ lowestClosed (engine .clients) → (after : Record) → after ≡ withClient engine w → record { answer = Opened id; engine = after } ≡ openResult engine w
+  pub open-done : n ≡ 0 → (id : ℕ) → id ≡ lowestClosed (engine .clients) → (after : EngineRecord) → after ≡ withClient engine w → record { answer = Opened id; engine = after } ≡ openResult engine w
   unfolding openResult
   open-done z id i after e =
       reply (ap Opened i ∙ sym (answered-yes _ (Opened (lowestClosed (engine .clients))) (sym is ∙ z))) (e ∙ sym (unless-yes _ engine (withClient engine w) (sym is ∙ z)))
 
-module _ (engine : Record) (ring : List ℕ) (client : ℕ) (batch : List ℕ) (n : ℕ) (is : n ≡ submitNumber engine ring client batch) where
+module _ (engine : EngineRecord) (ring : List ℕ) (client : ℕ) (batch : List ℕ) (n : ℕ) (is : n ≡ submitNumber engine ring client batch) where
   -- a refusal changes neither record nor ring
   pub submit-refused : (n ≡ 0 → ⊥) → (record { answer = Refused n; engine = engine } ≡ submitResult engine ring client batch) × (ring ≡ submitRing engine ring client batch)
   unfolding submitResult submitRing
@@ -72,7 +72,7 @@ module _ (engine : Record) (ring : List ℕ) (client : ℕ) (batch : List ℕ) (
         sym (unless-no _ ring (copiedIn ring (writeOffset engine) batch) h),
       )
 
-  pub submit-done : n ≡ 0 → (after : Record) (new : List ℕ) → after ≡ submitted engine client (length batch) → new ≡ copiedIn ring (writeOffset engine) batch →
+  pub submit-done : n ≡ 0 → (after : EngineRecord) (new : List ℕ) → after ≡ submitted engine client (length batch) → new ≡ copiedIn ring (writeOffset engine) batch →
       (record { answer = Accepted (engine .next); engine = after } ≡ submitResult engine ring client batch) × (new ≡ submitRing engine ring client batch)
   unfolding submitResult submitRing
   submit-done z after new e r =
@@ -81,17 +81,17 @@ module _ (engine : Record) (ring : List ℕ) (client : ℕ) (batch : List ℕ) (
         r ∙ sym (unless-yes _ ring (copiedIn ring (writeOffset engine) batch) h),
       )
 
-module _ (engine : Record) (ring client total n : ℕ) (is : n ≡ firstRefusal (submitTable engine ring client total)) where
+module _ (engine : EngineRecord) (ring client total n : ℕ) (is : n ≡ firstRefusal (submitTable engine ring client total)) where
   pub begin-refused : (n ≡ 0 → ⊥) → record { answer = Refused n; engine = engine } ≡ beginResult engine ring client total
   unfolding beginResult
   begin-refused z =
       reply (ap Refused is ∙ sym (answered-no _ Done (λ q. z (is ∙ q)))) (sym (unless-no _ engine (withStaged engine (begun engine client total)) (λ q. z (is ∙ q))))
 
-  pub begin-done : n ≡ 0 → (after : Record) → after ≡ withStaged engine (begun engine client total) → record { answer = Done; engine = after } ≡ beginResult engine ring client total
+  pub begin-done : n ≡ 0 → (after : EngineRecord) → after ≡ withStaged engine (begun engine client total) → record { answer = Done; engine = after } ≡ beginResult engine ring client total
   unfolding beginResult
   begin-done z after e = reply (sym (answered-yes _ Done (sym is ∙ z))) (e ∙ sym (unless-yes _ engine (withStaged engine (begun engine client total)) (sym is ∙ z)))
 
-module _ (engine : Record) (ring : List ℕ) (client : ℕ) (piece : List ℕ) (n : ℕ) (is : n ≡ pieceNumber engine ring client piece) where
+module _ (engine : EngineRecord) (ring : List ℕ) (client : ℕ) (piece : List ℕ) (n : ℕ) (is : n ≡ pieceNumber engine ring client piece) where
   -- a refusal changes neither record nor ring
   pub piece-refused : (n ≡ 0 → ⊥) → (record { answer = Refused n; engine = engine } ≡ pieceResult engine ring client piece) × (ring ≡ pieceRing engine ring client piece)
   unfolding pieceResult pieceRing
@@ -101,7 +101,7 @@ module _ (engine : Record) (ring : List ℕ) (client : ℕ) (piece : List ℕ) (
         sym (unless-no _ ring (copiedIn ring (pieceOffset engine) piece) h),
       )
 
-  pub piece-done : n ≡ 0 → (answer : Answer) (after : Record) (new : List ℕ) → answer ≡ pieceAnswer engine (length piece) → after ≡ afterPiece engine (length piece) → new ≡ copiedIn ring (pieceOffset engine) piece →
+  pub piece-done : n ≡ 0 → (answer : Answer) (after : EngineRecord) (new : List ℕ) → answer ≡ pieceAnswer engine (length piece) → after ≡ afterPiece engine (length piece) → new ≡ copiedIn ring (pieceOffset engine) piece →
       (record { answer = answer; engine = after } ≡ pieceResult engine ring client piece) × (new ≡ pieceRing engine ring client piece)
   unfolding pieceResult pieceRing
   piece-done z answer after new a e r =
@@ -110,26 +110,26 @@ module _ (engine : Record) (ring : List ℕ) (client : ℕ) (piece : List ℕ) (
         r ∙ sym (unless-yes _ ring (copiedIn ring (pieceOffset engine) piece) h),
       )
 
-module _ (engine : Record) (client n : ℕ) (is : n ≡ firstRefusal (cancelTable engine client)) where
+module _ (engine : EngineRecord) (client n : ℕ) (is : n ≡ firstRefusal (cancelTable engine client)) where
   pub cancel-refused : (n ≡ 0 → ⊥) → record { answer = Refused n; engine = engine } ≡ cancelResult engine client
   unfolding cancelResult
   cancel-refused z = reply (ap Refused is ∙ sym (answered-no _ Done (λ q. z (is ∙ q)))) (sym (unless-no _ engine (withStaged engine noStaged) (λ q. z (is ∙ q))))
 
-  pub cancel-done : n ≡ 0 → (after : Record) → after ≡ withStaged engine noStaged → record { answer = Done; engine = after } ≡ cancelResult engine client
+  pub cancel-done : n ≡ 0 → (after : EngineRecord) → after ≡ withStaged engine noStaged → record { answer = Done; engine = after } ≡ cancelResult engine client
   unfolding cancelResult
   cancel-done z after e = reply (sym (answered-yes _ Done (sym is ∙ z))) (e ∙ sym (unless-yes _ engine (withStaged engine noStaged) (sym is ∙ z)))
 
-module _ (engine : Record) (memory client n : ℕ) (is : n ≡ firstRefusal (closeTable engine memory client)) where
+module _ (engine : EngineRecord) (memory client n : ℕ) (is : n ≡ firstRefusal (closeTable engine memory client)) where
   pub close-refused : (n ≡ 0 → ⊥) → record { answer = Refused n; engine = engine } ≡ closeResult engine memory client
   unfolding closeResult
   close-refused z = reply (ap Refused is ∙ sym (answered-no _ Done (λ q. z (is ∙ q)))) (sym (unless-no _ engine (withoutClient engine client) (λ q. z (is ∙ q))))
 
-  pub close-done : n ≡ 0 → (after : Record) → after ≡ withoutClient engine client → record { answer = Done; engine = after } ≡ closeResult engine memory client
+  pub close-done : n ≡ 0 → (after : EngineRecord) → after ≡ withoutClient engine client → record { answer = Done; engine = after } ≡ closeResult engine memory client
   unfolding closeResult
   close-done z after e = reply (sym (answered-yes _ Done (sym is ∙ z))) (e ∙ sym (unless-yes _ engine (withoutClient engine client) (sym is ∙ z)))
 
 -- the last piece, and one before it
-module _ (engine : Record) (size : ℕ) where
+module _ (engine : EngineRecord) (size : ℕ) where
   abbrev last : Bool
   last = isLast (engine .staged) size
 
@@ -146,7 +146,7 @@ module _ (engine : Record) (size : ℕ) where
   pub more-record : ¬ (engine .staged .received + size ≡ engine .staged .total) → withStaged engine (more (engine .staged) size) ≡ afterPiece engine size
   more-record e = rw (ne-eqb (engine .staged .received + size) (engine .staged .total) e)
 
-module _ (engine : Record) (client n : ℕ) (is : n ≡ firstRefusal (pendingTable engine client)) where
+module _ (engine : EngineRecord) (client n : ℕ) (is : n ≡ firstRefusal (pendingTable engine client)) where
   pub pending-refused : (n ≡ 0 → ⊥) → Refused n ≡ pendingAnswer engine client
   unfolding pendingAnswer
   pending-refused z = ap Refused is ∙ sym (answered-no _ (Ready (countOf client (readyBatches (engine .slots)))) (λ q. z (is ∙ q)))

@@ -2,6 +2,6 @@
 pub mod Refusals
 pub mod Calls
 pub mod Room
-pub mod Kept
+pub mod Validity
 pub mod Submitted
-pub mod Stays
+pub mod Preservation

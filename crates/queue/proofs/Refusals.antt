@@ -9,7 +9,7 @@ use lib.Dec.{eqb, ltb}
 use borrow.Author.Tests.{ltb-false, leb-false, eqb-true, not-false}
 use Rattle.record.specs.declared.Setup.{Setup}
 use Rattle.record.specs.declared.Window.{Window}
-use Rattle.record.specs.declared.Record.{Record}
+use Rattle.record.specs.declared.EngineRecord.{EngineRecord}
 use Rattle.record.specs.Setup.{badRing, badMemory, badLength}
 use Rattle.record.specs.Slots.{readyBatches, countOf}
 use Rattle.record.specs.Clients.{isOpen, openWindows, badWindow}
@@ -46,18 +46,18 @@ set-up-allowed setup e =
     let one = clear (setUpTable setup) e (omega arith) in
     record { ring = one .0; memory = one .1 (omega arith) .0 }
 
-pub record OpenAllowed (engine : Record) (w : Window) : Type 0 where
+pub record OpenAllowed (engine : EngineRecord) (w : Window) : Type 0 where
   pub ok : valid engine ≡ true
   pub few : length (openWindows engine) < 4
   pub good : badWindow (engine .setup) (openWindows engine) w ≡ false
 
-pub open-allowed : (engine : Record) (w : Window) → firstRefusal (openTable engine w) ≡ 0 → OpenAllowed engine w
+pub open-allowed : (engine : EngineRecord) (w : Window) → firstRefusal (openTable engine w) ≡ 0 → OpenAllowed engine w
 open-allowed engine w e =
     let first = clear (openTable engine w) e (omega arith) in
     let three = first .1 (omega arith) in
     record { ok = not-false (valid engine) (first .0); few = leb-false _ _ (three .0); good = three .1 (omega arith) .0 }
 
-pub record SubmitAllowed (engine : Record) (given client size : ℕ) : Type 0 where
+pub record SubmitAllowed (engine : EngineRecord) (given client size : ℕ) : Type 0 where
   pub ok : valid engine ≡ true
   pub ring : given ≡ engine .setup .ring
   pub owner : isOpen engine client ≡ true
@@ -66,7 +66,7 @@ pub record SubmitAllowed (engine : Record) (given client size : ℕ) : Type 0 wh
   pub slot : readySlots engine < 8
   pub room : size ≤ freeBytes engine
 
-pub submit-allowed : (engine : Record) (given client size : ℕ) → firstRefusal (submitTable engine given client size) ≡ 0 → SubmitAllowed engine given client size
+pub submit-allowed : (engine : EngineRecord) (given client size : ℕ) → firstRefusal (submitTable engine given client size) ≡ 0 → SubmitAllowed engine given client size
 submit-allowed engine given client size e =
     let first = clear (submitTable engine given client size) e (omega arith) in
     let ten = first .1 (omega arith) in
@@ -92,24 +92,24 @@ both-own true own e = absurd (let z : _≡_ {A = ℕ} 0 1 = cc in omega arith)
 both-own false own e = (refl, e)
 
 -- a staged submission of this client
-pub record Own (engine : Record) (client : ℕ) : Type 0 where
+pub record Own (engine : EngineRecord) (client : ℕ) : Type 0 where
   pub ok : valid engine ≡ true
   pub owner : isOpen engine client ≡ true
   pub some : isIdle (engine .staged) ≡ false
   pub mine : engine .staged .client ≡ client
   pub unfinished : Unfinished engine
 
-own : (engine : Record) (client : ℕ) → valid engine ≡ true → isOpen engine client ≡ true → stagedBy (engine .staged) client ≡ true → Own engine client
+own : (engine : EngineRecord) (client : ℕ) → valid engine ≡ true → isOpen engine client ≡ true → stagedBy (engine .staged) client ≡ true → Own engine client
 own engine client ok owner e =
     let both = both-own (isIdle (engine .staged)) (eqb (engine .staged .client) client) e in
     record { ok = ok; owner = owner; some = both .0; mine = eqb-true _ _ (both .1); unfinished = staged-open engine (valid-facts engine ok .staged) (both .0) }
 
-pub record PieceAllowed (engine : Record) (given client size : ℕ) : Type 0 where
+pub record PieceAllowed (engine : EngineRecord) (given client size : ℕ) : Type 0 where
   pub own : Own engine client
   pub ring : given ≡ engine .setup .ring
   pub fits : engine .staged .received + size ≤ engine .staged .total
 
-pub piece-allowed : (engine : Record) (given client size : ℕ) → firstRefusal (pieceTable engine given client size) ≡ 0 → PieceAllowed engine given client size
+pub piece-allowed : (engine : EngineRecord) (given client size : ℕ) → firstRefusal (pieceTable engine given client size) ≡ 0 → PieceAllowed engine given client size
 piece-allowed engine given client size e =
     let first = clear (pieceTable engine given client size) e (omega arith) in
     let ten = first .1 (omega arith) in
@@ -119,20 +119,20 @@ piece-allowed engine given client size e =
     let room : size ≤ missingBytes (engine .staged) = ltb-false _ _ (last .1) in
     record { own = o; ring = eqb-true _ _ (not-false (eqb given (engine .setup .ring)) (ten .0)); fits = omega (arith, o .unfinished .short) }
 
-pub cancel-allowed : (engine : Record) (client : ℕ) → firstRefusal (cancelTable engine client) ≡ 0 → Own engine client
+pub cancel-allowed : (engine : EngineRecord) (client : ℕ) → firstRefusal (cancelTable engine client) ≡ 0 → Own engine client
 cancel-allowed engine client e =
     let first = clear (cancelTable engine client) e (omega arith) in
     let five = first .1 (omega arith) in
     own engine client (not-false (valid engine) (first .0)) (not-false (isOpen engine client) (five .0)) (not-false (stagedBy (engine .staged) client) (five .1 (omega arith) .0))
 
-pub record CloseAllowed (engine : Record) (given client : ℕ) : Type 0 where
+pub record CloseAllowed (engine : EngineRecord) (given client : ℕ) : Type 0 where
   pub ok : valid engine ≡ true
   pub memory : given ≡ engine .setup .memory
   pub owner : isOpen engine client ≡ true
   pub none : countOf client (readyBatches (engine .slots)) ≡ 0
   pub idle : stagedBy (engine .staged) client ≡ false
 
-pub close-allowed : (engine : Record) (given client : ℕ) → firstRefusal (closeTable engine given client) ≡ 0 → CloseAllowed engine given client
+pub close-allowed : (engine : EngineRecord) (given client : ℕ) → firstRefusal (closeTable engine given client) ≡ 0 → CloseAllowed engine given client
 close-allowed engine given client e =
     let first = clear (closeTable engine given client) e (omega arith) in
     let ten = first .1 (omega arith) in
@@ -147,11 +147,11 @@ close-allowed engine given client e =
       idle = last .1;
     }
 
-pub record PendingAllowed (engine : Record) (client : ℕ) : Type 0 where
+pub record PendingAllowed (engine : EngineRecord) (client : ℕ) : Type 0 where
   pub ok : valid engine ≡ true
   pub owner : isOpen engine client ≡ true
 
-pub pending-allowed : (engine : Record) (client : ℕ) → firstRefusal (pendingTable engine client) ≡ 0 → PendingAllowed engine client
+pub pending-allowed : (engine : EngineRecord) (client : ℕ) → firstRefusal (pendingTable engine client) ≡ 0 → PendingAllowed engine client
 pending-allowed engine client e =
     let first = clear (pendingTable engine client) e (omega arith) in
     record { ok = not-false (valid engine) (first .0); owner = not-false (isOpen engine client) (first .1 (omega arith) .0) }

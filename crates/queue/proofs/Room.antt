@@ -9,7 +9,7 @@ use lib.ListN.{length}
 use Rattle.ring.specs.Segment.{LiesInRing}
 use Rattle.ring.proofs.Wrapped.{wrapped-below}
 use Rattle.ring.proofs.Segment.{lies-wrapped}
-use Rattle.record.specs.declared.Record.{Record}
+use Rattle.record.specs.declared.EngineRecord.{EngineRecord}
 use Rattle.record.specs.Slots.{readyBatches, countOf}
 use Rattle.record.specs.Clients.{isOpen, clientAt}
 use Rattle.record.specs.Staged.{noStaged, isIdle}
@@ -22,7 +22,7 @@ use Rattle.record.proofs.Unfinished.{Unfinished, staged-cases}
 use Rattle.queue.specs.Calls.{pieceOffset}
 use Rattle.queue.proofs.Refusals.{SubmitAllowed, PieceAllowed}
 
-module _ (engine : Record) (ok : valid engine ≡ true) where
+module _ (engine : EngineRecord) (ok : valid engine ≡ true) where
   facts : Valid engine
   facts = valid-facts engine ok
 
@@ -55,7 +55,7 @@ module _ (engine : Record) (ok : valid engine ≡ true) where
         rw z at (counts-at 0 client (engine .clients) (readyBatches (engine .slots)) (facts .counts) (open-place engine client owner .1))
 
 -- a batch that is accepted lies in the ring
-pub submit-lies : (engine : Record) (ring : List ℕ) (client size : ℕ) → SubmitAllowed engine (length ring) client size → LiesInRing ring (writeOffset engine) size
+pub submit-lies : (engine : EngineRecord) (ring : List ℕ) (client size : ℕ) → SubmitAllowed engine (length ring) client size → LiesInRing ring (writeOffset engine) size
 submit-lies engine ring client size a =
     let v = valid-facts engine (a .ok) in
     let t = ready-within engine v (omega (arith, a .slot)) in
@@ -63,7 +63,7 @@ submit-lies engine ring client size a =
     rw (a .ring) at (lies-wrapped ring (engine .read) (readyBytes engine) size (omega (arith, a .ring, v .numbers .below)) (omega (arith, a .ring)))
 
 -- a piece that is accepted lies in the ring behind those before it
-pub piece-lies : (engine : Record) (ring : List ℕ) (client size : ℕ) → readySlots engine ≤ 8 → PieceAllowed engine (length ring) client size → LiesInRing ring (pieceOffset engine) size
+pub piece-lies : (engine : EngineRecord) (ring : List ℕ) (client size : ℕ) → readySlots engine ≤ 8 → PieceAllowed engine (length ring) client size → LiesInRing ring (pieceOffset engine) size
 piece-lies engine ring client size few a =
     let v = valid-facts engine (a .own .ok) in
     let u = a .own .unfinished in
@@ -72,13 +72,13 @@ piece-lies engine ring client size few a =
     rw (a .ring) at (lies-wrapped ring (writeOffset engine) (engine .staged .received) size (omega (arith, a .ring)) (omega (arith, a .ring, a .fits, u .room)))
 
 -- its numbers are small
-pub piece-small : (engine : Record) (given client size : ℕ) → PieceAllowed engine given client size → (engine .staged .received + size ≤ 32768) × (engine .staged .total ≤ 32768)
+pub piece-small : (engine : EngineRecord) (given client size : ℕ) → PieceAllowed engine given client size → (engine .staged .received + size ≤ 32768) × (engine .staged .total ≤ 32768)
 piece-small engine given client size a =
     let v = valid-facts engine (a .own .ok) in
     let h : engine .staged .total ≤ 32768 = omega (arith, a .own .unfinished .room, v .numbers .ring .small) in
     (omega (arith, a .fits), h)
 
-pub piece-offset-small : (engine : Record) (given client size : ℕ) → readySlots engine ≤ 8 → PieceAllowed engine given client size → writeOffset engine + engine .staged .received < 65536
+pub piece-offset-small : (engine : EngineRecord) (given client size : ℕ) → readySlots engine ≤ 8 → PieceAllowed engine given client size → writeOffset engine + engine .staged .received < 65536
 piece-offset-small engine given client size few a =
     let v = valid-facts engine (a .own .ok) in
     let t = ready-within engine v few in

@@ -10,7 +10,7 @@ use Rattle.ring.specs.Segment.{wrapOffset}
 use Rattle.ring.specs.Copied.{copiedIn}
 use Rattle.record.specs.declared.Batch.{Batch}
 use Rattle.record.specs.declared.Slot.{Slot}
-use Rattle.record.specs.declared.Record.{Record}
+use Rattle.record.specs.declared.EngineRecord.{EngineRecord}
 use Rattle.record.specs.declared.SlotState.the-variants.{Free}
 use Rattle.record.specs.Setup.{badLength}
 use Rattle.record.specs.Slots.{free, readyWith, readyBatches, totalLength, countOf, lowestFree}
@@ -26,9 +26,9 @@ use Rattle.record.proofs.Unfinished.{idle-kept}
 use Rattle.record.proofs.Rules.{Valid, valid-facts, valid-made, numbers-kept, sum-waiting, ready-within}
 use Rattle.queue.specs.Calls.{newBatch, pendingRaised, withBatch}
 use Rattle.queue.proofs.Refusals.{SubmitAllowed, Own}
-use Rattle.queue.proofs.Kept.{Sized, few-taken}
+use Rattle.queue.proofs.Validity.{Sized, few-taken}
 
-pub added-sized : (engine : Record) (at : ℕ) (b : Batch) → Sized engine → Sized (withBatch engine at b)
+pub added-sized : (engine : EngineRecord) (at : ℕ) (b : Batch) → Sized engine → Sized (withBatch engine at b)
 unfolding withBatch
 added-sized engine at b s = record {
   clients = length-set (engine .clients) (b .client) (record { window = getD (engine .clients) (b .client) noClient .window; pending = getD (engine .clients) (b .client) noClient .pending + 1; opened = getD (engine .clients) (b .client) noClient .opened }) ∙ s .clients;
@@ -37,7 +37,7 @@ added-sized engine at b s = record {
 }
 
 -- a batch of that client and length may be put into the slot `at`
-pub record Addable (engine : Record) (at client size : ℕ) : Type 0 where
+pub record Addable (engine : EngineRecord) (at client size : ℕ) : Type 0 where
   pub ok : valid engine ≡ true
   pub owner : isOpen engine client ≡ true
   pub allowed : badLength (engine .setup .ring) size ≡ false
@@ -46,7 +46,7 @@ pub record Addable (engine : Record) (at client size : ℕ) : Type 0 where
   pub unused : getD (engine .slots) at free .state ≡ Free
 
 -- a submit's batch may, into the lowest free slot
-pub submit-addable : (engine : Record) → Sized engine → (given client size : ℕ) → SubmitAllowed engine given client size → Addable engine (lowestFree (engine .slots)) client size
+pub submit-addable : (engine : EngineRecord) → Sized engine → (given client size : ℕ) → SubmitAllowed engine given client size → Addable engine (lowestFree (engine .slots)) client size
 submit-addable engine s given client size a =
     let v = valid-facts engine (a .ok) in
     record {
@@ -59,12 +59,12 @@ submit-addable engine s given client size a =
     }
 
 -- and the staged one, into the slot that it holds
-pub staged-addable : (engine : Record) (client : ℕ) → Own engine client → Addable engine (engine .staged .slot) (engine .staged .client) (engine .staged .total)
+pub staged-addable : (engine : EngineRecord) (client : ℕ) → Own engine client → Addable engine (engine .staged .slot) (engine .staged .client) (engine .staged .total)
 staged-addable engine client o =
     let u = o .unfinished in
     record { ok = o .ok; owner = u .owner; allowed = u .allowed; room = u .room; slot = u .slot; unused = u .held }
 
-module _ (engine : Record) (s : Sized engine) (at client size : ℕ) (a : Addable engine at client size) where
+module _ (engine : EngineRecord) (s : Sized engine) (at client size : ℕ) (a : Addable engine at client size) where
   abbrev b : Batch
   b = newBatch engine client size
 
@@ -153,7 +153,7 @@ module _ (engine : Record) (s : Sized engine) (at client size : ℕ) (a : Addabl
   added-valid = valid-made (withBatch engine at b) number-rule (window-rule (v .windows)) ticket-rule (line-rules .0) (line-rules .1) (line-rules .2) (line-rules .3) count-rule staged-rule
 
 -- the bytes of every batch that waited are as they were, and those of the new one are what was copied in; g puts a batch and its bytes together
-module _ {A : Type 0} (g : Batch → List ℕ → A) (engine : Record) (s : Sized engine) (ring : List ℕ) (long : length ring ≡ engine .setup .ring) (at client : ℕ) (batch : List ℕ)
+module _ {A : Type 0} (g : Batch → List ℕ → A) (engine : EngineRecord) (s : Sized engine) (ring : List ℕ) (long : length ring ≡ engine .setup .ring) (at client : ℕ) (batch : List ℕ)
     (a : Addable engine at client (length batch)) where
   pub added-held : held g (copiedIn ring (writeOffset engine) batch) (waiting (withBatch engine at (newBatch engine client (length batch)))) ≡
       held g ring (waiting engine) ++ (g (newBatch engine client (length batch)) batch ∷ [])

@@ -13,7 +13,7 @@ use Rattle.record.specs.declared.Setup.{Setup}
 use Rattle.record.specs.declared.Window.{Window}
 use Rattle.record.specs.declared.Client.{Client}
 use Rattle.record.specs.declared.Batch.{Batch}
-use Rattle.record.specs.declared.Record.{Record}
+use Rattle.record.specs.declared.EngineRecord.{EngineRecord}
 use Rattle.record.specs.declared.Staged.{Staged}
 use Rattle.record.specs.Slots.{free, readyWith, readyBatches, countOf, lowestFree}
 use Rattle.record.specs.Tickets.{ticketAfter}
@@ -34,7 +34,7 @@ unlessRefused (suc n) before after = before
 -- ---- set up
 
 -- "The read offset starts at 0"; no client is open, no slot is ready, and the first ticket is 0
-unfoldable pub initialRecord : Setup → Record
+unfoldable pub initialRecord : Setup → EngineRecord
 initialRecord setup = record {
   setup = setup;
   clients = noClient ∷ noClient ∷ noClient ∷ noClient ∷ [];
@@ -58,7 +58,7 @@ setUpResult ring memory common reset =
 -- ---- open
 
 -- the record with one client more, at the lowest place that is closed
-unfoldable pub withClient : Record → Window → Record
+unfoldable pub withClient : EngineRecord → Window → EngineRecord
 withClient engine w = record {
   setup = engine .setup;
   clients = set (engine .clients) (lowestClosed (engine .clients)) (record { window = w; pending = 0; opened = true });
@@ -69,7 +69,7 @@ withClient engine w = record {
 }
 
 -- "ids are 0 to 3"; "opening takes the lowest free id" (02, 11)
-unfoldable pub openResult : Record → Window → Reply
+unfoldable pub openResult : EngineRecord → Window → Reply
 openResult engine w =
     let number : ℕ = firstRefusal (openTable engine w) in
     record { answer = answerUnlessRefused number (Opened (lowestClosed (engine .clients))); engine = unlessRefused number engine (withClient engine w) }
@@ -77,7 +77,7 @@ openResult engine w =
 -- ---- submit
 
 -- the new batch has the next ticket and lies after the newest one
-abbrev pub newBatch : Record → (client size : ℕ) → Batch
+abbrev pub newBatch : EngineRecord → (client size : ℕ) → Batch
 newBatch engine client size = record { client = client; ticket = engine .next; offset = writeOffset engine; length = size }
 
 -- the clients with one batch more pending for one of them
@@ -85,7 +85,7 @@ abbrev pub pendingRaised : List Client → ℕ → List Client
 pendingRaised clients client = set clients client (record { window = getD clients client noClient .window; pending = getD clients client noClient .pending + 1; opened = getD clients client noClient .opened })
 
 -- the record with the batch in the slot `at`. No submission is staged then: a submit with one is refused (13), and the last piece ends it
-unfoldable pub withBatch : Record → (at : ℕ) → Batch → Record
+unfoldable pub withBatch : EngineRecord → (at : ℕ) → Batch → EngineRecord
 withBatch engine at batch = record {
   setup = engine .setup;
   clients = pendingRaised (engine .clients) (batch .client);
@@ -96,27 +96,27 @@ withBatch engine at batch = record {
 }
 
 -- what submit is refused with, 0 if it is accepted
-abbrev pub submitNumber : Record → (ring : List ℕ) → (client : ℕ) → (batch : List ℕ) → ℕ
+abbrev pub submitNumber : EngineRecord → (ring : List ℕ) → (client : ℕ) → (batch : List ℕ) → ℕ
 submitNumber engine ring client batch = firstRefusal (submitTable engine (length ring) client (length batch))
 
 -- "It takes the lowest free of eight slots"
-abbrev pub submitted : Record → (client size : ℕ) → Record
+abbrev pub submitted : EngineRecord → (client size : ℕ) → EngineRecord
 submitted engine client size = withBatch engine (lowestFree (engine .slots)) (newBatch engine client size)
 
 -- the ticket is the one that was next
-unfoldable pub submitResult : Record → (ring : List ℕ) → (client : ℕ) → (batch : List ℕ) → Reply
+unfoldable pub submitResult : EngineRecord → (ring : List ℕ) → (client : ℕ) → (batch : List ℕ) → Reply
 submitResult engine ring client batch =
     let number : ℕ = submitNumber engine ring client batch in
     record { answer = answerUnlessRefused number (Accepted (engine .next)); engine = unlessRefused number engine (submitted engine client (length batch)) }
 
 -- the ring after it: the batch copied in, other bytes as they were
-unfoldable pub submitRing : Record → (ring : List ℕ) → (client : ℕ) → (batch : List ℕ) → List ℕ
+unfoldable pub submitRing : EngineRecord → (ring : List ℕ) → (client : ℕ) → (batch : List ℕ) → List ℕ
 submitRing engine ring client batch = unlessRefused (submitNumber engine ring client batch) ring (copiedIn ring (writeOffset engine) batch)
 
 -- ---- begin, pieces, cancel (02, 6)
 
 -- the record with another staged submission, or none
-unfoldable pub withStaged : Record → Staged → Record
+unfoldable pub withStaged : EngineRecord → Staged → EngineRecord
 withStaged engine staged = record {
   setup = engine .setup;
   clients = engine .clients;
@@ -127,11 +127,11 @@ withStaged engine staged = record {
 }
 
 -- "begin a batch with its total length": it "holds slot and room", the lowest free slot as by submit; no byte has come
-abbrev pub begun : Record → (client total : ℕ) → Staged
+abbrev pub begun : EngineRecord → (client total : ℕ) → Staged
 begun engine client total = record { client = client; slot = lowestFree (engine .slots); total = total; received = 0 }
 
 -- Begin answers nothing. `ring`: the length of the ring that is lent; it is not written
-unfoldable pub beginResult : Record → (ring client total : ℕ) → Reply
+unfoldable pub beginResult : EngineRecord → (ring client total : ℕ) → Reply
 beginResult engine ring client total =
     let number : ℕ = firstRefusal (submitTable engine ring client total) in
     record { answer = answerUnlessRefused number Done; engine = unlessRefused number engine (withStaged engine (begun engine client total)) }
@@ -145,7 +145,7 @@ abbrev pub more : Staged → (size : ℕ) → Staged
 more g size = withReceived g (g .received + size)
 
 -- what a piece is refused with, 0 if it is accepted
-abbrev pub pieceNumber : Record → (ring : List ℕ) → (client : ℕ) → (piece : List ℕ) → ℕ
+abbrev pub pieceNumber : EngineRecord → (ring : List ℕ) → (client : ℕ) → (piece : List ℕ) → ℕ
 pieceNumber engine ring client piece = firstRefusal (pieceTable engine (length ring) client (length piece))
 
 -- with it the last byte comes
@@ -153,31 +153,31 @@ abbrev pub isLast : Staged → (size : ℕ) → Bool
 isLast g size = eqb (g .received + size) (g .total)
 
 -- "the last piece makes the batch ready, gives it its ticket and raises pending", in the slot that was held
-abbrev pub afterPiece : Record → (size : ℕ) → Record
+abbrev pub afterPiece : EngineRecord → (size : ℕ) → EngineRecord
 afterPiece engine size =
     cond (isLast (engine .staged) size)
     (withBatch engine (engine .staged .slot) (newBatch engine (engine .staged .client) (engine .staged .total)))
     (withStaged engine (more (engine .staged) size))
 
 -- "A piece answers the bytes still to come, the last its ticket."
-abbrev pub pieceAnswer : Record → (size : ℕ) → Answer
+abbrev pub pieceAnswer : EngineRecord → (size : ℕ) → Answer
 pieceAnswer engine size = cond (isLast (engine .staged) size) (Accepted (engine .next)) (Missing (missingBytes (more (engine .staged) size)))
 
-unfoldable pub pieceResult : Record → (ring : List ℕ) → (client : ℕ) → (piece : List ℕ) → Reply
+unfoldable pub pieceResult : EngineRecord → (ring : List ℕ) → (client : ℕ) → (piece : List ℕ) → Reply
 pieceResult engine ring client piece =
     let number : ℕ = pieceNumber engine ring client piece in
     record { answer = answerUnlessRefused number (pieceAnswer engine (length piece)); engine = unlessRefused number engine (afterPiece engine (length piece)) }
 
 -- it goes on where the last one ended
-abbrev pub pieceOffset : Record → ℕ
+abbrev pub pieceOffset : EngineRecord → ℕ
 pieceOffset engine = wrapOffset (engine .setup .ring) (writeOffset engine + engine .staged .received)
 
 -- the ring after it: the piece copied in, other bytes as they were
-unfoldable pub pieceRing : Record → (ring : List ℕ) → (client : ℕ) → (piece : List ℕ) → List ℕ
+unfoldable pub pieceRing : EngineRecord → (ring : List ℕ) → (client : ℕ) → (piece : List ℕ) → List ℕ
 pieceRing engine ring client piece = unlessRefused (pieceNumber engine ring client piece) ring (copiedIn ring (pieceOffset engine) piece)
 
 -- "it can be cancelled, which frees what it held"; cancel answers nothing
-unfoldable pub cancelResult : Record → (client : ℕ) → Reply
+unfoldable pub cancelResult : EngineRecord → (client : ℕ) → Reply
 cancelResult engine client =
     let number : ℕ = firstRefusal (cancelTable engine client) in
     record { answer = answerUnlessRefused number Done; engine = unlessRefused number engine (withStaged engine noStaged) }
@@ -185,7 +185,7 @@ cancelResult engine client =
 -- ---- close (02, 11)
 
 -- the record without a client: "the id and window are free"
-unfoldable pub withoutClient : Record → (client : ℕ) → Record
+unfoldable pub withoutClient : EngineRecord → (client : ℕ) → EngineRecord
 withoutClient engine client = record {
   setup = engine .setup;
   clients = set (engine .clients) client noClient;
@@ -196,7 +196,7 @@ withoutClient engine client = record {
 }
 
 -- close answers nothing. `memory`: the length of the memory that is lent; what becomes of it is the engine's `closeMemory`
-unfoldable pub closeResult : Record → (memory client : ℕ) → Reply
+unfoldable pub closeResult : EngineRecord → (memory client : ℕ) → Reply
 closeResult engine memory client =
     let number : ℕ = firstRefusal (closeTable engine memory client) in
     record { answer = answerUnlessRefused number Done; engine = unlessRefused number engine (withoutClient engine client) }
@@ -204,5 +204,5 @@ closeResult engine memory client =
 -- ---- pending
 
 -- "Pending is the desk's ready batches."
-unfoldable pub pendingAnswer : Record → (client : ℕ) → Answer
+unfoldable pub pendingAnswer : EngineRecord → (client : ℕ) → Answer
 pendingAnswer engine client = answerUnlessRefused (firstRefusal (pendingTable engine client)) (Ready (countOf client (readyBatches (engine .slots))))

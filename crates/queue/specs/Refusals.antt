@@ -7,7 +7,7 @@ use lib.ListN.{length}
 use lib.Dec.{ltb, eqb, leb}
 use Rattle.record.specs.declared.Setup.{Setup}
 use Rattle.record.specs.declared.Window.{Window}
-use Rattle.record.specs.declared.Record.{Record}
+use Rattle.record.specs.declared.EngineRecord.{EngineRecord}
 use Rattle.record.specs.Setup.{badRing, badMemory, badLength}
 use Rattle.record.specs.Slots.{readyBatches, countOf}
 use Rattle.record.specs.Clients.{isOpen, openWindows, badWindow}
@@ -33,7 +33,7 @@ setUpTable setup =
     ∷ []
 
 -- open; '"Four desks open" counts open ones' (02, 11)
-abbrev pub openTable : Record → Window → List RefusalRow
+abbrev pub openTable : EngineRecord → Window → List RefusalRow
 openTable engine w =
     11 when not (valid engine)
     ∷ 3 when leb 4 (length (openWindows engine))
@@ -41,7 +41,7 @@ openTable engine w =
     ∷ []
 
 -- submit and begin ("Beginning makes the checks of submit"); lent: the length of the ring that is lent; size: the batch's length
-abbrev pub submitTable : Record → (lent client size : ℕ) → List RefusalRow
+abbrev pub submitTable : EngineRecord → (lent client size : ℕ) → List RefusalRow
 submitTable engine lent client size =
     11 when not (valid engine)
     ∷ 10 when not (eqb lent (engine .setup .ring))
@@ -53,7 +53,7 @@ submitTable engine lent client size =
     ∷ []
 
 -- a piece; size: its length
-abbrev pub pieceTable : Record → (lent client size : ℕ) → List RefusalRow
+abbrev pub pieceTable : EngineRecord → (lent client size : ℕ) → List RefusalRow
 pieceTable engine lent client size =
     11 when not (valid engine)
     ∷ 10 when not (eqb lent (engine .setup .ring))
@@ -62,7 +62,7 @@ pieceTable engine lent client size =
     ∷ []
 
 -- cancel; no ring is lent to it
-abbrev pub cancelTable : Record → (client : ℕ) → List RefusalRow
+abbrev pub cancelTable : EngineRecord → (client : ℕ) → List RefusalRow
 cancelTable engine client =
     11 when not (valid engine)
     ∷ 5 when not (isOpen engine client)
@@ -70,7 +70,7 @@ cancelTable engine client =
     ∷ []
 
 -- close (02, 11: "It needs no ready batch and no open hand-over of that desk"); lent: the length of the memory that is lent
-abbrev pub closeTable : Record → (lent client : ℕ) → List RefusalRow
+abbrev pub closeTable : EngineRecord → (lent client : ℕ) → List RefusalRow
 closeTable engine lent client =
     11 when not (valid engine)
     ∷ 10 when not (eqb lent (engine .setup .memory))
@@ -79,7 +79,7 @@ closeTable engine lent client =
     ∷ []
 
 -- pending
-abbrev pub pendingTable : Record → (client : ℕ) → List RefusalRow
+abbrev pub pendingTable : EngineRecord → (client : ℕ) → List RefusalRow
 pendingTable engine client =
     11 when not (valid engine)
     ∷ 5 when not (isOpen engine client)

@@ -3,7 +3,7 @@
 ghost use mathlib.Core.Path.{_≡_};
 ghost use mathlib.Core.Bool.{cond};
 ghost use Rattle.record.specs.Staged.{stagedBy};
-use record::Record;
+use record::EngineRecord;
 use record::Staged;
 
 // What a call answers. The paper's numbers are those of `refusalNumberOf` and `valueOf` in specs.
@@ -18,7 +18,7 @@ pub enum Answer {
 
 pub struct Reply {
     pub answer: Answer,
-    pub engine: Record,
+    pub engine: EngineRecord,
 }
 
 // A row of the table, and what the rows after it say.

@@ -8,13 +8,13 @@ pub struct Range {
     pub end: usize,
 }
 
-pub fn least(a: usize, b: usize) -> usize
+pub fn min_usize(a: usize, b: usize) -> usize
     ensures { λ r. ⌜ r ≡ min a b ⌝ }
 {
     if a < b { a } else { b }
 }
 
-fn greatest(a: usize, b: usize) -> usize
+fn max_usize(a: usize, b: usize) -> usize
     ensures { λ r. ⌜ r ≡ max a b ⌝ }
 {
     if a < b { b } else { a }
@@ -39,9 +39,9 @@ impl Range {
     }
 
     // Whether some byte lies in both ranges.
-    pub fn shares(self, other: Range) -> bool
+    pub fn overlaps(self, other: Range) -> bool
         ensures { λ r. ⌜ r ≡ overlaps self other ⌝ }
     {
-        greatest(self.start, other.start) < least(self.end, other.end)
+        max_usize(self.start, other.start) < min_usize(self.end, other.end)
     }
 }

@@ -19,7 +19,7 @@ use Rattle.rows.specs.Row.{colourIn, colourAt, rowStored}
 use Rattle.rows.specs.Mixed.{composite}
 use Rattle.raster.specs.Task.{sourceColour, destinationColour, pixelColour}
 use Rattle.raster.specs.Row.{rowDrawn}
-use Rattle.raster.proofs.Lent.{row-lent, row-ext}
+use Rattle.raster.proofs.Slices.{row-lent, row-ext}
 use Rattle.raster.proofs.Pixel.{pixel-blended}
 
 pub argb-length : (o : Surface) → o .format ≡ Argb8888 → rowLength o ≡ o .width * 4

@@ -2,11 +2,11 @@
 -- what a task of a kind has
 pub mod Parts
 -- one row: lent out of a window, and the window out of memory
-pub mod Lent
+pub mod Slices
 -- a task's pixels go by what it reads
 pub mod Pixel
 -- a task drawn row by row: no row before it changes what a row reads
-pub mod Turn
+pub mod RowByRow
 -- a loop over its rows
 pub mod Upto
 -- where a row lies

@@ -15,7 +15,7 @@ use Rattle.raster.specs.Task.{drawTask, drawTasks}
 use Rattle.raster.specs.Batch.{drawBatch}
 use Rattle.raster.specs.Preconditions.{ValidRectangle}
 use Rattle.raster.specs.WriteFrame.{OutsideRows, OutsideAllRows, outputByte, WriteFrame}
-use Rattle.raster.proofs.Turn.{stride-some}
+use Rattle.raster.proofs.RowByRow.{stride-some}
 use Rattle.raster.proofs.Judged.{rectangle}
 
 module _ (t : Task) (memory : List ℕ) where

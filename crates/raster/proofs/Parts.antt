@@ -10,8 +10,8 @@ use Rattle.pixel.specs.declared.blend.AlphaMode.{AlphaMode}
 use Rattle.pixel.specs.declared.blend.AlphaMode.the-variants.{Pixel, Global, Mixed}
 use Rattle.pixel.specs.declared.blend.Factor.{Factor}
 use Rattle.pixel.specs.declared.blend.Factor.the-variants.{Zero, One, SourceAlpha, InverseSourceAlpha, DestinationAlpha, InverseDestinationAlpha}
-use Rattle.pixel.specs.declared.blend.Rule.{Rule}
-use Rattle.pixel.specs.declared.blend.RuleName.the-variants.{SrcOver}
+use Rattle.pixel.specs.declared.blend.BlendFactors.{BlendFactors}
+use Rattle.pixel.specs.declared.blend.BlendMode.the-variants.{SrcOver}
 use Rattle.pixel.specs.declared.format.Format.the-variants.{Argb8888}
 use Rattle.transform.specs.declared.Rotation.the-variants.{Rotate0}
 use Rattle.register.specs.Task.{isBuffer}
@@ -60,7 +60,7 @@ inverse-is InverseDestinationAlpha e = absurd (false≢true e)
 factors-are : (s d : Factor) → s ≡ One → d ≡ InverseSourceAlpha → record { source = s; destination = d } ≡ blendModeFactors SrcOver
 factors-are s d e f = rw (e, f)
 
-src-over-is : (r : Rule) → isSrcOver r ≡ true → r ≡ blendModeFactors SrcOver
+src-over-is : (r : BlendFactors) → isSrcOver r ≡ true → r ≡ blendModeFactors SrcOver
 src-over-is r e =
     let b = and-true (isOne (r .source)) (isInverseSourceAlpha (r .destination)) e in
     factors-are (r .source) (r .destination) (one-is (r .source) (b .0)) (inverse-is (r .destination) (b .1))

@@ -18,7 +18,7 @@ use Rattle.raster.specs.Task.{pixelColour}
 use Rattle.kinds.specs.Kinds.{isUniform}
 use Rattle.raster.specs.Row.{RowDrawable, SourceRowInBounds, rowDrawn, drawRow}
 use Rattle.raster.proofs.Pixel.{uniform-unread, upright-down}
-use Rattle.raster.proofs.Lent.{window-lent, row-ext}
+use Rattle.raster.proofs.Slices.{window-lent, row-ext}
 
 module _ {window : Range} {memory : List ℕ} {t : Task} {y : ℕ} (r : RowDrawable window memory t y) where
   pub starts : window .start ≤ rowStart (t .output) y

@@ -9,12 +9,12 @@ use Rattle.register.specs.declared.task.Task.{Task}
 use Rattle.raster.specs.Task.{drawTask}
 use Rattle.raster.specs.Preconditions.{Drawable}
 use Rattle.raster.specs.Row.{drawRow, RowDrawable}
-use Rattle.raster.proofs.Turn.{begun, none-begun, length-begun, more-begun, all-begun}
+use Rattle.raster.proofs.RowByRow.{prefix, none-begun, length-begun, prefix-step, prefix-all}
 
 -- the rows before y are drawn
 pub record Upto (t : Task) (memory₀ memory : List ℕ) (y : ℕ) : Type 0 where
   pub bound : y ≤ t .output .height
-  pub is : memory ≡ begun t y memory₀
+  pub is : memory ≡ prefix t y memory₀
 
 pub upto-none : (t : Task) (memory : List ℕ) → Upto t memory memory 0
 upto-none t memory = record { bound = omega arith; is = none-begun t memory }
@@ -31,11 +31,11 @@ module _ {t : Task} {memory₀ memory : List ℕ} {y : ℕ} (u : Upto t memory�
   pub upto-more : {window : Range} → Drawable window (length memory₀) t → y < t .output .height → (memory′ : List ℕ) → memory′ ≡ drawRow t y memory → Upto t memory₀ memory′ (y + 1)
   upto-more {window} d l memory′ h = record {
     bound = omega arith;
-    is = more-begun window _ t (d .clear) memory₀ memory memory′ y l (u .is) h;
+    is = prefix-step window _ t (d .clear) memory₀ memory memory′ y l (u .is) h;
   }
 
   -- all of them are
   pub upto-all : t .output .height ≤ y → memory ≡ drawTask t memory₀
   upto-all l =
       let e : y ≡ t .output .height = omega (arith, u .bound) in
-      u .is ∙ (ap (λ (n : ℕ). begun t n memory₀) e ∙ all-begun t memory₀)
+      u .is ∙ (ap (λ (n : ℕ). prefix t n memory₀) e ∙ prefix-all t memory₀)

@@ -2,12 +2,12 @@
 use mathlib.Core.Path.{_≡_, refl, ap, _∙_}
 use mathlib.Core.Bool.{Bool, true, false, cond}
 use Rattle.record.specs.declared.Checked.{Checked}
-use Rattle.record.specs.declared.Record.{Record}
+use Rattle.record.specs.declared.EngineRecord.{EngineRecord}
 use Rattle.record.specs.Queue.{readySlots, readyBytes}
 use Rattle.record.specs.Rules.{valid}
 use Rattle.record.specs.Checking.{unsound, checkedOf}
 
-module _ (engine : Record) where
+module _ (engine : EngineRecord) where
   pub checked-broken : valid engine ≡ false → unsound ≡ checkedOf engine
   unfolding checkedOf
   checked-broken e = rw e

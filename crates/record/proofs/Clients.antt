@@ -16,7 +16,7 @@ use Rattle.record.specs.declared.Setup.{Setup}
 use Rattle.record.specs.declared.Batch.{Batch}
 use Rattle.record.specs.declared.Client.{Client}
 use Rattle.record.specs.declared.Window.{Window}
-use Rattle.record.specs.declared.Record.{Record}
+use Rattle.record.specs.declared.EngineRecord.{EngineRecord}
 use Rattle.record.specs.Slots.{countOf}
 use Rattle.record.specs.Clients.{noClient, clientAt, isOpen, windowsOf, lowestClosed, windowRange, prefixRange, overlapsAny, badWindow, misplaced, windowsValid, pendingCountsMatch}
 
@@ -92,9 +92,9 @@ module _ (cs : List Client) (k : ℕ) (h : length cs ≤ k) where
   past : drop k cs ≡ []
   past = drop-of-length-le cs {i = k} h
 
-  pub shares-end : (bytes : Range) → overlapsAny bytes (windowsOf (drop k cs)) ≡ false
+  pub overlaps-end : (bytes : Range) → overlapsAny bytes (windowsOf (drop k cs)) ≡ false
   unfolding overlapsAny windowsOf
-  shares-end bytes = rw past
+  overlaps-end bytes = rw past
 
   pub none-end : (setup : Setup) → windowsValid setup (windowsOf (drop k cs)) ≡ true
   unfolding windowsValid windowsOf
@@ -117,12 +117,12 @@ closed-past (c ∷ cs) zero h = absurd (omega arith)
 closed-past (c ∷ cs) (suc k) h = closed-past cs k (omega arith)
 
 -- an open client's id, and its place
-pub open-place : (engine : Record) (k : ℕ) → isOpen engine k ≡ true → (k < 4) × (clientAt engine k .opened ≡ true)
+pub open-place : (engine : EngineRecord) (k : ℕ) → isOpen engine k ≡ true → (k < 4) × (clientAt engine k .opened ≡ true)
 open-place engine k e =
     let both = and-true (ltb k 4) (clientAt engine k .opened) e in
     (ltb-true k 4 (both .0), both .1)
 
-pub place-open : (engine : Record) (k : ℕ) → k < 4 → clientAt engine k .opened ≡ true → isOpen engine k ≡ true
+pub place-open : (engine : EngineRecord) (k : ℕ) → k < 4 → clientAt engine k .opened ≡ true → isOpen engine k ≡ true
 place-open engine k h e = rw (lt-ltb k 4 h, e)
 
 -- ---- the lowest place that is closed

@@ -16,7 +16,7 @@ use Rattle.ring.proofs.Segment.{lies-wrapped}
 use Rattle.ring.proofs.Copied.{segment-copied}
 use Rattle.ring.proofs.View.{segment-kept-on}
 use Rattle.record.specs.declared.Batch.{Batch}
-use Rattle.record.specs.declared.Record.{Record}
+use Rattle.record.specs.declared.EngineRecord.{EngineRecord}
 use Rattle.record.specs.Setup.{badLength}
 use Rattle.record.specs.Slots.{sumOver, totalLength}
 use Rattle.record.specs.Clients.{isOpen}
@@ -34,7 +34,7 @@ lengths-snoc ring (c ∷ bs) b e h =
     let both = and-true (not (badLength ring (c .length))) (lengthsAllowed ring bs) e in
     rw (both .0) (lengths-snoc ring bs b (both .1) h)
 
-pub open-snoc : (engine : Record) (bs : List Batch) (b : Batch) → clientsOpen engine bs ≡ true → isOpen engine (b .client) ≡ true → clientsOpen engine (bs ++ (b ∷ [])) ≡ true
+pub open-snoc : (engine : EngineRecord) (bs : List Batch) (b : Batch) → clientsOpen engine bs ≡ true → isOpen engine (b .client) ≡ true → clientsOpen engine (bs ++ (b ∷ [])) ≡ true
 unfolding clientsOpen
 open-snoc engine [] b e h = rw h
 open-snoc engine (c ∷ bs) b e h =

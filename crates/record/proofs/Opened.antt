@@ -15,7 +15,7 @@ use Rattle.record.specs.declared.Setup.{Setup}
 use Rattle.record.specs.declared.Batch.{Batch}
 use Rattle.record.specs.declared.Client.{Client}
 use Rattle.record.specs.declared.Window.{Window}
-use Rattle.record.specs.declared.Record.{Record}
+use Rattle.record.specs.declared.EngineRecord.{EngineRecord}
 use Rattle.record.specs.Slots.{sumOver, countOf}
 use Rattle.record.specs.Clients.{isOpen, noClient, windowsOf, windowRange, prefixRange, overlapsAny, badWindow, windowsValid, pendingCountsMatch}
 use Rattle.record.specs.Rules.{clientsOpen}
@@ -133,7 +133,7 @@ none-put setup (c ∷ cs) k new e h = place k (λ k r o. none-put setup cs k new
 -- ---- owners
 
 -- a record after it, in which the clients of the batches are open
-pub open-more : (engine after : Record) (bs : List Batch) → ((k : ℕ) → isOpen engine k ≡ true → isOpen after k ≡ true) → clientsOpen engine bs ≡ true → clientsOpen after bs ≡ true
+pub open-more : (engine after : EngineRecord) (bs : List Batch) → ((k : ℕ) → isOpen engine k ≡ true → isOpen after k ≡ true) → clientsOpen engine bs ≡ true → clientsOpen after bs ≡ true
 unfolding clientsOpen
 open-more engine after [] h e = refl
 open-more engine after (b ∷ bs) h e =
@@ -141,7 +141,7 @@ open-more engine after (b ∷ bs) h e =
     rw (h (b .client) (both .0)) (open-more engine after bs h (both .1))
 
 -- a client that is not open has no batch
-pub open-none : (engine : Record) (client : ℕ) (bs : List Batch) → isOpen engine client ≡ false → clientsOpen engine bs ≡ true → countOf client bs ≡ 0
+pub open-none : (engine : EngineRecord) (client : ℕ) (bs : List Batch) → isOpen engine client ≡ false → clientsOpen engine bs ≡ true → countOf client bs ≡ 0
 unfolding clientsOpen sumOver
 open-none engine client [] h e = refl
 open-none engine client (b ∷ bs) h e =
@@ -151,7 +151,7 @@ open-none engine client (b ∷ bs) h e =
     rw (ne-eqb (b .client) client other) (omega arith)
 
 -- the others stay open when one that has no batch is closed
-pub open-fewer : (engine after : Record) (client : ℕ) (bs : List Batch) → ((k : ℕ) → ¬ (k ≡ client) → isOpen engine k ≡ true → isOpen after k ≡ true) → countOf client bs ≡ 0 →
+pub open-fewer : (engine after : EngineRecord) (client : ℕ) (bs : List Batch) → ((k : ℕ) → ¬ (k ≡ client) → isOpen engine k ≡ true → isOpen after k ≡ true) → countOf client bs ≡ 0 →
     clientsOpen engine bs ≡ true → clientsOpen after bs ≡ true
 unfolding clientsOpen sumOver
 open-fewer engine after client [] h n e = refl

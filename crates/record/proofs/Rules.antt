@@ -8,7 +8,7 @@ use lib.Dec.{ltb, eqb}
 use borrow.Author.Tests.{ltb-true, ltb-false, leb-true, eqb-true, eqb-false, not-true, not-false, le-leb}
 use Rattle.word.proofs.Tests.{and-true, or-false}
 use Rattle.record.specs.declared.Setup.{Setup}
-use Rattle.record.specs.declared.Record.{Record}
+use Rattle.record.specs.declared.EngineRecord.{EngineRecord}
 use Rattle.record.specs.Setup.{badRing, badMemory, badLength}
 use Rattle.record.specs.declared.Batch.{Batch}
 use Rattle.record.specs.Slots.{readyBatches, sumOver, totalLength}
@@ -56,13 +56,13 @@ length-good ring size e =
     let z : size ≡ 0 → ⊥ = eqb-false size 0 (y .0) in
     record { some = omega arith; four = eqb-true (size % 4) 0 (not-false (eqb (size % 4) 0) (y .1)); within = ltb-false ring size (x .1) }
 
-pub record Numbers (engine : Record) : Type 0 where
+pub record Numbers (engine : EngineRecord) : Type 0 where
   pub ring : RingGood (engine .setup .ring)
   pub memory : MemoryGood (engine .setup)
   pub four : engine .read % 4 ≡ 0
   pub below : engine .read < engine .setup .ring
 
-pub numbers : (engine : Record) → numberRules engine ≡ true → Numbers engine
+pub numbers : (engine : EngineRecord) → numberRules engine ≡ true → Numbers engine
 numbers engine e =
     let x = and-true (ringRule engine && memoryRule engine) (readRule engine) e in
     let z = and-true (ringRule engine) (memoryRule engine) (x .0) in
@@ -75,7 +75,7 @@ numbers engine e =
     }
 
 -- a record whose numbers are wrong, and one whose numbers are right
-module _ (engine : Record) where
+module _ (engine : EngineRecord) where
   pub valid-not : numberRules engine ≡ false → false ≡ valid engine
   unfolding valid
   valid-not e = rw e
@@ -92,7 +92,7 @@ module _ (engine : Record) where
   valid-rest e h = rw (e, h)
 
 -- the ready batches of a record whose numbers and batches are right lie in the ring's room
-pub settled-bytes : (engine : Record) → batchRules engine ≡ true → length (engine .slots) ≡ 8 → readyBytes engine ≤ engine .setup .ring
+pub settled-bytes : (engine : EngineRecord) → batchRules engine ≡ true → length (engine .slots) ≡ 8 → readyBytes engine ≤ engine .setup .ring
 settled-bytes engine e eight =
     let a = and-true (ticketsRule engine && endToEndRule engine && lengthsRule engine && totalRule engine) (ownersRule engine) e in
     let b = and-true (ticketsRule engine && endToEndRule engine && lengthsRule engine) (totalRule engine) (a .0) in
@@ -102,7 +102,7 @@ settled-bytes engine e eight =
 
 -- ---- every rule of a valid record
 
-pub record Valid (engine : Record) : Type 0 where
+pub record Valid (engine : EngineRecord) : Type 0 where
   pub numbers : Numbers engine
   pub windows : windowsRule engine ≡ true
   pub given : ticketsRule engine ≡ true
@@ -113,7 +113,7 @@ pub record Valid (engine : Record) : Type 0 where
   pub counts : pendingRule engine ≡ true
   pub staged : stagedRule engine ≡ true
 
-pub valid-facts : (engine : Record) → valid engine ≡ true → Valid engine
+pub valid-facts : (engine : EngineRecord) → valid engine ≡ true → Valid engine
 unfolding valid
 valid-facts engine e =
     let u = and-true (numberRules engine && windowsRule engine && batchRules engine && pendingRule engine) (stagedRule engine) e in
@@ -137,13 +137,13 @@ valid-facts engine e =
     }
 
 -- the number rules are kept, and every other one: the record is valid
-pub valid-made : (engine : Record) → numberRules engine ≡ true → windowsRule engine ≡ true → ticketsRule engine ≡ true → endToEndRule engine ≡ true →
+pub valid-made : (engine : EngineRecord) → numberRules engine ≡ true → windowsRule engine ≡ true → ticketsRule engine ≡ true → endToEndRule engine ≡ true →
     lengthsRule engine ≡ true → totalLength (waiting engine) ≤ engine .setup .ring → ownersRule engine ≡ true → pendingRule engine ≡ true →
     stagedRule engine ≡ true → valid engine ≡ true
 unfolding valid
 valid-made engine n w g e l t o c u = rw (n, w, g, e, l, le-leb (totalLength (waiting engine)) (engine .setup .ring) t, o, c, u)
 
-pub numbers-kept : (engine : Record) → valid engine ≡ true → numberRules engine ≡ true
+pub numbers-kept : (engine : EngineRecord) → valid engine ≡ true → numberRules engine ≡ true
 unfolding valid
 numbers-kept engine e =
     let u = and-true (numberRules engine && windowsRule engine && batchRules engine && pendingRule engine) (stagedRule engine) e in
@@ -152,7 +152,7 @@ numbers-kept engine e =
     and-true (numberRules engine) (windowsRule engine) (y .0) .0
 
 -- the batches in order are all that are ready, so sums over the slots are sums over them
-module _ (engine : Record) (v : Valid engine) (few : readySlots engine ≤ 8) where
+module _ (engine : EngineRecord) (v : Valid engine) (few : readySlots engine ≤ 8) where
   pub sum-waiting : (f : Batch → ℕ) → sumOver f (readyBatches (engine .slots)) ≡ sumOver f (waiting engine)
   sum-waiting f = sum-order f (readySlots engine) (engine .next) (engine .slots) refl (omega arith) (v .given)
 

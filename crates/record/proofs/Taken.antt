@@ -15,7 +15,7 @@ use Rattle.ring.proofs.Wrapped.{wrapped-in, wrapped-over, wrapped-below}
 use Rattle.record.specs.declared.Batch.{Batch}
 use Rattle.record.specs.declared.Slot.{Slot}
 use Rattle.record.specs.declared.Client.{Client}
-use Rattle.record.specs.declared.Record.{Record}
+use Rattle.record.specs.declared.EngineRecord.{EngineRecord}
 use Rattle.record.specs.Setup.{badLength}
 use Rattle.record.specs.Slots.{free, readyBatches, sumOver, totalLength}
 use Rattle.record.specs.Tickets.{ticketBefore, slotOfTicket, batchOfTicket, inTicketOrder}
@@ -30,7 +30,7 @@ use Rattle.record.proofs.Unfinished.{staged-stays, freed-free}
 use Rattle.record.proofs.Rules.{LengthGood, length-good, Valid, valid-facts, valid-made, numbers-kept}
 
 -- k batches are ready beside the oldest one
-module _ (engine : Record) (ok : valid engine ≡ true) (k : ℕ) (some : readySlots engine ≡ suc k) (few : k < 8) (four : length (engine .clients) ≡ 4) where
+module _ (engine : EngineRecord) (ok : valid engine ≡ true) (k : ℕ) (some : readySlots engine ≡ suc k) (few : k < 8) (four : length (engine .clients) ≡ 4) where
   v : Valid engine
   v = valid-facts engine ok
 
@@ -99,7 +99,7 @@ module _ (engine : Record) (ok : valid engine ≡ true) (k : ℕ) (some : readyS
   abbrev pub lowered : Client
   lowered = record { window = getD (engine .clients) (first .client) noClient .window; pending = getD (engine .clients) (first .client) noClient .pending - 1; opened = getD (engine .clients) (first .client) noClient .opened }
 
-  abbrev pub taken : Record
+  abbrev pub taken : EngineRecord
   taken = record {
     setup = engine .setup;
     clients = set (engine .clients) (first .client) lowered;

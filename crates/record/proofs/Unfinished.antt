@@ -14,7 +14,7 @@ use Rattle.record.specs.declared.Slot.{Slot}
 use Rattle.record.specs.declared.SlotState.{SlotState}
 use Rattle.record.specs.declared.SlotState.the-variants.{Free, Ready}
 use Rattle.record.specs.declared.Staged.{Staged}
-use Rattle.record.specs.declared.Record.{Record}
+use Rattle.record.specs.declared.EngineRecord.{EngineRecord}
 use Rattle.record.specs.Setup.{badLength}
 use Rattle.record.specs.Slots.{free, isFreeState}
 use Rattle.record.specs.Staged.{noStaged, isIdle, slotHeld}
@@ -40,7 +40,7 @@ pick-true b x y e = rw e
 pick-false : (b x y : Bool) → b ≡ false → cond b x y ≡ y
 pick-false b x y e = rw e
 
-pub record Unfinished (engine : Record) : Type 0 where
+pub record Unfinished (engine : EngineRecord) : Type 0 where
   pub owner : isOpen engine (engine .staged .client) ≡ true
   pub allowed : badLength (engine .setup .ring) (engine .staged .total) ≡ false
   pub room : readyBytes engine + engine .staged .total ≤ engine .setup .ring
@@ -48,7 +48,7 @@ pub record Unfinished (engine : Record) : Type 0 where
   pub slot : engine .staged .slot < 8
   pub held : getD (engine .slots) (engine .staged .slot) free .state ≡ Free
 
-module _ (engine : Record) where
+module _ (engine : EngineRecord) where
   pub staged-idle : stagedRule engine ≡ true → isIdle (engine .staged) ≡ true → engine .staged ≡ noStaged
   staged-idle e i =
       let r : idleRule engine ≡ true = sym (pick-true (isIdle (engine .staged)) (idleRule engine) (unfinishedRule engine) i) ∙ e in
@@ -100,7 +100,7 @@ module _ (engine : Record) where
       go false i = inr (i, staged-open e i)
 
 -- a record after it, with the same staged submission, whose client stays open, that frees slots and room
-pub staged-stays : (engine after : Record) → after .staged ≡ engine .staged → after .setup .ring ≡ engine .setup .ring →
+pub staged-stays : (engine after : EngineRecord) → after .staged ≡ engine .staged → after .setup .ring ≡ engine .setup .ring →
     (isIdle (engine .staged) ≡ false → isOpen engine (engine .staged .client) ≡ true → isOpen after (engine .staged .client) ≡ true) →
     readyBytes after ≤ readyBytes engine → ((i : ℕ) → getD (engine .slots) i free .state ≡ Free → getD (after .slots) i free .state ≡ Free) →
     stagedRule engine ≡ true → stagedRule after ≡ true
@@ -157,7 +157,7 @@ slot-out slots at h = rw (over-ltb at 8 h)
 pub slot-in : (slots : List Slot) (at : ℕ) → at < 8 → isFreeState (getD slots at free .state) ≡ slotHeld slots at
 slot-in slots at h = rw (lt-ltb at 8 h)
 
-module _ (engine : Record) where
+module _ (engine : EngineRecord) where
   pub none-test : engine .staged .total ≡ 0 → idleRule engine ≡ stagedRule engine
   none-test e = sym (pick-true (isIdle (engine .staged)) (idleRule engine) (unfinishedRule engine) (eq-eqb _ _ e))
 

@@ -12,7 +12,7 @@ use Rattle.word.proofs.Tests.{split, and-true}
 use Rattle.ring.specs.Segment.{wrapOffset}
 use Rattle.record.specs.declared.Batch.{Batch}
 use Rattle.record.specs.declared.Slot.{Slot}
-use Rattle.record.specs.declared.Record.{Record}
+use Rattle.record.specs.declared.EngineRecord.{EngineRecord}
 use Rattle.record.specs.Setup.{badLength}
 use Rattle.record.specs.Slots.{free, sumOver, totalLength}
 use Rattle.record.specs.Tickets.{ticketBefore, slotOfTicket, isReadyTicket, batchInState, batchOfTicket, ticketsConsecutive, inTicketOrder}
@@ -117,7 +117,7 @@ leb-add x y n = ⊎-elim over under (split n x)
         (λ (p : x + y ≤ n). rw (le-leb x n h, le-leb (x + y) n p, le-leb y (n - x) (omega arith)))
         (split n (x + y))
 
-pub walk-rules : (engine : Record) (ring k next : ℕ) (slots : List Slot) (offset room : ℕ) →
+pub walk-rules : (engine : EngineRecord) (ring k next : ℕ) (slots : List Slot) (offset room : ℕ) →
     walk ring (isOpen engine) k next slots offset room ≡
     (ticketsConsecutive k next slots && endToEnd ring offset (inTicketOrder k next slots) && lengthsAllowed ring (inTicketOrder k next slots)
     && leb (totalLength (inTicketOrder k next slots)) room && clientsOpen engine (inTicketOrder k next slots))

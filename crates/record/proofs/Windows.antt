@@ -15,7 +15,7 @@ use Rattle.range.proofs.Laws.{inside-ends}
 use Rattle.record.specs.declared.Setup.{Setup}
 use Rattle.record.specs.declared.Window.{Window}
 use Rattle.record.specs.declared.Client.{Client}
-use Rattle.record.specs.declared.Record.{Record}
+use Rattle.record.specs.declared.EngineRecord.{EngineRecord}
 use Rattle.record.specs.Clients.{noClient, clientAt, isOpen, windowsOf, windowRange, prefixRange, overlapsAny, badWindow, windowsValid}
 use Rattle.record.proofs.Clients.{shares-cons, valid-cons, open-place}
 use Rattle.record.proofs.Opened.{window-good}
@@ -66,7 +66,7 @@ module _ (setup : Setup) where
       shares-at (windowRange (c .window)) k cs (good .apart) p
   none-apart (suc j) (suc k) (c ∷ cs) e h o p = none-apart j k cs (both-valid c cs e .1) (omega arith) o p
 
-module _ (engine : Record) (v : Valid engine) where
+module _ (engine : EngineRecord) (v : Valid engine) where
   pub window-placed : (client : ℕ) → isOpen engine client ≡ true → Placed (engine .setup) (clientAt engine client .window)
   window-placed client o = none-placed (engine .setup) client (engine .clients) (v .windows) (open-place engine client o .1)
 

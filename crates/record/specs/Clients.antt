@@ -11,7 +11,7 @@ use Rattle.record.specs.declared.Setup.{Setup}
 use Rattle.record.specs.declared.Window.{Window}
 use Rattle.record.specs.declared.Client.{Client}
 use Rattle.record.specs.declared.Batch.{Batch}
-use Rattle.record.specs.declared.Record.{Record}
+use Rattle.record.specs.declared.EngineRecord.{EngineRecord}
 use Rattle.record.specs.Slots.{countOf}
 
 -- what a place holds that was never opened, or that was closed
@@ -19,11 +19,11 @@ abbrev pub noClient : Client
 noClient = record { window = record { start = 0; length = 0 }; pending = 0; opened = false }
 
 -- the place of an id
-abbrev pub clientAt : Record → ℕ → Client
+abbrev pub clientAt : EngineRecord → ℕ → Client
 clientAt engine client = getD (engine .clients) client noClient
 
 -- there is such a client; "ids are 0 to 3"
-abbrev pub isOpen : Record → ℕ → Bool
+abbrev pub isOpen : EngineRecord → ℕ → Bool
 isOpen engine client = ltb client 4 && clientAt engine client .opened
 
 -- the windows of the open clients, in the order of their ids
@@ -32,7 +32,7 @@ windowsOf [] = []
 windowsOf (c ∷ cs) = cond (c .opened) (c .window ∷ windowsOf cs) (windowsOf cs)
 
 -- the windows that are taken
-abbrev pub openWindows : Record → List Window
+abbrev pub openWindows : EngineRecord → List Window
 openWindows engine = windowsOf (engine .clients)
 
 -- 02, 11: "opening takes the lowest free id"; the number of places if none is free

@@ -65,7 +65,7 @@ pub struct Staged {
 }
 
 // The engine record (01: record), handed in and out by value. A client's id is its place; any of the four may be open.
-pub struct Record {
+pub struct EngineRecord {
     pub setup: Setup,
     pub clients: [Client; 4],
     pub slots: [Slot; 8],
@@ -230,7 +230,7 @@ pub fn slot_of_age(slots: [Slot; 8], next: u32, k: usize) -> usize
 }
 
 // An offset that may have run over the ring's end goes on at byte 0.
-pub fn wrap(ring: usize, offset: usize) -> usize
+pub fn wrap_offset(ring: usize, offset: usize) -> usize
     ensures { λ r. ⌜ r ≡ wrapOffset ring offset ⌝ }
 {
     if offset < ring { offset } else { offset - ring }
@@ -244,7 +244,7 @@ fn overlaps_any(clients: [Client; 4], from: usize, bytes: Range) -> bool
     while i < 4 {
         let client = clients[i];
         let other = client.window;
-        let shared = bytes.shares(Range::new(other.start, other.length));
+        let shared = bytes.overlaps(Range::new(other.start, other.length));
         if client.opened & shared {
             return true;
         }
@@ -267,7 +267,7 @@ pub fn bad_window(setup: Setup, clients: [Client; 4], from: usize, w: Window) ->
         end: setup.common,
     };
     let crowded = overlaps_any(clients, from, mine);
-    (w.length == 0) | !mine.is_inside(memory) | mine.shares(common) | crowded
+    (w.length == 0) | !mine.is_inside(memory) | mine.overlaps(common) | crowded
 }
 
 // Whether the client at a place is open, and its window bad beside those of the later ones. A closed one's window is not looked at.
@@ -335,7 +335,7 @@ pub fn lowest_closed(clients: [Client; 4]) -> usize
 }
 
 // Whether a client is open.
-pub fn is_open(engine: Record, client: u32) -> bool
+pub fn is_open(engine: EngineRecord, client: u32) -> bool
     ensures { λ r. ⌜ r ≡ isOpen engine client ⌝ }
 {
     let clients = engine.clients;
@@ -356,7 +356,7 @@ fn fits_in(ring: usize, offset: usize, room: usize, owned: bool, b: Batch) -> bo
 }
 
 // Whether the ready batches, so many, from the oldest on lie end to end from the read offset and keep their other rules.
-fn batches_valid(engine: Record, ready: usize) -> bool
+fn batches_valid(engine: EngineRecord, ready: usize) -> bool
     requires { ⌜ (engine .setup .ring ≤ 32768) × (engine .read < engine .setup .ring) × (ready ≡ readySlots engine) × (ready ≤ 8) × (length (engine .slots) ≡ 8) ⌝ }
     ensures { λ r. ⌜ r ≡ batchRules engine ⌝ }
 {
@@ -378,14 +378,14 @@ fn batches_valid(engine: Record, ready: usize) -> bool
             return false;
         }
         let size = b.length;
-        offset = wrap(ring, offset + size);
+        offset = wrap_offset(ring, offset + size);
         room -= size;
         k -= 1;
     }
     true
 }
 
-fn numbers_valid(engine: Record) -> bool
+fn numbers_valid(engine: EngineRecord) -> bool
     ensures { λ r. ⌜ r ≡ numberRules engine ⌝ }
 {
     let setup = engine.setup;
@@ -417,7 +417,7 @@ fn slot_held(slots: [Slot; 8], at: usize) -> bool
 }
 
 // Whether the unfinished batch keeps its rules, or there is none.
-fn staged_valid(engine: Record) -> bool
+fn staged_valid(engine: EngineRecord) -> bool
     requires { ⌜ (numberRules engine ≡ true) × (batchRules engine ≡ true) ⌝ }
     ensures { λ r. ⌜ r ≡ stagedRule engine ⌝ }
 {
@@ -436,7 +436,7 @@ fn staged_valid(engine: Record) -> bool
 }
 
 // Whether the record, with so many ready slots, keeps every rule.
-fn rules_kept(engine: Record, ready: usize) -> bool
+fn rules_kept(engine: EngineRecord, ready: usize) -> bool
     requires { ⌜ (ready ≡ readySlots engine) × (ready ≤ 8) × (length (engine .slots) ≡ 8) ⌝ }
     ensures { λ r. ⌜ r ≡ valid engine ⌝ }
 {
@@ -463,7 +463,7 @@ pub struct Checked {
 }
 
 // Checks a record. A call does so once and hands on what was found: a pass over the slots, and the copy of them that it takes, cost more than the rest of the call.
-pub fn check(engine: Record) -> Checked
+pub fn check(engine: EngineRecord) -> Checked
     ensures { λ r. ⌜ (r ≡ checkedOf engine) × (readySlots engine ≤ 8) × (length (engine .slots) ≡ 8) ⌝ }
 {
     let slots = engine.slots;
@@ -483,7 +483,7 @@ pub fn check(engine: Record) -> Checked
 }
 
 // Whether the record keeps every rule.
-pub fn is_valid(engine: Record) -> bool
+pub fn is_valid(engine: EngineRecord) -> bool
     ensures { λ r. ⌜ r ≡ valid engine ⌝ }
 {
     let found = check(engine);

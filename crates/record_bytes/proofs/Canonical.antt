@@ -12,7 +12,7 @@ use Rattle.word.proofs.Tests.{and-true}
 use Rattle.word.proofs.Words.{length-words}
 use Rattle.reset.specs.Reset.{isRuleNumber}
 use Rattle.reset.proofs.Numbers.{number-back}
-use Rattle.record.specs.declared.Record.{Record}
+use Rattle.record.specs.declared.EngineRecord.{EngineRecord}
 use Rattle.record.specs.declared.Slot.{Slot}
 use Rattle.record_bytes.specs.declared.Row.{Row}
 use Rattle.record_bytes.specs.Layout.{wordAt, low}
@@ -121,13 +121,13 @@ slots ws h =
     ((a1 .0), a1 .1, a2 .1, a3 .1, a4 .1, a5 .1, a6 .1, a7 .1)
 
 -- the words of a record, with rows that may be another's
-unfoldable wordsWith : Record → (s0 s1 s2 s3 s4 s5 s6 s7 : Row) → List ℕ
+unfoldable wordsWith : EngineRecord → (s0 s1 s2 s3 s4 s5 s6 s7 : Row) → List ℕ
 wordsWith r s0 s1 s2 s3 s4 s5 s6 s7 =
     headWords r ++ (clientsWords (r .clients)
     ++ ((rowWords s0 ++ (rowWords s1 ++ (rowWords s2 ++ (rowWords s3 ++ (rowWords s4 ++ (rowWords s5 ++ (rowWords s6 ++ rowWords s7)))))))
     ++ stagedWords (r .staged)))
 
-module _ (r : Record) {s0 s1 s2 s3 s4 s5 s6 s7 : Row} where
+module _ (r : EngineRecord) {s0 s1 s2 s3 s4 s5 s6 s7 : Row} where
   rows-are : s0 ≡ rowAt (r .slots) 0 → s1 ≡ rowAt (r .slots) 1 → s2 ≡ rowAt (r .slots) 2 → s3 ≡ rowAt (r .slots) 3 →
       s4 ≡ rowAt (r .slots) 4 → s5 ≡ rowAt (r .slots) 5 → s6 ≡ rowAt (r .slots) 6 → s7 ≡ rowAt (r .slots) 7 →
       wordsWith r s0 s1 s2 s3 s4 s5 s6 s7 ≡ wordsOf r

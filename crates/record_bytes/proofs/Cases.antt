@@ -13,7 +13,7 @@ use Rattle.record.specs.Rules.{valid}
 use Rattle.word.specs.Word.{wordsBytes, words}
 use Rattle.word.specs.Splice.{spliced}
 use Rattle.word.proofs.Written.{length-bytes, write-on}
-use Rattle.record.specs.declared.Record.{Record}
+use Rattle.record.specs.declared.EngineRecord.{EngineRecord}
 use Rattle.record_bytes.specs.Layout.{wordAt}
 use Rattle.record_bytes.specs.Written.{headWords, clientsWords, slotsWords, stagedWords, wordsOf, bytesOf, written}
 use Rattle.record_bytes.specs.Read.{slotsRight, fixedRight, isRecord, recordIn, noRecord, recordOf}
@@ -29,21 +29,21 @@ pub judged-short : (bytes : List ℕ) → (length bytes ≡ 272 → ⊥) → isR
 unfolding isRecord
 judged-short bytes n = rw (ne-eqb (length bytes) 272 n)
 
-pub is-none : (bytes : List ℕ) (r : Record) → isRecord bytes ≡ false → r ≡ noRecord → r ≡ recordOf bytes
+pub is-none : (bytes : List ℕ) (r : EngineRecord) → isRecord bytes ≡ false → r ≡ noRecord → r ≡ recordOf bytes
 unfolding recordOf
 is-none bytes r e is = rw e is
 
-pub is-some : (bytes : List ℕ) (r : Record) → isRecord bytes ≡ true → r ≡ recordIn (words bytes) → r ≡ recordOf bytes
+pub is-some : (bytes : List ℕ) (r : EngineRecord) → isRecord bytes ≡ true → r ≡ recordIn (words bytes) → r ≡ recordOf bytes
 unfolding recordOf
 is-some bytes r e is = rw e is
 
 -- ---- encode
 
-length-words : (r : Record) → length (wordsOf r) ≡ 68
+length-words : (r : EngineRecord) → length (wordsOf r) ≡ 68
 unfolding wordsOf
 length-words r = refl
 
-pub length-record : (r : Record) → length (bytesOf r) ≡ 272
+pub length-record : (r : EngineRecord) → length (bytesOf r) ≡ 272
 unfolding bytesOf
 length-record r = omega (arith, length-bytes (wordsOf r), length-words r)
 
@@ -55,7 +55,7 @@ all-put ys xs e =
     ap (λ (l : List ℕ). ys ++ l) (drop-of-length-le xs {i = 0 + length ys} all) ∙ append-nil ys
 
 -- the four parts of a record, each where the one before it ends
-parts : (r : Record) (bytes : List ℕ) → length bytes ≡ 272 →
+parts : (r : EngineRecord) (bytes : List ℕ) → length bytes ≡ 272 →
     spliced 256 (wordsBytes (stagedWords (r .staged))) (spliced 96 (wordsBytes (slotsWords (r .slots))) (spliced 32 (wordsBytes (clientsWords (r .clients))) (spliced 0 (wordsBytes (headWords r)) bytes)))
     ≡ spliced 0 (bytesOf r) bytes
 unfolding bytesOf wordsOf
@@ -66,14 +66,14 @@ parts r bytes n =
     let g : List ℕ = stagedWords (r .staged) in
     rw (write-on 0 h c bytes (omega arith), write-on 0 (h ++ c) s bytes (omega arith)) (write-on 0 ((h ++ c) ++ s) g bytes (omega arith))
 
-pub wrote : (r : Record) (head staged bytes b1 b2 b3 now : List ℕ) → length bytes ≡ 272 → head ≡ headWords r → staged ≡ stagedWords (r .staged) →
+pub wrote : (r : EngineRecord) (head staged bytes b1 b2 b3 now : List ℕ) → length bytes ≡ 272 → head ≡ headWords r → staged ≡ stagedWords (r .staged) →
     b1 ≡ spliced 0 (wordsBytes head) bytes → b2 ≡ spliced 32 (wordsBytes (clientsWords (r .clients))) b1 → b3 ≡ spliced 96 (wordsBytes (slotsWords (r .slots))) b2 →
     now ≡ spliced 256 (wordsBytes staged) b3 → now ≡ written r bytes
 unfolding written
 wrote r head staged bytes b1 b2 b3 now n h g e1 e2 e3 e4 =
     rw (e4, e3, e2, e1, h, g, eq-eqb (length bytes) 272 n) (parts r bytes n ∙ all-put (bytesOf r) bytes (length-record r ∙ sym n))
 
-pub left-alone : (r : Record) (bytes : List ℕ) → (length bytes ≡ 272 → ⊥) → bytes ≡ written r bytes
+pub left-alone : (r : EngineRecord) (bytes : List ℕ) → (length bytes ≡ 272 → ⊥) → bytes ≡ written r bytes
 unfolding written
 left-alone r bytes n = rw (ne-eqb (length bytes) 272 n)
 
@@ -95,6 +95,6 @@ pub record-size : (bytes : List ℕ) → isRecord bytes ≡ true → length byte
 unfolding isRecord
 record-size bytes e = eqb-true (length bytes) 272 (and-true (eqb (length bytes) 272) (isRuleNumber (wordAt (words bytes) 3) && fixedRight (words bytes) && slotsRight (words bytes)) e .0)
 
-pub written-whole : (r : Record) (bytes : List ℕ) → length bytes ≡ 272 → written r bytes ≡ bytesOf r
+pub written-whole : (r : EngineRecord) (bytes : List ℕ) → length bytes ≡ 272 → written r bytes ≡ bytesOf r
 unfolding written
 written-whole r bytes n = rw (eq-eqb (length bytes) 272 n)

@@ -14,7 +14,7 @@ use Rattle.record.specs.declared.Batch.{Batch}
 use Rattle.record.specs.declared.Slot.{Slot}
 use Rattle.record.specs.declared.SlotState.{SlotState}
 use Rattle.record.specs.declared.SlotState.the-variants.{Free, Ready}
-use Rattle.record.specs.declared.Record.{Record}
+use Rattle.record.specs.declared.EngineRecord.{EngineRecord}
 use Rattle.record.specs.Setup.{badLength}
 use Rattle.record.specs.Slots.{consIfReady, readyBatches, sumOver}
 use Rattle.record.specs.Queue.{readySlots, waiting}
@@ -63,14 +63,14 @@ all-small (s ∷ ss) e = go (s .state) refl (all-small ss) e
     go Free p others q = (rw p tt, others q)
     go (Ready b) p others q = (rw p (not-big b (sumOver big (readyBatches ss)) q), others (omega arith))
 
-staged-fits : (r : Record) → stagedRule r ≡ true → r .setup .ring ≤ 32768 → (r .staged .slot < 2 ^ 32) × (r .staged .total < 2 ^ 32) × (r .staged .received < 2 ^ 32)
+staged-fits : (r : EngineRecord) → stagedRule r ≡ true → r .setup .ring ≤ 32768 → (r .staged .slot < 2 ^ 32) × (r .staged .total < 2 ^ 32) × (r .staged .received < 2 ^ 32)
 staged-fits r e small =
     ⊎-elim
     (λ (n : r .staged ≡ noStaged). rw n (omega arith, omega arith, omega arith))
     (λ (u : (isIdle (r .staged) ≡ false) × Unfinished r). (omega (arith, u .1 .slot), omega (arith, u .1 .room), omega (arith, u .1 .room, u .1 .short)))
     (staged-cases r e)
 
-pub fits : (r : Record) → Typed r → valid r ≡ true → Small r
+pub fits : (r : EngineRecord) → Typed r → valid r ≡ true → Small r
 fits r t ok =
     let v = valid-facts r ok in
     let ring = v .numbers .ring .small in
@@ -89,5 +89,5 @@ fits r t ok =
       staged = staged-fits r (v .staged) ring;
     }
 
-pub round-trip : (r : Record) → RoundTrip r
+pub round-trip : (r : EngineRecord) → RoundTrip r
 round-trip r = record { back = back r; fits = fits r }

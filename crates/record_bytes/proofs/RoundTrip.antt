@@ -14,7 +14,7 @@ use Rattle.record.specs.declared.Client.{Client}
 use Rattle.record.specs.declared.Slot.{Slot}
 use Rattle.record.specs.declared.SlotState.{SlotState}
 use Rattle.record.specs.declared.SlotState.the-variants.{Free, Ready}
-use Rattle.record.specs.declared.Record.{Record}
+use Rattle.record.specs.declared.EngineRecord.{EngineRecord}
 use Rattle.record.specs.Slots.{free}
 use Rattle.record.specs.Clients.{noClient}
 use Rattle.record_bytes.specs.declared.Row.{Row}
@@ -80,7 +80,7 @@ row-back ws k s small h = go (s .state) small h
 
 -- ---- the words of a record
 
-module _ (r : Record) where
+module _ (r : EngineRecord) where
   abbrev at : ℕ → Slot
   at i = getD (r .slots) i free
 

@@ -16,7 +16,7 @@ use Rattle.record.specs.declared.SlotState.{SlotState}
 use Rattle.record.specs.declared.SlotState.the-variants.{Free, Ready}
 use Rattle.record.specs.declared.Setup.{Setup}
 use Rattle.record.specs.declared.Staged.{Staged}
-use Rattle.record.specs.declared.Record.{Record}
+use Rattle.record.specs.declared.EngineRecord.{EngineRecord}
 use Rattle.record.specs.Slots.{free}
 use Rattle.record.specs.Clients.{noClient}
 use Rattle.record_bytes.specs.declared.Row.{Row}
@@ -73,7 +73,7 @@ row-then {K} s h k = go (s .state) h
     go Free h = (zero-below, (zero-below, (zero-below, (zero-below, (zero-below, k)))))
     go (Ready b) h = (one-below, (h .0, (h .1, (low-below (b .offset), (low-below (b .length), k)))))
 
-module _ (r : Record) (t : Typed r) where
+module _ (r : EngineRecord) (t : Typed r) where
   client : {K : Type 0} (i : ℕ) → K → ClientBelow (getD (r .clients) i noClient) K
   client i k = client-then (getD (r .clients) i noClient) (client-at ClientTyped (zero-below, zero-below, zero-below) (r .clients) (t .clients) i) k
 

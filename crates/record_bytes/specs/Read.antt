@@ -11,7 +11,7 @@ use Rattle.record.specs.declared.Setup.{Setup}
 use Rattle.record.specs.declared.Client.{Client}
 use Rattle.record.specs.declared.Batch.{Batch}
 use Rattle.record.specs.declared.Slot.{Slot}
-use Rattle.record.specs.declared.Record.{Record}
+use Rattle.record.specs.declared.EngineRecord.{EngineRecord}
 use Rattle.record.specs.declared.Staged.{Staged}
 use Rattle.record.specs.Staged.{noStaged}
 use Rattle.record.specs.Slots.{free, readyWith}
@@ -67,7 +67,7 @@ slotsIn ws =
 abbrev pub stagedIn : List ℕ → Staged
 stagedIn ws = record { client = wordAt ws 64; slot = wordAt ws 65; total = wordAt ws 66; received = wordAt ws 67 }
 
-unfoldable pub recordIn : List ℕ → Record
+unfoldable pub recordIn : List ℕ → EngineRecord
 recordIn ws = record {
   setup = setupIn ws;
   clients = clientsIn ws;
@@ -78,7 +78,7 @@ recordIn ws = record {
 }
 
 -- a record of no engine
-unfoldable pub noRecord : Record
+unfoldable pub noRecord : EngineRecord
 noRecord = record {
   setup = record { ring = 0; memory = 0; common = 0; reset = Unblended };
   clients = noClient ∷ noClient ∷ noClient ∷ noClient ∷ [];
@@ -88,5 +88,5 @@ noRecord = record {
   staged = noStaged;
 }
 
-unfoldable pub recordOf : (bytes : List ℕ) → Record
+unfoldable pub recordOf : (bytes : List ℕ) → EngineRecord
 recordOf bytes = cond (isRecord bytes) (recordIn (words bytes)) noRecord

@@ -9,7 +9,7 @@ use Rattle.record.specs.declared.Client.{Client}
 use Rattle.record.specs.declared.Slot.{Slot}
 use Rattle.record.specs.declared.SlotState.{SlotState}
 use Rattle.record.specs.declared.SlotState.the-variants.{Free, Ready}
-use Rattle.record.specs.declared.Record.{Record}
+use Rattle.record.specs.declared.EngineRecord.{EngineRecord}
 use Rattle.record.specs.Rules.{valid}
 use Rattle.record_bytes.specs.Written.{bytesOf}
 use Rattle.record_bytes.specs.Read.{isRecord, recordOf}
@@ -31,7 +31,7 @@ abbrev pub StateTyped : SlotState → Type 0
 StateTyped Free = Unit {0}
 StateTyped (Ready b) = (b .client < 2 ^ 32) × (b .ticket < 2 ^ 32)
 
-pub record Typed (r : Record) : Type 0 where
+pub record Typed (r : EngineRecord) : Type 0 where
   pub four : length (r .clients) ≡ 4
   pub eight : length (r .slots) ≡ 8
   pub clients : AllClients ClientTyped (r .clients)
@@ -45,7 +45,7 @@ abbrev pub StateSmall : SlotState → Type 0
 StateSmall Free = Unit {0}
 StateSmall (Ready b) = (b .offset < 2 ^ 32) × (b .length < 2 ^ 32)
 
-pub record Small (r : Record) : Type 0 where
+pub record Small (r : EngineRecord) : Type 0 where
   pub ring : r .setup .ring < 2 ^ 32
   pub memory : r .setup .memory < 2 ^ 32
   pub common : r .setup .common < 2 ^ 32
@@ -55,7 +55,7 @@ pub record Small (r : Record) : Type 0 where
 
 -- ---- the promises
 
-pub record RoundTrip (r : Record) : Type 0 where
+pub record RoundTrip (r : EngineRecord) : Type 0 where
   -- every record whose numbers fit
   pub back : Typed r → Small r → recordOf (bytesOf r) ≡ r
   -- those of a valid record do

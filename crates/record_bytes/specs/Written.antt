@@ -11,7 +11,7 @@ use Rattle.record.specs.declared.Batch.{Batch}
 use Rattle.record.specs.declared.Slot.{Slot}
 use Rattle.record.specs.declared.SlotState.{SlotState}
 use Rattle.record.specs.declared.SlotState.the-variants.{Free, Ready}
-use Rattle.record.specs.declared.Record.{Record}
+use Rattle.record.specs.declared.EngineRecord.{EngineRecord}
 use Rattle.record.specs.declared.Staged.{Staged}
 use Rattle.record.specs.Slots.{free}
 use Rattle.record.specs.Tickets.{batchInState}
@@ -19,7 +19,7 @@ use Rattle.record.specs.Clients.{noClient}
 use Rattle.record_bytes.specs.declared.Row.{Row}
 use Rattle.record_bytes.specs.Layout.{low}
 
-abbrev pub headWords : Record → List ℕ
+abbrev pub headWords : EngineRecord → List ℕ
 headWords r = low (r .setup .ring) ∷ low (r .setup .memory) ∷ low (r .setup .common) ∷ numberOf (r .setup .reset) ∷ 0 ∷ low (r .read) ∷ r .next ∷ 0 ∷ []
 
 -- open or not
@@ -57,12 +57,12 @@ slotsWords ss =
     rowWords (rowAt ss 0) ++ (rowWords (rowAt ss 1) ++ (rowWords (rowAt ss 2) ++ (rowWords (rowAt ss 3)
     ++ (rowWords (rowAt ss 4) ++ (rowWords (rowAt ss 5) ++ (rowWords (rowAt ss 6) ++ rowWords (rowAt ss 7)))))))
 
-unfoldable pub wordsOf : Record → List ℕ
+unfoldable pub wordsOf : EngineRecord → List ℕ
 wordsOf r = headWords r ++ (clientsWords (r .clients) ++ (slotsWords (r .slots) ++ stagedWords (r .staged)))
 
-unfoldable pub bytesOf : Record → List ℕ
+unfoldable pub bytesOf : EngineRecord → List ℕ
 bytesOf r = wordsBytes (wordsOf r)
 
 -- Internal: a buffer of another length stays as it was
-unfoldable pub written : Record → List ℕ → List ℕ
+unfoldable pub written : EngineRecord → List ℕ → List ℕ
 written r bytes = cond (eqb (length bytes) 272) (bytesOf r) bytes

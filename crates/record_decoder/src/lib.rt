@@ -7,7 +7,7 @@ ghost use Rattle.record_bytes.specs.Layout.{wordAt};
 ghost use Rattle.record_bytes.specs.Read.{slotRight, slotsRight, fixedRight, isRecord, setupIn, clientIn, batchIn, slotIn, clientsIn, slotsIn, stagedIn, recordIn, noRecord, recordOf};
 use record::Batch;
 use record::Client;
-use record::Record;
+use record::EngineRecord;
 use record::Setup;
 use record::Slot;
 use record::SlotState;
@@ -122,11 +122,11 @@ fn staged_in(bytes: &[u8]) -> Staged
     }
 }
 
-fn record_in(bytes: &[u8]) -> Record
+fn record_in(bytes: &[u8]) -> EngineRecord
     requires { ⌜ length (now bytes) ≡ 272 ⌝ }
     ensures { λ r. ⌜ r ≡ recordIn (words (now (bytes .entry))) ⌝ }
 {
-    Record {
+    EngineRecord {
         setup: setup_in(bytes),
         clients: clients_in(bytes),
         slots: slots_in(bytes),
@@ -176,7 +176,7 @@ fn fixed_right(bytes: &[u8]) -> bool
         & (word_at(bytes, 23) <= 1)
 }
 
-fn no_record() -> Record
+fn no_record() -> EngineRecord
     ensures { λ r. ⌜ r ≡ noRecord ⌝ }
 {
     let clients = [Client {
@@ -190,7 +190,7 @@ fn no_record() -> Record
     let slots = [Slot {
         state: SlotState::Free,
     }; 8];
-    Record {
+    EngineRecord {
         setup: Setup {
             ring: 0,
             memory: 0,
@@ -206,7 +206,7 @@ fn no_record() -> Record
 }
 
 // The record that bytes stand for.
-pub fn decode(bytes: &[u8]) -> Record
+pub fn decode(bytes: &[u8]) -> EngineRecord
     ensures { λ r. ⌜ r ≡ recordOf (now (bytes .entry)) ⌝ }
 {
     if bytes.len() != 272 {

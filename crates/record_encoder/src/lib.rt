@@ -5,7 +5,7 @@ ghost use Rattle.word.specs.Word.{wordsBytes};
 ghost use Rattle.word.specs.Splice.{spliced};
 ghost use Rattle.record_bytes.specs.Written.{headWords, tagOf, rowOf, rowWords, flagOf, clientWords, clientsWords, slotsWords, stagedWords, written};
 use record::Client;
-use record::Record;
+use record::EngineRecord;
 use record::Slot;
 use record::SlotState;
 use record::Staged;
@@ -57,7 +57,7 @@ fn client_words(client: Client) -> [u32; 4]
 }
 
 // The set-up numbers, the read offset and the next ticket.
-fn head_words(engine: Record) -> [u32; 8]
+fn head_words(engine: EngineRecord) -> [u32; 8]
     ensures { λ r. ⌜ r ≡ headWords engine ⌝ }
 {
     let setup = engine.setup;
@@ -110,7 +110,7 @@ fn write_slots(bytes: &mut [u8], slots: [Slot; 8])
 }
 
 // Writes the record to a buffer of 272 bytes; one of another length stays as it was.
-pub fn encode(engine: Record, bytes: &mut [u8])
+pub fn encode(engine: EngineRecord, bytes: &mut [u8])
     ensures { λ _. ⌜ now (bytes .exit) ≡ written engine (now (bytes .entry)) ⌝ }
 {
     if bytes.len() == 272 {

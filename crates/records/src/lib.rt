@@ -164,7 +164,7 @@ fn take_record(edition: Edition, have: usize, held: &mut [u8], input: &[u8]) -> 
         × (now (held .exit) ≡ spliced have (keptIn edition Records (take have (now (held .entry))) (now (input .entry))) (now (held .entry))) ⌝ }
 {
     let wanted = bytes_missing(edition, held, have);
-    let taken = range::least(wanted, input.len());
+    let taken = range::min_usize(wanted, input.len());
     // It never goes on at byte 0: no record is longer than `held`.
     ring::copy_in(held, have, &input[..taken]);
     decide(edition, held, have + taken, taken)

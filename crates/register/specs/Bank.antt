@@ -8,8 +8,8 @@ use Rattle.reset.specs.Reset.{blendingAtReset}
 use Rattle.register.specs.declared.bank.SurfaceRegisters.{SurfaceRegisters}
 use Rattle.register.specs.declared.bank.Bank.{Bank}
 use Rattle.register.specs.declared.bank.WriteFault.the-variants.{NotWritable, Forbidden}
-use Rattle.register.specs.declared.bank.Write.{Write}
-use Rattle.register.specs.declared.bank.Write.the-variants.{Bank as Taken, Refused}
+use Rattle.register.specs.declared.bank.WriteResult.{WriteResult}
+use Rattle.register.specs.declared.bank.WriteResult.the-variants.{Written, Refused}
 use Rattle.register.specs.Table.{registerKindOf, isWritable, acceptsWord}
 
 abbrev pub resetSurface : SurfaceRegisters
@@ -63,8 +63,8 @@ bankAfterWrite bank offset word = record {
 }
 
 -- a word written at an offset: 23 where no writable register stands, 24 where the register does not take the word
-unfoldable pub writeRegister : Bank → ℕ → ℕ → Write
+unfoldable pub writeRegister : Bank → ℕ → ℕ → WriteResult
 writeRegister bank offset word =
     cond (isWritable (registerKindOf offset))
-    (cond (acceptsWord (registerKindOf offset) word) (Taken (bankAfterWrite bank offset word)) (Refused Forbidden))
+    (cond (acceptsWord (registerKindOf offset) word) (Written (bankAfterWrite bank offset word)) (Refused Forbidden))
     (Refused NotWritable)

@@ -7,11 +7,11 @@ use Rattle.word.specs.Field.{field}
 use Rattle.pixel.specs.Formats.{isFormat}
 use Rattle.pixel.specs.Alpha.{isAlphaMode}
 use Rattle.pixel.specs.Blending.{isFactor}
-use Rattle.register.specs.declared.table.Kind.{Kind}
-use Rattle.register.specs.declared.table.Kind.the-variants.{SourceControl, DestinationControl, OutputControl, Size, Stride, Step, Blending, FullWord, NotWritable}
+use Rattle.register.specs.declared.table.RegisterKind.{RegisterKind}
+use Rattle.register.specs.declared.table.RegisterKind.the-variants.{SourceControl, DestinationControl, OutputControl, Size, Stride, Step, Blending, FullWord, NotWritable}
 
 -- the row of the register at an offset
-unfoldable pub registerKindOf : ℕ → Kind
+unfoldable pub registerKindOf : ℕ → RegisterKind
 registerKindOf offset =
     -- SRC_SURFACE_CTRL
     cond (eqb offset 0x010) SourceControl
@@ -73,7 +73,7 @@ blendingAccepts word =
     && eqb (field 7 1 word) 0
 
 -- a register of a row takes a word
-abbrev pub acceptsWord : Kind → ℕ → Bool
+abbrev pub acceptsWord : RegisterKind → ℕ → Bool
 acceptsWord SourceControl word = sourceControlAccepts word
 acceptsWord DestinationControl word = destinationControlAccepts word
 acceptsWord OutputControl word = outputControlAccepts word
@@ -84,7 +84,7 @@ acceptsWord Blending word = blendingAccepts word
 acceptsWord FullWord word = true
 acceptsWord NotWritable word = false
 
-abbrev pub isWritable : Kind → Bool
+abbrev pub isWritable : RegisterKind → Bool
 isWritable SourceControl = true
 isWritable DestinationControl = true
 isWritable OutputControl = true

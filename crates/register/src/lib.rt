@@ -5,9 +5,9 @@ pub mod task;
 
 pub use bank::Bank;
 pub use bank::SurfaceRegisters;
-pub use bank::Write;
+pub use bank::WriteResult;
 pub use bank::WriteFault;
-pub use table::Kind;
+pub use table::RegisterKind;
 pub use task::Alpha;
 pub use task::Blending;
 pub use task::Destination;

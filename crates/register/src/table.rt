@@ -7,7 +7,7 @@ use pixel::Format;
 use word::bits;
 
 // Which row of the table a register's words are held to.
-pub enum Kind {
+pub enum RegisterKind {
     SourceControl,
     DestinationControl,
     OutputControl,
@@ -71,31 +71,31 @@ fn blending_takes(word: u32) -> bool
         & (bits(word, 7, 1) == 0)
 }
 
-impl Kind {
+impl RegisterKind {
     // The row of the register at an offset. Names as in document 002.
-    pub fn at(offset: u32) -> Kind
+    pub fn at(offset: u32) -> RegisterKind
         ensures { λ r. ⌜ r ≡ registerKindOf offset ⌝ }
     {
         match offset {
-            0x010 => Kind::SourceControl, // SRC_SURFACE_CTRL
-            0x014 => Kind::Size, // SRC_SURFACE_INPUT_SIZE
-            0x018 => Kind::Stride, // SRC_SURFACE_STRIDE
-            0x01C => Kind::FullWord, // SRC_SURFACE_FILL_COLOR
-            0x020 => Kind::FullWord, // SRC_SURFACE_ADDR0
-            0x030 => Kind::Step, // the step of A
-            0x034 => Kind::Step, // of R
-            0x038 => Kind::Step, // of G
-            0x03C => Kind::Step, // of B
-            0x050 => Kind::DestinationControl, // DST_SURFACE_CTRL
-            0x054 => Kind::Size, // DST_SURFACE_INPUT_SIZE
-            0x058 => Kind::Stride, // DST_SURFACE_STRIDE
-            0x060 => Kind::FullWord, // DST_SURFACE_ADDR0
-            0x090 => Kind::Blending, // BLENDING_CTRL
-            0x100 => Kind::OutputControl, // OUTPUT_CTRL
-            0x104 => Kind::Size, // OUTPUT_SIZE
-            0x108 => Kind::Stride, // OUTPUT_STRIDE
-            0x110 => Kind::FullWord, // OUTPUT_ADDR0
-            _ => Kind::NotWritable,
+            0x010 => RegisterKind::SourceControl, // SRC_SURFACE_CTRL
+            0x014 => RegisterKind::Size, // SRC_SURFACE_INPUT_SIZE
+            0x018 => RegisterKind::Stride, // SRC_SURFACE_STRIDE
+            0x01C => RegisterKind::FullWord, // SRC_SURFACE_FILL_COLOR
+            0x020 => RegisterKind::FullWord, // SRC_SURFACE_ADDR0
+            0x030 => RegisterKind::Step, // the step of A
+            0x034 => RegisterKind::Step, // of R
+            0x038 => RegisterKind::Step, // of G
+            0x03C => RegisterKind::Step, // of B
+            0x050 => RegisterKind::DestinationControl, // DST_SURFACE_CTRL
+            0x054 => RegisterKind::Size, // DST_SURFACE_INPUT_SIZE
+            0x058 => RegisterKind::Stride, // DST_SURFACE_STRIDE
+            0x060 => RegisterKind::FullWord, // DST_SURFACE_ADDR0
+            0x090 => RegisterKind::Blending, // BLENDING_CTRL
+            0x100 => RegisterKind::OutputControl, // OUTPUT_CTRL
+            0x104 => RegisterKind::Size, // OUTPUT_SIZE
+            0x108 => RegisterKind::Stride, // OUTPUT_STRIDE
+            0x110 => RegisterKind::FullWord, // OUTPUT_ADDR0
+            _ => RegisterKind::NotWritable,
         }
     }
 
@@ -103,32 +103,32 @@ impl Kind {
         ensures { λ r. ⌜ r ≡ isWritable self ⌝ }
     {
         match self {
-            Kind::SourceControl => true,
-            Kind::DestinationControl => true,
-            Kind::OutputControl => true,
-            Kind::Size => true,
-            Kind::Stride => true,
-            Kind::Step => true,
-            Kind::Blending => true,
-            Kind::FullWord => true,
-            Kind::NotWritable => false,
+            RegisterKind::SourceControl => true,
+            RegisterKind::DestinationControl => true,
+            RegisterKind::OutputControl => true,
+            RegisterKind::Size => true,
+            RegisterKind::Stride => true,
+            RegisterKind::Step => true,
+            RegisterKind::Blending => true,
+            RegisterKind::FullWord => true,
+            RegisterKind::NotWritable => false,
         }
     }
 
     // Whether a register of this row takes a word: its bits and codes, and nothing else.
-    pub fn takes(self, word: u32) -> bool
+    pub fn accepts(self, word: u32) -> bool
         ensures { λ r. ⌜ r ≡ takesWord self word ⌝ }
     {
         match self {
-            Kind::SourceControl => source_control_accepts(word),
-            Kind::DestinationControl => destination_takes(word),
-            Kind::OutputControl => output_takes(word),
-            Kind::Size => size_takes(word),
-            Kind::Stride => stride_takes(word),
-            Kind::Step => step_takes(word),
-            Kind::Blending => blending_takes(word),
-            Kind::FullWord => true,
-            Kind::NotWritable => false,
+            RegisterKind::SourceControl => source_control_accepts(word),
+            RegisterKind::DestinationControl => destination_takes(word),
+            RegisterKind::OutputControl => output_takes(word),
+            RegisterKind::Size => size_takes(word),
+            RegisterKind::Stride => stride_takes(word),
+            RegisterKind::Step => step_takes(word),
+            RegisterKind::Blending => blending_takes(word),
+            RegisterKind::FullWord => true,
+            RegisterKind::NotWritable => false,
         }
     }
 }

@@ -8,7 +8,7 @@ use pixel::AlphaMode;
 use pixel::Colour;
 use pixel::Factor;
 use pixel::Format;
-use pixel::Rule;
+use pixel::BlendFactors;
 use surface::Surface;
 use transform::Flip;
 use transform::Rotation;
@@ -47,7 +47,7 @@ pub struct Destination {
 
 pub struct Blending {
     pub on: bool,
-    pub rule: Rule,
+    pub rule: BlendFactors,
     // whether the source's colours were multiplied by their alphas
     pub premultiplied: bool,
 }
@@ -170,7 +170,7 @@ impl Bank {
     {
         Blending {
             on: bits(self.blending, 0, 0) == 1,
-            rule: Rule {
+            rule: BlendFactors {
                 source: Factor::from_code(bits(self.blending, 13, 11)),
                 destination: Factor::from_code(bits(self.blending, 10, 8)),
             },

@@ -9,7 +9,7 @@ use lib.ListN.{length, take, drop, replicate, take-append-drop}
 use lib.Seq.{length-take-le, take-append-seam}
 use borrow.Author.Tests.{le-leb}
 use Rattle.word.specs.Splice.{spliced}
-use Rattle.record.specs.declared.Record.{Record}
+use Rattle.record.specs.declared.EngineRecord.{EngineRecord}
 use Rattle.claims.specs.Engine.{State, mkState}
 use Rattle.records.specs.declared.Edition.{Edition}
 use Rattle.records.specs.declared.Edition.the-variants.{First, Second}
@@ -27,7 +27,7 @@ use Rattle.lines.specs.Lines.{endingLine, recordAfter, printedFrom, linesFrom, 
 use Rattle.lines.specs.Answered.{submitAndRunAll}
 use Rattle.lines.proofs.Start.{started-engine, starting-engine, started-state, starting-state}
 use Rattle.replay.specs.declared.Replay.{Replay}
-use Rattle.replay.specs.declared.Fed.{Fed}
+use Rattle.replay.specs.declared.FeedResult.{FeedResult}
 use Rattle.replay.specs.Calls.{stateOf, atStart, foundText, foundState, fedStep, FeedContract, finishedText}
 use Rattle.record_lines.specs.Prints.{Prints}
 use Rattle.replay.specs.Chunking.{Stands, concatChunks, FeedTrace, finishing, onto as passing, feeding, ChunkingIrrelevant}
@@ -117,11 +117,11 @@ module _ (engine : State) (seen text : List ℕ) (r : Replay) (held ring memory 
         ∙ ap (λ (s : State). submitAndRunAll (submissions edition (fileAt edition (f .reader) held′ rest .entries)) s) (sym state));
   }
 
-state-by : (next : State) (e : Record) (ring memory : List ℕ) → e ≡ next .engine → ring ≡ next .ring → memory ≡ next .memory → mkState e ring memory ≡ next
+state-by : (next : State) (e : EngineRecord) (ring memory : List ℕ) → e ≡ next .engine → ring ≡ next .ring → memory ≡ next .memory → mkState e ring memory ≡ next
 state-by next e ring memory ee er em = rw (ee, er, em)
 
 -- a call
-feeds : (engine : State) (seen text : List ℕ) (r : Replay) (held ring memory input line : List ℕ) (f : Fed) (held′ ring′ memory′ line′ : List ℕ)
+feeds : (engine : State) (seen text : List ℕ) (r : Replay) (held ring memory input line : List ℕ) (f : FeedResult) (held′ ring′ memory′ line′ : List ℕ)
     → FeedContract r held ring memory input line f held′ ring′ memory′ line′ → 128 ≤ length line → Stands engine seen text r held ring memory
     → Stands engine (seen ++ take (f .used) input) (text ++ take (f .written) line′) (f .replay) held′ ring′ memory′ × (1 ≤ length input → 1 ≤ f .used)
 feeds engine seen text r held ring memory input line f held′ ring′ memory′ line′ F room S =
@@ -138,7 +138,7 @@ feeds engine seen text r held ring memory input line f held′ ring′ memory′
 starts : (edition : Edition) (held ring memory : List ℕ) → roomOf edition ≤ length held → Stands (engineOpened edition ring memory) [] [] (atStart edition) held ring memory
 starts edition held ring memory room =
     let state : engineOpened edition ring memory ≡ stateOf (atStart edition) ring memory =
-    sym (started-state edition ring memory) ∙ ap (λ (e : Record). mkState e ring memory) (started-engine edition ring memory ∙ sym (starting-engine edition)) in
+    sym (started-state edition ring memory) ∙ ap (λ (e : EngineRecord). mkState e ring memory) (started-engine edition ring memory ∙ sym (starting-engine edition)) in
     record {
       ready = record { room = room; few = omega (arith, room-between edition); due = tt };
       prints = λ rest. ap (λ (s : State). linesFrom edition s (records edition rest)) state;

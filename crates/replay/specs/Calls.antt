@@ -15,7 +15,7 @@ use Rattle.records.specs.Records.{badVersion, badRecord}
 use Rattle.records.specs.Reading.{entryIn, Ready, Takes, endingAt, nothingTaken, takenBy, heldAfter}
 use Rattle.lines.specs.Lines.{endingLine, recordLine, recordAfter, replayStart}
 use Rattle.replay.specs.declared.Replay.{Replay}
-use Rattle.replay.specs.declared.Fed.{Fed}
+use Rattle.replay.specs.declared.FeedResult.{FeedResult}
 use Rattle.record_lines.specs.Prints.{Prints}
 
 -- the engine of a replay, with the ring and memory that are lent with it
@@ -48,7 +48,7 @@ fedStep r held input line = cond (leb 128 (length line)) (takenBy (r .edition) (
 unfoldable pub fedHeld : Replay → (held input line : List ℕ) → List ℕ
 fedHeld r held input line = cond (leb 128 (length line)) (heldAfter (r .edition) (r .reader) held input) held
 
-pub record FeedContract (r : Replay) (held ring memory input line : List ℕ) (f : Fed) (held′ ring′ memory′ line′ : List ℕ) : Type 0 where
+pub record FeedContract (r : Replay) (held ring memory input line : List ℕ) (f : FeedResult) (held′ ring′ memory′ line′ : List ℕ) : Type 0 where
   pub edition-is : f .replay .edition ≡ r .edition
   pub used-is : f .used ≡ fedStep r held input line .used
   pub reader-is : f .replay .reader ≡ fedStep r held input line .reader

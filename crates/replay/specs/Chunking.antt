@@ -12,7 +12,7 @@ use Rattle.editions.specs.Editions.{submissions}
 use Rattle.lines.specs.Lines.{engineOpened, linesFrom, lines}
 use Rattle.lines.specs.Answered.{submitAndRunAll}
 use Rattle.replay.specs.declared.Replay.{Replay}
-use Rattle.replay.specs.declared.Fed.{Fed}
+use Rattle.replay.specs.declared.FeedResult.{FeedResult}
 use Rattle.replay.specs.Calls.{stateOf, atStart, FeedContract, finishedText}
 use Rattle.record_lines.specs.Prints.{Prints}
 
@@ -45,7 +45,7 @@ pub data FeedTrace : Replay → (held ring memory line : List ℕ) → (pieces :
       → FeedTrace r held ring memory line pieces output
       → FeedTrace r held ring memory line ([] ∷ pieces) output
   feeding : {r : Replay} {held ring memory line : List ℕ} {byte : ℕ} {more : List ℕ} {pieces : List (List ℕ)} {output : List ℕ}
-      {f : Fed} {held′ ring′ memory′ line′ : List ℕ}
+      {f : FeedResult} {held′ ring′ memory′ line′ : List ℕ}
       → FeedContract r held ring memory (byte ∷ more) line f held′ ring′ memory′ line′
       → length line′ ≡ length line
       → FeedTrace (f .replay) held′ ring′ memory′ line′ (drop (f .used) (byte ∷ more) ∷ pieces) output
@@ -60,7 +60,7 @@ pub record ChunkingIrrelevant (edition : Edition) : Type 0 where
       → output ≡ lines edition (records edition (concatChunks pieces))
   -- a call at a time: at the start; after a call of feed, which uses a byte if there is one; at the end, in print and in the engine
   pub starts : (held ring memory : List ℕ) → roomOf edition ≤ length held → Stands (engineOpened edition ring memory) [] [] (atStart edition) held ring memory
-  pub feeds : (engine : State) (seen text : List ℕ) (r : Replay) (held ring memory input line : List ℕ) (f : Fed) (held′ ring′ memory′ line′ : List ℕ)
+  pub feeds : (engine : State) (seen text : List ℕ) (r : Replay) (held ring memory input line : List ℕ) (f : FeedResult) (held′ ring′ memory′ line′ : List ℕ)
       → FeedContract r held ring memory input line f held′ ring′ memory′ line′ → 128 ≤ length line → Stands engine seen text r held ring memory
       → Stands engine (seen ++ take (f .used) input) (text ++ take (f .written) line′) (f .replay) held′ ring′ memory′ × (1 ≤ length input → 1 ≤ f .used)
   pub finishes : (engine : State) (seen text : List ℕ) (r : Replay) (held ring memory line : List ℕ) (written : ℕ) (line′ : List ℕ)

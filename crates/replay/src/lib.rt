@@ -8,23 +8,23 @@ ghost use Rattle.records.specs.Reading.{Lies};
 ghost use Rattle.replay.specs.Calls.{atStart, foundText, foundState, FeedContract, finishedText};
 ghost use Rattle.record_lines.specs.Prints.{Prints};
 ghost use Rattle.serving.specs.Serves.{Serves};
-use record::Record;
+use record::EngineRecord;
 use records::Edition;
 use records::Found;
 use records::Reader;
 use records::Stage;
-use serving::Served;
+use serving::SubmitRunResult;
 use text::line;
 
 // Where a replay stands: the edition of the file, the engine, and the reading of the file.
 pub struct Replay {
     pub edition: Edition,
-    pub engine: Record,
+    pub engine: EngineRecord,
     pub reader: Reader,
 }
 
 // What feed used of its input, and how many bytes it printed into `line`.
-pub struct Fed {
+pub struct FeedResult {
     pub replay: Replay,
     pub used: usize,
     pub written: usize,
@@ -55,14 +55,14 @@ pub fn start(edition: Edition) -> Replay
 // What comes of what the reading found in `held`.
 fn after_found(
     edition: Edition,
-    engine: Record,
+    engine: EngineRecord,
     found: Found,
     held: &[u8],
     ring: &mut [u8],
     memory: &mut [u8],
     line: &mut [u8],
     slow: bool,
-) -> Served
+) -> SubmitRunResult
     requires { ⌜ Lies edition found (length (now held)) × (128 ≤ length (now line)) ⌝ }
     ensures { λ r. ⌜ Serves (foundText edition found (now (held .entry)) (mkState engine (now (ring .entry)) (now (memory .entry))))
         (foundState edition found (now (held .entry)) (mkState engine (now (ring .entry)) (now (memory .entry))))
@@ -72,15 +72,15 @@ fn after_found(
         Found::Record(end) => {
             serving::serve_record(edition, engine, held, end, ring, memory, line, slow)
         }
-        Found::Nothing => Served {
+        Found::Nothing => SubmitRunResult {
             engine: engine,
             written: 0,
         },
-        Found::BadVersion => Served {
+        Found::BadVersion => SubmitRunResult {
             engine: engine,
             written: record_lines::bad_version(line),
         },
-        Found::BadRecord => Served {
+        Found::BadRecord => SubmitRunResult {
             engine: engine,
             written: line::copy(line, b"bad record\n"),
         },
@@ -97,12 +97,12 @@ pub fn feed(
     input: &[u8],
     line: &mut [u8],
     slow: bool,
-) -> Fed
+) -> FeedResult
     ensures { λ r. ⌜ FeedContract replay (now (held .entry)) (now (ring .entry)) (now (memory .entry)) (now (input .entry)) (now (line .entry))
         r (now (held .exit)) (now (ring .exit)) (now (memory .exit)) (now (line .exit)) ⌝ }
 {
     if line.len() < 128 {
-        return Fed {
+        return FeedResult {
             replay: replay,
             used: 0,
             written: 0,
@@ -116,7 +116,7 @@ pub fn feed(
     let found = taken.found;
     let served = after_found(edition, engine, found, held, ring, memory, line, slow);
     let next = served.engine;
-    Fed {
+    FeedResult {
         replay: Replay {
             edition: edition,
             engine: next,

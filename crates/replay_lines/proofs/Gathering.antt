@@ -8,7 +8,7 @@ use lib.Seq.{length-take-le, take-all, take-add, take-at, drop-at, take-append-l
 use borrow.Rule.Slice.PartMut.{midOf, putMid}
 use Rattle.claims.specs.Engine.{State}
 use Rattle.replay.specs.declared.Replay.{Replay}
-use Rattle.replay.specs.declared.Fed.{Fed}
+use Rattle.replay.specs.declared.FeedResult.{FeedResult}
 use Rattle.replay.specs.Calls.{FeedContract}
 use Rattle.replay.specs.Chunking.{Stands}
 use Rattle.replay.proofs.Chunking.{chunking}
@@ -45,7 +45,7 @@ going-none r held ring memory input out = (refl, λ engine seen text S. rw (appe
 
 pub going-more : (r₀ : Replay) (held₀ ring₀ memory₀ input : List ℕ) (used written : ℕ) (r : Replay) (held ring memory out : List ℕ)
     → Going r₀ held₀ ring₀ memory₀ input used written r held ring memory out
-    → (n m : ℕ) (f : Fed) (held′ ring′ memory′ line : List ℕ) → n ≡ length input - used → 128 ≤ length (midOf written m out) → written ≤ length out → f .written ≤ length line
+    → (n m : ℕ) (f : FeedResult) (held′ ring′ memory′ line : List ℕ) → n ≡ length input - used → 128 ≤ length (midOf written m out) → written ≤ length out → f .written ≤ length line
     → FeedContract r held ring memory (midOf used n input) (midOf written m out) f held′ ring′ memory′ line
     → Going r₀ held₀ ring₀ memory₀ input (used + f .used) (written + f .written) (f .replay) held′ ring′ memory′ (putMid written m out line)
 going-more r₀ held₀ ring₀ memory₀ input used written r held ring memory out g n m f held′ ring′ memory′ line all room few less F = (F .edition-is ∙ g .0, more)

@@ -5,11 +5,11 @@ use Prim.Native.Nat.{ℕ, _≤_}
 use lib.ListN.{length, take}
 use Rattle.claims.specs.Engine.{State}
 use Rattle.replay.specs.declared.Replay.{Replay}
-use Rattle.replay.specs.declared.Fed.{Fed}
+use Rattle.replay.specs.declared.FeedResult.{FeedResult}
 use Rattle.replay.specs.Chunking.{Stands}
 
 -- the first bytes of the input were used, and what they print stands at the start of the buffer
-pub record FeedLinesContract (r : Replay) (held ring memory input out : List ℕ) (f : Fed) (held′ ring′ memory′ out′ : List ℕ) : Type 0 where
+pub record FeedLinesContract (r : Replay) (held ring memory input out : List ℕ) (f : FeedResult) (held′ ring′ memory′ out′ : List ℕ) : Type 0 where
   pub within : f .used ≤ length input
   pub room : f .written ≤ length out
   pub same : f .replay .edition ≡ r .edition

@@ -1,6 +1,6 @@
 // Lines of a replay gathered in one buffer.
 ghost use Rattle.replay_lines.specs.Gather.{FeedLinesContract};
-use replay::Fed;
+use replay::FeedResult;
 use replay::Replay;
 
 // The longest line has room in so many bytes.
@@ -16,7 +16,7 @@ pub fn feed_lines(
     input: &[u8],
     out: &mut [u8],
     slow: bool,
-) -> Fed
+) -> FeedResult
     ensures { λ r. ⌜ FeedLinesContract replay (now (held .entry)) (now (ring .entry)) (now (memory .entry)) (now (input .entry)) (now (out .entry)) r (now (held .exit)) (now (ring .exit)) (now (memory .exit)) (now (out .exit)) ⌝ }
 {
     let mut now = replay;
@@ -41,7 +41,7 @@ pub fn feed_lines(
             break;
         }
     }
-    Fed {
+    FeedResult {
         replay: now,
         used,
         written,

@@ -21,7 +21,7 @@ use Rattle.lines.specs.Lines.{engineOpened, linesFrom}
 use Rattle.lines.specs.Answered.{submitAndRunAll}
 use Rattle.lines.proofs.Start.{started-state}
 use Rattle.replay.specs.declared.Replay.{Replay}
-use Rattle.replay.specs.declared.Fed.{Fed}
+use Rattle.replay.specs.declared.FeedResult.{FeedResult}
 use Rattle.record_lines.specs.Prints.{Prints}
 use Rattle.replay.specs.Calls.{atStart, finishedText}
 use Rattle.replay.specs.Chunking.{Stands}
@@ -64,7 +64,7 @@ feeding-none engine seen text piece shows r handed held ring memory S e =
 
 pub feeding-more : (edition : Edition) (engine : State) (seen text piece : List ℕ) (shows : Bool) (used : ℕ) (r : Replay) (handed : ℕ) (held ring memory : List ℕ)
     → Feeding edition engine seen text piece shows used r handed held ring memory
-    → (n : ℕ) (out : List ℕ) (f : Fed) (held′ ring′ memory′ out′ : List ℕ) (size : ℕ) → n ≡ length piece - used → length out′ ≡ length out
+    → (n : ℕ) (out : List ℕ) (f : FeedResult) (held′ ring′ memory′ out′ : List ℕ) (size : ℕ) → n ≡ length piece - used → length out′ ≡ length out
     → FeedLinesContract r held ring memory (midOf used n piece) out f held′ ring′ memory′ out′ → size ≡ cond shows (cond (leb (f .written) (length out′)) (f .written) 0) 0
     → Feeding edition engine seen text piece shows (used + f .used) (f .replay) ((handed + size) % 2 ^ 64) held′ ring′ memory′
 feeding-more edition engine seen text piece shows used r handed held ring memory G n out f held′ ring′ memory′ out′ size all same F is =

@@ -2,7 +2,7 @@
 ghost use Rattle.record_bytes.specs.Written.{written};
 ghost use Rattle.answers.specs.Answers.{Small};
 ghost use Rattle.calls.specs.Calls.{Told, ToldTwo, Reports};
-use engine::Ran;
+use engine::RunResult;
 use queue::Reply;
 
 // Writes the value that a call answered, and the record after it if it was not refused.
@@ -36,7 +36,7 @@ pub fn write_progress(bytes: &mut [u8], reply: Reply, two: &mut [u32; 2]) -> u32
 }
 
 // The same of run: the five numbers of its completion.
-pub fn write_completion(bytes: &mut [u8], ran: Ran, five: &mut [u32; 5]) -> u32
+pub fn write_completion(bytes: &mut [u8], ran: RunResult, five: &mut [u32; 5]) -> u32
     requires { ⌜ Small (ran .outcome) ⌝ }
     ensures { λ r. ⌜ Reports (now (bytes .entry)) (written (ran .engine) (now (bytes .entry))) (ran .outcome) r (now (five .exit)) (now (bytes .exit)) ⌝ }
 {

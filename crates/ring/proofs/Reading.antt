@@ -5,13 +5,13 @@ use Prim.Native.Nat.{ℕ, _*_, _/_, _≤_, _<_}
 use lib.ListN.{length, getD}
 use borrow.Author.Tests.{lt-ltb, le-ltb}
 use Rattle.word.specs.Word.{le32At}
-use Rattle.ring.specs.declared.Read.the-variants.{Word, Past}
+use Rattle.ring.specs.declared.Read.the-variants.{Word, OutOfRange}
 use Rattle.ring.specs.Segment.{segment, LiesInRing, batchWords}
 use Rattle.ring.specs.Read.{wordAt}
 use Rattle.ring.proofs.Segment.{count-words, getD-batch}
 
 -- there is no word past the last
-pub read-past : (words : List ℕ) (k : ℕ) → length words ≤ k → wordAt words k ≡ Past
+pub read-past : (words : List ℕ) (k : ℕ) → length words ≤ k → wordAt words k ≡ OutOfRange
 read-past words k h = rw (le-ltb k (length words) h)
 
 pub read-in : (words : List ℕ) (k : ℕ) → k < length words → wordAt words k ≡ Word (getD words k 0)

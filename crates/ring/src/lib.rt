@@ -12,7 +12,7 @@ ghost use Rattle.ring.specs.Copied.{copiedIn};
 // A word of a batch, or that the batch has no such word.
 pub enum Read {
     Word(u32),
-    Past,
+    OutOfRange,
 }
 
 // Whether a batch of `size` bytes at `offset` lies in a ring of `length` bytes.
@@ -51,7 +51,7 @@ fn word_at(ring: &[u8], offset: usize, size: usize, k: usize) -> Read
     ensures { λ r. ⌜ r ≡ wordAt (batchWords (now (ring .entry)) offset size) k ⌝ }
 {
     if word_count(ring, offset, size) <= k {
-        return Read::Past;
+        return Read::OutOfRange;
     }
     let i = 4 * k;
     let tail = ring.len() - offset;

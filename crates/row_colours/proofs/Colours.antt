@@ -9,7 +9,7 @@ use Rattle.pixel.specs.Blending.{blended}
 use Rattle.pixel.specs.Colours.{narrowed, packed}
 use Rattle.pixel.specs.Formats.{layoutOf}
 use Rattle.pixel.specs.declared.colour.Colour.{Colour}
-use Rattle.pixel.specs.declared.blend.Rule.{Rule}
+use Rattle.pixel.specs.declared.blend.BlendFactors.{BlendFactors}
 use Rattle.pixel.specs.declared.format.Format.the-variants.{Argb8888}
 use Rattle.pixel.proofs.Stored.{Bytes}
 use Rattle.pixel.proofs.Kept.{word-colour}
@@ -73,7 +73,7 @@ colour-is m i h l =
 -- ---- a row
 
 module _ (d e : List ℕ) (width : ℕ) (in-d : Row d) (in-e : Row e) (long-d : width * 4 ≤ length d) (long-e : width * 4 ≤ length e) where
-  pub blend-colour : (rule : Rule) (s : List ℕ) → Row s → width * 4 ≤ length s → Done (blendAt rule s d) d e 0 (width * 4) → (x : ℕ) → x < width →
+  pub blend-colour : (rule : BlendFactors) (s : List ℕ) → Row s → width * 4 ≤ length s → Done (blendAt rule s d) d e 0 (width * 4) → (x : ℕ) → x < width →
       colourIn e x ≡ blended rule (colourIn s x) (colourIn d x)
   unfolding blended blendAt
   blend-colour rule s in-s long-s did x l =

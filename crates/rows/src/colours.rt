@@ -7,7 +7,7 @@ use register::Blending;
 use unpremultiply::unpremultiply;
 
 // The colour with which a source pixel goes into blending: divided by its alpha where it is premultiplied.
-fn prepare(blending: Blending, c: Colour) -> Colour
+fn source_for_blending(blending: Blending, c: Colour) -> Colour
     ensures { λ r. ⌜ r ≡ sourceForBlending blending c ⌝ }
 {
     if blending.premultiplied {
@@ -29,11 +29,11 @@ fn with_alpha(a: Alpha, c: Colour) -> Colour
 pub fn blending_colour(blending: Blending, source: Alpha, s: Colour) -> Colour
     ensures { λ r. ⌜ r ≡ withSurfaceAlpha source (sourceForBlending blending s) ⌝ }
 {
-    with_alpha(source, prepare(blending, s))
+    with_alpha(source, source_for_blending(blending, s))
 }
 
 // A source colour blended with a destination colour.
-pub fn mix(blending: Blending, source: Alpha, destination: Alpha, s: Colour, d: Colour) -> Colour
+pub fn composite(blending: Blending, source: Alpha, destination: Alpha, s: Colour, d: Colour) -> Colour
     ensures { λ r. ⌜ r ≡ composite blending source destination s d ⌝ }
 {
     let rule = blending.rule;

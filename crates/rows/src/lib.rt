@@ -3,10 +3,10 @@ pub mod colours;
 pub mod source;
 
 pub use colours::blending_colour;
-pub use colours::mix;
+pub use colours::composite;
 pub use source::is_reversed;
-pub use source::is_straight;
+pub use source::is_identity_row;
 pub use source::origin;
-pub use source::place;
+pub use source::strided_address;
 pub use source::source_point;
-pub use source::step_of;
+pub use source::pixel_stride;

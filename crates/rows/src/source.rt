@@ -35,7 +35,7 @@ pub fn origin(s: Surface, transform: Transform, x: usize, y: usize) -> usize
 }
 
 // Whether output rows are rows of the source, in the same order of pixels.
-pub fn is_straight(transform: Transform) -> bool
+pub fn is_identity_row(transform: Transform) -> bool
     ensures { λ r. ⌜ r ≡ isStraight (transform .rotation) (transform .flip) ⌝ }
 {
     let flip = transform.flip;
@@ -63,7 +63,7 @@ pub fn is_reversed(transform: Transform) -> bool
 }
 
 // Bytes from one of them to the next.
-pub fn step_of(s: Surface, rotation: Rotation) -> usize
+pub fn pixel_stride(s: Surface, rotation: Rotation) -> usize
     ensures { λ r. ⌜ r ≡ pixelStride rotation s ⌝ }
 {
     let format = s.format;
@@ -76,7 +76,7 @@ pub fn step_of(s: Surface, rotation: Rotation) -> usize
 }
 
 // The address that lies x steps on from another, or back.
-pub fn place(start: usize, step: usize, back: bool, x: usize) -> usize
+pub fn strided_address(start: usize, step: usize, back: bool, x: usize) -> usize
     requires { ⌜ (back ≡ true → x * step ≤ start) × (back ≡ false → start + x * step ≤ 18446744073709551615) ⌝ }
     ensures { λ r. ⌜ r ≡ stridedAddress start step back x ⌝ }
 {

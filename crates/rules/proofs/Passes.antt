@@ -26,13 +26,13 @@ use Rattle.register.specs.Size.{sizeOf}
 use Rattle.rules.specs.declared.fault.Fault.{Fault}
 use Rattle.rules.specs.declared.fault.Fault.the-variants.{BadSurface, SizeMismatch, OutOfBounds, Overlap}
 use Rattle.rules.specs.declared.task.Bounds.{Bounds}
-use Rattle.rules.specs.declared.task.Check.{Check}
-use Rattle.rules.specs.declared.task.Check.the-variants.{Valid, Invalid}
+use Rattle.rules.specs.declared.task.TaskCheck.{TaskCheck}
+use Rattle.rules.specs.declared.task.TaskCheck.the-variants.{Valid, Invalid}
 use Rattle.rules.specs.Rules.{isBufferSource, badSide, badSides, badStride, badSource, badOutput, badDestination, badSurface, isUnrotated, rotatedFill, rotatedSourceSize, sameSize, sizeMismatch, commonOf, isWritableSpan, isReadable, outOfBounds, sameFormat, aliases, outputOverlaps, checkTask}
 use Rattle.rules.proofs.Sound.{Sides, Rows, InReach, SoundSource, SoundDestination, Sound}
 
 -- a rule that is not broken, and those after it
-passed : (b : Bool) (f : Fault) (rest : Check) → cond b (Invalid f) rest ≡ Valid → (b ≡ false) × (rest ≡ Valid)
+passed : (b : Bool) (f : Fault) (rest : TaskCheck) → cond b (Invalid f) rest ≡ Valid → (b ≡ false) × (rest ≡ Valid)
 passed true f rest e = absurd (let z : _≡_ {A = ℕ} 0 1 = cc in omega arith)
 passed false f rest e = (refl, e)
 

@@ -20,8 +20,8 @@ use Rattle.register.specs.declared.task.Destination.{Destination}
 use Rattle.register.specs.declared.task.Task.{Task}
 use Rattle.register.specs.Size.{sizeOf}
 use Rattle.rules.specs.declared.task.Bounds.{Bounds}
-use Rattle.rules.specs.declared.task.Check.{Check}
-use Rattle.rules.specs.declared.task.Check.the-variants.{Valid, Invalid}
+use Rattle.rules.specs.declared.task.TaskCheck.{TaskCheck}
+use Rattle.rules.specs.declared.task.TaskCheck.the-variants.{Valid, Invalid}
 use Rattle.rules.specs.declared.fault.Fault.the-variants.{BadSurface, SizeMismatch, OutOfBounds, Overlap}
 
 -- the source is read from memory
@@ -119,7 +119,7 @@ outputOverlaps t =
 
 -- ---- the lowest number first, over all surfaces
 
-unfoldable pub checkTask : Bounds → Task → Check
+unfoldable pub checkTask : Bounds → Task → TaskCheck
 checkTask bounds t =
     cond (badSurface t) (Invalid BadSurface)
     (cond (sizeMismatch t) (Invalid SizeMismatch)

@@ -4,6 +4,6 @@ pub mod task;
 
 pub use fault::Fault;
 pub use task::Bounds;
-pub use task::Check;
+pub use task::TaskCheck;
 pub use task::check_task;
 pub use task::same_format;

@@ -19,7 +19,7 @@ pub struct Bounds {
 }
 
 // What is wrong with a task.
-pub enum Check {
+pub enum TaskCheck {
     Valid,
     Invalid(Fault),
 }
@@ -170,20 +170,20 @@ fn overlaps(t: Task) -> bool
 }
 
 // The first rule, in the order of their numbers, that a task breaks.
-pub fn check_task(bounds: Bounds, t: Task) -> Check
+pub fn check_task(bounds: Bounds, t: Task) -> TaskCheck
     ensures { λ r. ⌜ r ≡ checkTask bounds t ⌝ }
 {
     if bad_surface(t) {
-        return Check::Invalid(Fault::BadSurface);
+        return TaskCheck::Invalid(Fault::BadSurface);
     }
     if size_mismatch(t) {
-        return Check::Invalid(Fault::SizeMismatch);
+        return TaskCheck::Invalid(Fault::SizeMismatch);
     }
     if out_of_bounds(bounds, t) {
-        return Check::Invalid(Fault::OutOfBounds);
+        return TaskCheck::Invalid(Fault::OutOfBounds);
     }
     if overlaps(t) {
-        return Check::Invalid(Fault::Overlap);
+        return TaskCheck::Invalid(Fault::Overlap);
     }
-    Check::Valid
+    TaskCheck::Valid
 }

@@ -3,19 +3,19 @@ ghost use mathlib.Core.Path.{_≡_};
 ghost use Rattle.engine.specs.Run.{runResult, runMemory};
 use engine::Completion;
 use engine::Outcome;
-use engine::Ran;
-use record::Record;
+use engine::RunResult;
+use record::EngineRecord;
 
 // Takes the oldest batch: it is judged and drawn, the tasks before a fault too, and its slot and ring bytes are free again. The slow engine (02, request
 // 13), which is there to check the fast one by, draws each pixel by itself; what it promises is the same.
-pub fn run_by(engine: Record, ring: &[u8], memory: &mut [u8], slow: bool) -> Ran
+pub fn run_by(engine: EngineRecord, ring: &[u8], memory: &mut [u8], slow: bool) -> RunResult
     ensures { λ r. ⌜ (r ≡ runResult engine (now (ring .entry)) (now (memory .entry)))
         × (now (memory .exit) ≡ runMemory engine (now (ring .entry)) (now (memory .entry))) ⌝ }
 {
     let found = record::check(engine);
     let number = dequeue::run_refusal(engine, found, ring.len(), memory.len());
     if number != 0 {
-        return Ran {
+        return RunResult {
             outcome: Outcome::Refused(number),
             engine: engine,
         };
@@ -38,14 +38,14 @@ pub fn run_by(engine: Record, ring: &[u8], memory: &mut [u8], slow: bool) -> Ran
         ticket: batch.ticket,
         verdict: verdict,
     };
-    Ran {
+    RunResult {
         outcome: Outcome::Completed(completion),
         engine: dequeue::without_oldest(engine, at, batch),
     }
 }
 
 // Takes the oldest batch by the fast engine.
-pub fn run(engine: Record, ring: &[u8], memory: &mut [u8]) -> Ran
+pub fn run(engine: EngineRecord, ring: &[u8], memory: &mut [u8]) -> RunResult
     ensures { λ r. ⌜ (r ≡ runResult engine (now (ring .entry)) (now (memory .entry)))
         × (now (memory .exit) ≡ runMemory engine (now (ring .entry)) (now (memory .entry))) ⌝ }
 {

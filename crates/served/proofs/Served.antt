@@ -8,7 +8,7 @@ use lib.ListN.{length, getD}
 use lib.Dec.{eqb}
 use Rattle.record.specs.declared.Setup.{Setup as Numbers}
 use Rattle.record.specs.declared.Window.{Window as Place}
-use Rattle.record.specs.declared.Record.{Record}
+use Rattle.record.specs.declared.EngineRecord.{EngineRecord}
 use Rattle.record.specs.Staged.{noStaged, missingBytes}
 use Rattle.record.specs.Rules.{valid}
 use Rattle.queue.specs.declared.Answer.the-variants.{Accepted, Missing}
@@ -16,17 +16,17 @@ use Rattle.queue.specs.declared.Reply.{Reply}
 use Rattle.queue.specs.Answers.{refusalNumberOf, valueOf, answerUnlessRefused}
 use Rattle.queue.specs.Refusals.{firstRefusal, openTable, submitTable, cancelTable, closeTable, setUpTable}
 use Rattle.queue.specs.Calls.{unlessRefused, initialRecord, noSetup, withClient, submitted, setUpResult, openResult, submitResult, submitNumber, submitRing, withStaged, begun, beginResult, more, isLast, pieceNumber, afterPiece, pieceResult, pieceRing, cancelResult, withoutClient, closeResult, pendingAnswer}
-use Rattle.queue.proofs.Stays.{unless-keeps, set-up-number, open-number, submit-number, begin-number, piece-number, cancel-number, close-number, set-up-stays, open-stays, submit-stays, begin-stays, piece-stays, cancel-stays, close-stays}
-use Rattle.engine.specs.declared.Ran.{Ran}
+use Rattle.queue.proofs.Preservation.{unless-keeps, set-up-number, open-number, submit-number, begin-number, piece-number, cancel-number, close-number, set-up-preserves, open-preserves, submit-preserves, begin-preserves, piece-preserves, cancel-preserves, close-preserves}
+use Rattle.engine.specs.declared.RunResult.{RunResult}
 use Rattle.engine.specs.Outcome.{runRefusalOf as refusalOf, valuesOf}
 use Rattle.engine.specs.Close.{closeMemory}
 use Rattle.engine.specs.Run.{runNumber, withoutOldest, runResult, runMemory}
-use Rattle.engine.proofs.Stays.{run-number, run-stays}
+use Rattle.engine.proofs.Preservation.{run-number, run-preserves}
 use Rattle.answers.specs.Answers.{lastOf}
 use Rattle.model.specs.Windows.{Window}
 use Rattle.model.specs.Calls.{Setup, Call, opens, submit, run, pending, begin, piece, cancel, close, Answer}
 use Rattle.claims.specs.Engine.{State, mkState, pieceTold, performCall, answersOf, stateAfter, answerOrRefusal, initialState, SetUpAccepted}
-use Rattle.claims.proofs.Follows.{like-model}
+use Rattle.claims.proofs.Simulation.{like-model}
 use Rattle.record_bytes.specs.Read.{recordOf}
 use Rattle.record_bytes.specs.Written.{bytesOf}
 use Rattle.record_bytes.specs.RoundTrip.{Typed}
@@ -38,16 +38,16 @@ use Rattle.served.specs.Served.{Lent, ServesOpen, ServesSubmit, ServesRu
 use Rattle.served.proofs.Typed.{sized, fresh-typed, open-typed, submit-typed, begin-typed, piece-typed, cancel-typed, close-typed, run-typed}
 
 -- the bytes are those of a record that keeps its rules
-record Holds (bytes : List ℕ) (e : Record) : Type 0 where
+record Holds (bytes : List ℕ) (e : EngineRecord) : Type 0 where
   are : bytes ≡ bytesOf e
   ok : valid e ≡ true
   right : Typed e
 
-stands : {bytes : List ℕ} {e : Record} → Holds bytes e → recordOf bytes ≡ e
+stands : {bytes : List ℕ} {e : EngineRecord} → Holds bytes e → recordOf bytes ≡ e
 stands {e = e} h = ap recordOf (h .are) ∙ back e (h .right) (fits e (h .right) (h .ok))
 
 -- a refused call leaves the bytes and the record
-keeps : (n : ℕ) (bytes : List ℕ) (e x : Record) → bytes ≡ bytesOf e → unlessRefused n bytes (bytesOf (unlessRefused n e x)) ≡ bytesOf (unlessRefused n e x)
+keeps : (n : ℕ) (bytes : List ℕ) (e x : EngineRecord) → bytes ≡ bytesOf e → unlessRefused n bytes (bytesOf (unlessRefused n e x)) ≡ bytesOf (unlessRefused n e x)
 unfolding unlessRefused
 keeps zero bytes e x h = refl
 keeps (suc n) bytes e x h = h
@@ -75,7 +75,7 @@ two-told (suc n) b ticket left = refl
 -- ---- each call
 
 module _ (s : Lent) (x : State) (g : Agrees s x) where
-  abbrev e : Record
+  abbrev e : EngineRecord
   e = x .engine
 
   z : recordOf (s .bytes) ≡ e
@@ -86,7 +86,7 @@ module _ (s : Lent) (x : State) (g : Agrees s x) where
   open-step w a t p q =
       let place : Place = record { start = w .start; length = w .length } in
       let k : Told (s .bytes) (bytesOf (openResult e place .engine)) (openResult e place .answer) (q .number) (q .value) (t .bytes) =
-      subst (λ (y : Record). Told (s .bytes) (bytesOf (openResult y place .engine)) (openResult y place .answer) (q .number) (q .value) (t .bytes)) z (q .says)
+      subst (λ (y : EngineRecord). Told (s .bytes) (bytesOf (openResult y place .engine)) (openResult y place .answer) (q .number) (q .value) (t .bytes)) z (q .says)
       in
       record {
         says = q .answer ∙ rw (k .number-is, k .value-is);
@@ -96,7 +96,7 @@ module _ (s : Lent) (x : State) (g : Agrees s x) where
                 k .record-is
                 ∙ ap (λ (n : ℕ). unlessRefused n (s .bytes) (bytesOf (openResult e place .engine))) (open-number e place)
                 ∙ keeps (firstRefusal (openTable e place)) (s .bytes) e (withClient e place) (g .holds .are);
-            ok = open-stays e (sized (g .holds .right)) (g .holds .ok) place .0;
+            ok = open-preserves e (sized (g .holds .right)) (g .holds .ok) place .0;
             right = open-typed e (g .holds .right) place p;
           };
           rings = q .ring ∙ g .rings;
@@ -111,7 +111,7 @@ module _ (s : Lent) (x : State) (g : Agrees s x) where
       subst (λ (l : List ℕ). Submits (s .bytes) l client batch (q .number) (q .value) (t .bytes) (t .ring)) (g .rings) (q .says)
       in
       let k : Told (s .bytes) (bytesOf (submitResult e (x .ring) client batch .engine)) (submitResult e (x .ring) client batch .answer) (q .number) (q .value) (t .bytes) =
-      subst (λ (y : Record). Told (s .bytes) (bytesOf (submitResult y (x .ring) client batch .engine)) (submitResult y (x .ring) client batch .answer) (q .number) (q .value) (t .bytes)) z (b .told)
+      subst (λ (y : EngineRecord). Told (s .bytes) (bytesOf (submitResult y (x .ring) client batch .engine)) (submitResult y (x .ring) client batch .answer) (q .number) (q .value) (t .bytes)) z (b .told)
       in
       record {
         says = q .answer ∙ rw (k .number-is, k .value-is);
@@ -121,10 +121,10 @@ module _ (s : Lent) (x : State) (g : Agrees s x) where
                 k .record-is
                 ∙ ap (λ (n : ℕ). unlessRefused n (s .bytes) (bytesOf (submitResult e (x .ring) client batch .engine))) (submit-number e (x .ring) client batch)
                 ∙ keeps (submitNumber e (x .ring) client batch) (s .bytes) e (submitted e client (length batch)) (g .holds .are);
-            ok = submit-stays e (sized (g .holds .right)) (g .holds .ok) (x .ring) client batch .0;
+            ok = submit-preserves e (sized (g .holds .right)) (g .holds .ok) (x .ring) client batch .0;
             right = submit-typed e (g .holds .right) (x .ring) client batch p;
           };
-          rings = b .ring-is ∙ ap (λ (y : Record). submitRing y (x .ring) client batch) z;
+          rings = b .ring-is ∙ ap (λ (y : EngineRecord). submitRing y (x .ring) client batch) z;
           memories = q .memory ∙ g .memories;
         };
       }
@@ -138,7 +138,7 @@ module _ (s : Lent) (x : State) (g : Agrees s x) where
       (subst (λ (l : List ℕ). Runs (s .bytes) l (s .memory) (q .number) five (t .bytes) (t .memory)) (g .rings) (q .says))
       in
       let k : Reports (s .bytes) (bytesOf (runResult e (x .ring) (x .memory) .engine)) (runResult e (x .ring) (x .memory) .outcome) (q .number) five (t .bytes) =
-      subst (λ (y : Record). Reports (s .bytes) (bytesOf (runResult y (x .ring) (x .memory) .engine)) (runResult y (x .ring) (x .memory) .outcome) (q .number) five (t .bytes)) z (b .reports)
+      subst (λ (y : EngineRecord). Reports (s .bytes) (bytesOf (runResult y (x .ring) (x .memory) .engine)) (runResult y (x .ring) (x .memory) .outcome) (q .number) five (t .bytes)) z (b .reports)
       in
       let e0 = ap (λ (l : List ℕ). getD l 0 0) (k .five-are) in
       let e1 = ap (λ (l : List ℕ). getD l 1 0) (k .five-are) in
@@ -153,11 +153,11 @@ module _ (s : Lent) (x : State) (g : Agrees s x) where
                 k .record-is
                 ∙ ap (λ (n : ℕ). unlessRefused n (s .bytes) (bytesOf (runResult e (x .ring) (x .memory) .engine))) (run-number e (x .ring) (x .memory))
                 ∙ keeps (runNumber e (x .ring) (x .memory)) (s .bytes) e (withoutOldest e) (g .holds .are);
-            ok = run-stays e (sized (g .holds .right)) (g .holds .ok) (x .ring) (x .memory) .0;
+            ok = run-preserves e (sized (g .holds .right)) (g .holds .ok) (x .ring) (x .memory) .0;
             right = run-typed e (g .holds .right) (x .ring) (x .memory);
           };
           rings = q .ring ∙ g .rings;
-          memories = b .memory-is ∙ ap (λ (y : Record). runMemory y (x .ring) (x .memory)) z;
+          memories = b .memory-is ∙ ap (λ (y : EngineRecord). runMemory y (x .ring) (x .memory)) z;
         };
       }
 
@@ -169,7 +169,7 @@ module _ (s : Lent) (x : State) (g : Agrees s x) where
       subst (λ (l : List ℕ). Begins (s .bytes) l client total (q .number) (t .bytes)) (g .rings) (q .says)
       in
       let k : Silent (s .bytes) (bytesOf (beginResult e n client total .engine)) (beginResult e n client total .answer) (q .number) (t .bytes) =
-      subst (λ (y : Record). Silent (s .bytes) (bytesOf (beginResult y n client total .engine)) (beginResult y n client total .answer) (q .number) (t .bytes)) z b
+      subst (λ (y : EngineRecord). Silent (s .bytes) (bytesOf (beginResult y n client total .engine)) (beginResult y n client total .answer) (q .number) (t .bytes)) z b
       in
       record {
         says = q .answer ∙ rw (k .number-is);
@@ -179,7 +179,7 @@ module _ (s : Lent) (x : State) (g : Agrees s x) where
                 k .record-is
                 ∙ ap (λ (m : ℕ). unlessRefused m (s .bytes) (bytesOf (beginResult e n client total .engine))) (begin-number e n client total)
                 ∙ keeps (firstRefusal (submitTable e n client total)) (s .bytes) e (withStaged e (begun e client total)) (g .holds .are);
-            ok = begin-stays e (sized (g .holds .right)) (g .holds .ok) n client total .0;
+            ok = begin-preserves e (sized (g .holds .right)) (g .holds .ok) n client total .0;
             right = begin-typed e (g .holds .right) n client total p;
           };
           rings = q .ring ∙ g .rings;
@@ -195,7 +195,7 @@ module _ (s : Lent) (x : State) (g : Agrees s x) where
       subst (λ (l : List ℕ). HandsOver (s .bytes) l client bytes (q .number) two (t .bytes) (t .ring)) (g .rings) (q .says)
       in
       let k : ToldTwo (s .bytes) (bytesOf (pieceResult e (x .ring) client bytes .engine)) (pieceResult e (x .ring) client bytes .answer) (q .number) two (t .bytes) =
-      subst (λ (y : Record). ToldTwo (s .bytes) (bytesOf (pieceResult y (x .ring) client bytes .engine)) (pieceResult y (x .ring) client bytes .answer) (q .number) two (t .bytes)) z (b .told)
+      subst (λ (y : EngineRecord). ToldTwo (s .bytes) (bytesOf (pieceResult y (x .ring) client bytes .engine)) (pieceResult y (x .ring) client bytes .answer) (q .number) two (t .bytes)) z (b .told)
       in
       let e0 = ap (λ (l : List ℕ). getD l 0 0) (k .two-are) in
       let e1 = ap (λ (l : List ℕ). getD l 1 0) (k .two-are) in
@@ -209,10 +209,10 @@ module _ (s : Lent) (x : State) (g : Agrees s x) where
                 k .record-is
                 ∙ ap (λ (m : ℕ). unlessRefused m (s .bytes) (bytesOf (pieceResult e (x .ring) client bytes .engine))) (piece-number e (x .ring) client bytes)
                 ∙ keeps (pieceNumber e (x .ring) client bytes) (s .bytes) e (afterPiece e (length bytes)) (g .holds .are);
-            ok = piece-stays e (sized (g .holds .right)) (g .holds .ok) (x .ring) client bytes .0;
+            ok = piece-preserves e (sized (g .holds .right)) (g .holds .ok) (x .ring) client bytes .0;
             right = piece-typed e (g .holds .right) (x .ring) client bytes;
           };
-          rings = b .ring-is ∙ ap (λ (y : Record). pieceRing y (x .ring) client bytes) z;
+          rings = b .ring-is ∙ ap (λ (y : EngineRecord). pieceRing y (x .ring) client bytes) z;
           memories = q .memory ∙ g .memories;
         };
       }
@@ -221,7 +221,7 @@ module _ (s : Lent) (x : State) (g : Agrees s x) where
   unfolding performCall Cancels cancelResult
   cancel-step client a t q =
       let k : Silent (s .bytes) (bytesOf (cancelResult e client .engine)) (cancelResult e client .answer) (q .number) (t .bytes) =
-      subst (λ (y : Record). Silent (s .bytes) (bytesOf (cancelResult y client .engine)) (cancelResult y client .answer) (q .number) (t .bytes)) z (q .says)
+      subst (λ (y : EngineRecord). Silent (s .bytes) (bytesOf (cancelResult y client .engine)) (cancelResult y client .answer) (q .number) (t .bytes)) z (q .says)
       in
       record {
         says = q .answer ∙ rw (k .number-is);
@@ -231,7 +231,7 @@ module _ (s : Lent) (x : State) (g : Agrees s x) where
                 k .record-is
                 ∙ ap (λ (m : ℕ). unlessRefused m (s .bytes) (bytesOf (cancelResult e client .engine))) (cancel-number e client)
                 ∙ keeps (firstRefusal (cancelTable e client)) (s .bytes) e (withStaged e noStaged) (g .holds .are);
-            ok = cancel-stays e (sized (g .holds .right)) (g .holds .ok) client .0;
+            ok = cancel-preserves e (sized (g .holds .right)) (g .holds .ok) client .0;
             right = cancel-typed e (g .holds .right) client;
           };
           rings = q .ring ∙ g .rings;
@@ -247,7 +247,7 @@ module _ (s : Lent) (x : State) (g : Agrees s x) where
       subst (λ (m : List ℕ). Closes (s .bytes) m client (q .number) (t .bytes) (t .memory)) (g .memories) (q .says)
       in
       let k : Silent (s .bytes) (bytesOf (closeResult e n client .engine)) (closeResult e n client .answer) (q .number) (t .bytes) =
-      subst (λ (y : Record). Silent (s .bytes) (bytesOf (closeResult y n client .engine)) (closeResult y n client .answer) (q .number) (t .bytes)) z (b .told)
+      subst (λ (y : EngineRecord). Silent (s .bytes) (bytesOf (closeResult y n client .engine)) (closeResult y n client .answer) (q .number) (t .bytes)) z (b .told)
       in
       record {
         says = q .answer ∙ rw (k .number-is);
@@ -257,11 +257,11 @@ module _ (s : Lent) (x : State) (g : Agrees s x) where
                 k .record-is
                 ∙ ap (λ (m : ℕ). unlessRefused m (s .bytes) (bytesOf (closeResult e n client .engine))) (close-number e n client)
                 ∙ keeps (firstRefusal (closeTable e n client)) (s .bytes) e (withoutClient e client) (g .holds .are);
-            ok = close-stays e (sized (g .holds .right)) (g .holds .ok) n client .0;
+            ok = close-preserves e (sized (g .holds .right)) (g .holds .ok) n client .0;
             right = close-typed e (g .holds .right) n client;
           };
           rings = q .ring ∙ g .rings;
-          memories = b .memory-is ∙ ap (λ (y : Record). closeMemory y (x .memory) client) z;
+          memories = b .memory-is ∙ ap (λ (y : EngineRecord). closeMemory y (x .memory) client) z;
         };
       }
 
@@ -304,7 +304,7 @@ both-zero true n e = sym e
 both-zero false n e = absurd (omega arith)
 
 module _ (setup : Setup) (before bytes ring memory : List ℕ) (u : SetsUp before (setup .ring) (setup .memory) (setup .common) (setup .reset) 0 bytes) where
-  abbrev made : Record
+  abbrev made : EngineRecord
   made = setUpResult (setup .ring) (setup .memory) (setup .common) (setup .reset) .engine
 
   abbrev numbers : Numbers
@@ -323,7 +323,7 @@ module _ (setup : Setup) (before bytes ring memory : List ℕ) (u : SetsUp befor
   begins = record {
     holds = record {
       are = u .record-is ∙ unless-zero before (bytesOf made) (setUpNumber before (setup .ring) (setup .memory) (setup .common) (setup .reset)) (sym (u .number-is));
-      ok = set-up-stays numbers (sym (set-up-number numbers) ∙ taken);
+      ok = set-up-preserves numbers (sym (set-up-number numbers) ∙ taken);
       right = typed-made;
     };
     rings = refl;

@@ -13,7 +13,7 @@ use Rattle.record.specs.declared.Slot.{Slot}
 use Rattle.record.specs.declared.SlotState.{SlotState}
 use Rattle.record.specs.declared.SlotState.the-variants.{Free, Ready}
 use Rattle.record.specs.declared.Staged.{Staged}
-use Rattle.record.specs.declared.Record.{Record}
+use Rattle.record.specs.declared.EngineRecord.{EngineRecord}
 use Rattle.record.specs.Slots.{free, lowestFree}
 use Rattle.record.specs.Clients.{isOpen, noClient, lowestClosed}
 use Rattle.record.specs.Staged.{noStaged}
@@ -22,19 +22,19 @@ use Rattle.record.specs.Rules.{valid}
 use Rattle.queue.specs.Refusals.{firstRefusal, openTable, submitTable, cancelTable, closeTable}
 use Rattle.queue.specs.Calls.{initialRecord, withClient, openResult, newBatch, withBatch, submitted, submitNumber, submitResult, withStaged, begun, beginResult, more, isLast, pieceNumber, afterPiece, pieceResult, cancelResult, withoutClient, closeResult}
 use Rattle.queue.proofs.Refusals.{submit-allowed, piece-allowed}
-use Rattle.queue.proofs.Kept.{Sized, few-taken, fresh-sized, open-sized, close-sized, staged-sized}
+use Rattle.queue.proofs.Validity.{Sized, few-taken, fresh-sized, open-sized, close-sized, staged-sized}
 use Rattle.queue.proofs.Room.{pending-small}
 use Rattle.queue.proofs.Submitted.{added-sized}
-use Rattle.queue.proofs.Stays.{unless-keeps}
+use Rattle.queue.proofs.Preservation.{unless-keeps}
 use Rattle.engine.specs.Run.{runNumber, oldest, withoutOldest, runResult}
-use Rattle.engine.proofs.Stays.{run-sized}
+use Rattle.engine.proofs.Preservation.{run-sized}
 use Rattle.record_bytes.specs.RoundTrip.{AllClients, AllSlots, ClientTyped, StateTyped, Typed}
 use Rattle.record_bytes.proofs.Words.{client-at}
 
-pub sized : {e : Record} → Typed e → Sized e
+pub sized : {e : EngineRecord} → Typed e → Sized e
 sized t = record { clients = t .four; slots = t .eight; next = t .next }
 
-typed : (e : Record) → Sized e → AllClients ClientTyped (e .clients) → AllSlots StateTyped (e .slots) → e .staged .client < 2 ^ 32 → Typed e
+typed : (e : EngineRecord) → Sized e → AllClients ClientTyped (e .clients) → AllSlots StateTyped (e .slots) → e .staged .client < 2 ^ 32 → Typed e
 typed e s cs ss g = record { four = s .clients; eight = s .slots; clients = cs; slots = ss; next = s .next; staged = g }
 
 clients-set : (P : Client → Type 0) (cs : List Client) (i : ℕ) (c : Client) → AllClients P cs → P c → AllClients P (set cs i c)
@@ -51,7 +51,7 @@ none-typed : ClientTyped noClient
 none-typed = (omega arith, omega arith, omega arith)
 
 -- the client at a place, with another count
-counted : (e : Record) → Typed e → (client n : ℕ) → n < 2 ^ 32 → ClientTyped (record { window = getD (e .clients) client noClient .window; pending = n; opened = getD (e .clients) client noClient .opened })
+counted : (e : EngineRecord) → Typed e → (client n : ℕ) → n < 2 ^ 32 → ClientTyped (record { window = getD (e .clients) client noClient .window; pending = n; opened = getD (e .clients) client noClient .opened })
 counted e t client n h =
     let c = client-at ClientTyped none-typed (e .clients) (t .clients) client in
     (c .0, c .1, h)
@@ -60,7 +60,7 @@ pub fresh-typed : (setup : Setup) → Typed (initialRecord setup)
 unfolding initialRecord
 fresh-typed setup = typed (initialRecord setup) (fresh-sized setup) (none-typed, (none-typed, (none-typed, (none-typed, tt)))) (tt, (tt, (tt, (tt, (tt, (tt, (tt, (tt, tt)))))))) (omega arith)
 
-module _ (e : Record) (t : Typed e) where
+module _ (e : EngineRecord) (t : Typed e) where
   pub open-typed : (w : Window) → (w .start < 2 ^ 32) × (w .length < 2 ^ 32) → Typed (openResult e w .engine)
   unfolding openResult withClient
   open-typed w h =

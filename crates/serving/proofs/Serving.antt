@@ -3,18 +3,18 @@ use mathlib.Core.Path.{_≡_, refl, sym, ap, _∙_}
 use mathlib.Core.List.{List}
 use Prim.Native.Nat.{ℕ, zero, suc, _<_, _-_, _≤_}
 use native.Mathlib.Omega.{arith}
-use Rattle.record.specs.declared.Record.{Record}
+use Rattle.record.specs.declared.EngineRecord.{EngineRecord}
 use Rattle.queue.specs.declared.Reply.{Reply}
 use Rattle.queue.specs.Answers.{refusalNumberOf}
 use Rattle.queue.specs.Calls.{submitResult, submitRing}
 use Rattle.engine.specs.declared.Completion.{Completion}
 use Rattle.engine.specs.declared.Outcome.the-variants.{Refused, Completed}
-use Rattle.engine.specs.declared.Ran.{Ran}
+use Rattle.engine.specs.declared.RunResult.{RunResult}
 use Rattle.engine.specs.Outcome.{runRefusalOf as refusalOf, valuesOf}
 use Rattle.engine.specs.Run.{oldest, oldestVerdict, runNumber, outcomeUnlessRefused, runResult, runMemory}
 use Rattle.model.specs.Calls.{run, refused}
 use Rattle.claims.specs.Engine.{mkState, CallResult, answerOrRefusal, completion, performCall, State}
-use Rattle.serving.specs.declared.Served.{Served}
+use Rattle.serving.specs.declared.SubmitRunResult.{SubmitRunResult}
 use Rattle.records.specs.Records.{Entry}
 use Rattle.lines.specs.Lines.{refusalLine, answerLine, submitAndRun, entryLine, badScoreLine, recordLine, recordAfter}
 use mathlib.Core.Bool.{Bool, true, false}
@@ -37,14 +37,14 @@ answered-refused (suc n) c m e =
     omega arith
 
 -- a refusal has a number
-pub run-refused : (engine : Record) (ring memory : List ℕ) (m : ℕ) → runResult engine ring memory .outcome ≡ Refused m → 0 < m
+pub run-refused : (engine : EngineRecord) (ring memory : List ℕ) (m : ℕ) → runResult engine ring memory .outcome ≡ Refused m → 0 < m
 unfolding runResult
 run-refused engine ring memory m e =
     answered-refused (runNumber engine ring memory) (record { client = oldest engine .client; ticket = oldest engine .ticket; verdict = oldestVerdict engine ring }) m e
 
 -- ---- a record
 
-module _ (engine : Record) (ring memory : List ℕ) (entry : Entry) where
+module _ (engine : EngineRecord) (ring memory : List ℕ) (entry : Entry) where
   abbrev reply : Reply
   reply = submitResult engine ring (entry .client) (entry .batch)
 
@@ -62,7 +62,7 @@ module _ (engine : Record) (ring memory : List ℕ) (entry : Entry) where
   unfolding submitAndRun performCall answerOrRefusal
   served-ran e = rw e
 
-module _ (engine : Record) (ring memory : List ℕ) (entry : Entry) (line : List ℕ) (s : Served) (r : Reply) (ring′ memory′ line′ : List ℕ)
+module _ (engine : EngineRecord) (ring memory : List ℕ) (entry : Entry) (line : List ℕ) (s : SubmitRunResult) (r : Reply) (ring′ memory′ line′ : List ℕ)
     (submitted : r ≡ submitResult engine ring (entry .client) (entry .batch)) (rung-is : ring′ ≡ submitRing engine ring (entry .client) (entry .batch)) where
   pub serves-refused : (number : ℕ) → number ≡ refusalNumberOf (r .answer) → (number ≡ 0 → ⊥) → s .engine ≡ r .engine → memory′ ≡ memory
       → Prints (refusalLine (entry .client) number) line (s .written) line′ → Serves (entryLine entry (mkState engine ring memory)) (submitAndRun entry (mkState engine ring memory) .after) line s ring′ memory′ line′
@@ -77,7 +77,7 @@ module _ (engine : Record) (ring memory : List ℕ) (entry : Entry) (line : List
         prints = rw all prints;
       }
 
-  pub serves-ran : (ran : Ran) → refusalNumberOf (r .answer) ≡ 0 → ran ≡ runResult (r .engine) ring′ memory → memory′ ≡ runMemory (r .engine) ring′ memory → s .engine ≡ ran .engine
+  pub serves-ran : (ran : RunResult) → refusalNumberOf (r .answer) ≡ 0 → ran ≡ runResult (r .engine) ring′ memory → memory′ ≡ runMemory (r .engine) ring′ memory → s .engine ≡ ran .engine
       → Prints (answerLine (entry .client) (answerOrRefusal (refusalOf (ran .outcome)) (completion (valuesOf (ran .outcome))))) line (s .written) line′
       → Serves (entryLine entry (mkState engine ring memory)) (submitAndRun entry (mkState engine ring memory) .after) line s ring′ memory′ line′
   unfolding performCall
@@ -97,11 +97,11 @@ pub lies-some : (edition : Edition) (end room : ℕ) → (batchStart edition ≤
 lies-some First end room lies = omega arith
 lies-some Second end room lies = omega arith
 
-module _ (edition : Edition) (engine : Record) (ring memory held line : List ℕ) (end : ℕ) (lies : (batchStart edition ≤ end) × (end ≤ length held)) where
+module _ (edition : Edition) (engine : EngineRecord) (ring memory held line : List ℕ) (end : ℕ) (lies : (batchStart edition ≤ end) × (end ≤ length held)) where
   abbrev begun : State
   begun = mkState engine ring memory
 
-  abbrev Record-serves : Served → (ring′ memory′ line′ : List ℕ) → Type 0
+  abbrev Record-serves : SubmitRunResult → (ring′ memory′ line′ : List ℕ) → Type 0
   Record-serves s ring′ memory′ line′ = Serves (recordLine edition (entryIn held end) begun) (recordAfter edition (entryIn held end) begun) line s ring′ memory′ line′
 
   holds : (b good : Bool) → good ≡ scoreIn edition held end → good ≡ b → scoreHolds edition (entryIn held end) ≡ b
@@ -113,7 +113,7 @@ module _ (edition : Edition) (engine : Record) (ring memory held line : List ℕ
   record-bad good written line′ is e prints = rw (holds false good is e) (record { engine-is = refl; ring-is = refl; memory-is = refl; prints = prints })
 
   -- it is submitted
-  pub record-good : (good : Bool) (start : ℕ) (s : Served) (ring′ memory′ line′ : List ℕ) → good ≡ scoreIn edition held end → good ≡ true → start ≡ batchStart edition
+  pub record-good : (good : Bool) (start : ℕ) (s : SubmitRunResult) (ring′ memory′ line′ : List ℕ) → good ≡ scoreIn edition held end → good ≡ true → start ≡ batchStart edition
       → let entry : Entry = record { client = getD held 4 0; batch = take (end - start) (drop start held) } in
       Serves (entryLine entry begun) (submitAndRun entry begun .after) line s ring′ memory′ line′ → Record-serves s ring′ memory′ line′
   record-good good start s ring′ memory′ line′ is e at serves = rw (holds true good is e, submission-in edition held end lies, ← at) serves

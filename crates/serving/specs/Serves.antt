@@ -4,10 +4,10 @@ use mathlib.Core.List.{List}
 use Prim.Native.Nat.{ℕ}
 use Rattle.claims.specs.Engine.{State}
 use Rattle.record_lines.specs.Prints.{Prints}
-use Rattle.serving.specs.declared.Served.{Served}
+use Rattle.serving.specs.declared.SubmitRunResult.{SubmitRunResult}
 
 -- Internal: what the call that serves a record leaves
-pub record Serves (text : List ℕ) (next : State) (line : List ℕ) (s : Served) (ring′ memory′ line′ : List ℕ) : Type 0 where
+pub record Serves (text : List ℕ) (next : State) (line : List ℕ) (s : SubmitRunResult) (ring′ memory′ line′ : List ℕ) : Type 0 where
   pub engine-is : s .engine ≡ next .engine
   pub ring-is : ring′ ≡ next .ring
   pub memory-is : memory′ ≡ next .memory

@@ -9,13 +9,13 @@ ghost use Rattle.records.specs.Reading.{entryIn, Lies};
 ghost use Rattle.lines.specs.Lines.{entryLine, submitAndRun, recordLine, recordAfter};
 ghost use Rattle.serving.specs.Serves.{Serves};
 use queue::Answer;
-use record::Record;
+use record::EngineRecord;
 use records::Edition;
 use text::line;
 
 // The engine after what was found, and how many bytes were printed.
-pub struct Served {
-    pub engine: Record,
+pub struct SubmitRunResult {
+    pub engine: EngineRecord,
     pub written: usize,
 }
 
@@ -34,15 +34,15 @@ fn number_of(answer: Answer) -> u32
 }
 
 // Submits a record and, if it is accepted, runs it: by the slow engine, or by the fast one.
-fn serve(
-    engine: Record,
+fn submit_and_run(
+    engine: EngineRecord,
     ring: &mut [u8],
     memory: &mut [u8],
     client: u32,
     batch: &[u8],
     line: &mut [u8],
     slow: bool,
-) -> Served
+) -> SubmitRunResult
     requires { ⌜ 128 ≤ length (now line) ⌝ }
     ensures { λ r. ⌜ Serves (entryLine (record { client = client; batch = now (batch .entry) }) (mkState engine (now (ring .entry)) (now (memory .entry))))
         (submitAndRun (record { client = client; batch = now (batch .entry) }) (mkState engine (now (ring .entry)) (now (memory .entry))) .after)
@@ -53,7 +53,7 @@ fn serve(
     let waiting = submitted.engine;
     let number = number_of(answer);
     if number != 0 {
-        return Served {
+        return SubmitRunResult {
             engine: waiting,
             written: record_lines::refusal_line(line, client, number),
         };
@@ -61,7 +61,7 @@ fn serve(
     let ran = run::run_by(waiting, ring, memory, slow);
     let outcome = ran.outcome;
     let after = ran.engine;
-    Served {
+    SubmitRunResult {
         engine: after,
         written: record_lines::outcome_line(line, client, outcome),
     }
@@ -70,27 +70,27 @@ fn serve(
 // The record that lies in `held` up to an end, if its score holds.
 pub fn serve_record(
     edition: Edition,
-    engine: Record,
+    engine: EngineRecord,
     held: &[u8],
     end: usize,
     ring: &mut [u8],
     memory: &mut [u8],
     line: &mut [u8],
     slow: bool,
-) -> Served
+) -> SubmitRunResult
     requires { ⌜ Lies edition (OneRecord end) (length (now held)) × (128 ≤ length (now line)) ⌝ }
     ensures { λ r. ⌜ Serves (recordLine edition (entryIn (now (held .entry)) end) (mkState engine (now (ring .entry)) (now (memory .entry))))
         (recordAfter edition (entryIn (now (held .entry)) end) (mkState engine (now (ring .entry)) (now (memory .entry))))
         (now (line .entry)) r (now (ring .exit)) (now (memory .exit)) (now (line .exit)) ⌝ }
 {
     if !editions::score_in(edition, held, end) {
-        return Served {
+        return SubmitRunResult {
             engine: engine,
             written: line::copy(line, b"bad score\n"),
         };
     }
     let start = edition.batch_start();
-    serve(
+    submit_and_run(
         engine,
         ring,
         memory,

@@ -11,9 +11,9 @@ use Rattle.word.proofs.Splice.{take-spliced, drop-spliced}
 use Rattle.word.proofs.Written.{length-bytes}
 use Rattle.model.specs.Calls.{Call, opens, submit, run, pending, begin, piece, cancel, close, Answer, opened, accepted, completed, ready, missing, done, refused}
 use Rattle.claims.specs.Engine.{State, performCall, answersOf, stateAfter}
-use Rattle.session.specs.declared.script.Found.{Found}
-use Rattle.session.specs.declared.script.Next.{Next}
-use Rattle.session.specs.declared.script.Next.the-variants.{End, Call as Begins}
+use Rattle.session.specs.declared.script.ParsedCall.{ParsedCall}
+use Rattle.session.specs.declared.script.ParseResult.{ParseResult}
+use Rattle.session.specs.declared.script.ParseResult.the-variants.{End, Call as Begins}
 use Rattle.session.specs.Script.{parsed, parseCall, decode}
 use Rattle.session.specs.Parsing.{callOf, ParsesAs}
 use Rattle.session.specs.Answers.{plainWords, pieceWords, answerWords, answerBytes}
@@ -62,7 +62,7 @@ unfolding decode
 decode-more zero bytes rest call h e = absurd (omega arith)
 decode-more (suc n) bytes rest call h e = let less : suc n - 1 ≡ n = omega arith in rw (e, less)
 
-pub decode-end : (n : ℕ) (bytes : List ℕ) (r : Next) → ParsesAs bytes (parseCall bytes) r → r ≡ End → decode n bytes ≡ []
+pub decode-end : (n : ℕ) (bytes : List ℕ) (r : ParseResult) → ParsesAs bytes (parseCall bytes) r → r ≡ End → decode n bytes ≡ []
 unfolding decode
 decode-end zero bytes r q e = refl
 decode-end (suc n) bytes r q e = rw (← q .means, e)
@@ -117,7 +117,7 @@ module _ (n : ℕ) (script : List ℕ) (s₀ : State) (answers₀ : List ℕ) wh
       }
 
 -- the same in the code's values: the lent part of the script, and what `next_call` found in it
-pub found-next : (script : List ℕ) (at : ℕ) (bytes : List ℕ) (r : Next) (f : Found) → at ≤ length script → bytes ≡ drop at script → ParsesAs bytes (parseCall bytes) r → r ≡ Begins f →
+pub found-next : (script : List ℕ) (at : ℕ) (bytes : List ℕ) (r : ParseResult) (f : ParsedCall) → at ≤ length script → bytes ≡ drop at script → ParsesAs bytes (parseCall bytes) r → r ≡ Begins f →
     (parseCall (drop at script) ≡ parsed (callOf bytes (f .request)) (drop (f .size) (drop at script))) × (at + f .size ≤ length script)
 found-next script at bytes r f low e q b =
     let p = rw b at q in

@@ -10,7 +10,7 @@ use Rattle.word.specs.Word.{le32At}
 use Rattle.session.specs.declared.script.Request.the-variants.{Open, Submit, Run, Begin, Piece}
 use Rattle.session.specs.declared.script.OfClient.{OfClient}
 use Rattle.session.specs.declared.script.OfClient.the-variants.{Pending, Cancel, Close}
-use Rattle.session.specs.declared.script.Next.the-variants.{End, Call as Begins}
+use Rattle.session.specs.declared.script.ParseResult.the-variants.{End, Call as Begins}
 use Rattle.model.specs.Calls.{Call, opens, submit, pending, begin, piece, cancel, close}
 use Rattle.session.specs.Script.{parsed, parseOpen, parseBytes, parseRun, parseClient, parseBegin, parseCall}
 use Rattle.session.specs.Parsing.{clientCall, requestOf, ParsesAs}

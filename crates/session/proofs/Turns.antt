@@ -3,14 +3,14 @@ use mathlib.Core.Path.{_≡_, refl, sym, _∙_}
 use mathlib.Core.List.{List}
 use Prim.Native.Nat.{ℕ, _≤_}
 use lib.ListN.{length}
-use Rattle.record.specs.declared.Record.{Record}
+use Rattle.record.specs.declared.EngineRecord.{EngineRecord}
 use Rattle.record.specs.Staged.{missingBytes}
 use Rattle.queue.specs.declared.Answer.{Answer as Told}
 use Rattle.queue.specs.declared.Reply.{Reply}
 use Rattle.queue.specs.Answers.{refusalNumberOf, valueOf}
 use Rattle.queue.specs.Refusals.{firstRefusal, submitTable, cancelTable, closeTable}
 use Rattle.queue.specs.Calls.{openResult, submitResult, submitRing, beginResult, more, isLast, pieceNumber, pieceResult, pieceRing, cancelResult, closeResult, pendingAnswer}
-use Rattle.engine.specs.declared.Ran.{Ran}
+use Rattle.engine.specs.declared.RunResult.{RunResult}
 use Rattle.engine.specs.Run.{runResult, runMemory}
 use Rattle.engine.specs.Close.{closeMemory}
 use Rattle.answers.specs.Answers.{shortAnswer, pieceWords as twoWords, outcomeWords}
@@ -42,32 +42,32 @@ batch-lies size q client from to e l = rw e at l
 pub piece-lies : (size : ℕ) (q : Request) (client from to : ℕ) → q ≡ Piece client from to → BatchInBounds size q → (from ≤ to) × (to ≤ size)
 piece-lies size q client from to e l = rw e at l
 
-module _ (engine : Record) (ring memory : List ℕ) where
-  pub open-plays : (start size : ℕ) (r : Reply) (words : List ℕ) (after : Record) → r ≡ openResult engine (record { start = start; length = size }) →
+module _ (engine : EngineRecord) (ring memory : List ℕ) where
+  pub open-plays : (start size : ℕ) (r : Reply) (words : List ℕ) (after : EngineRecord) → r ≡ openResult engine (record { start = start; length = size }) →
       words ≡ shortAnswer (refusalNumberOf (r .answer)) (valueOf (r .answer)) → after ≡ r .engine →
       CallMatches (opens (record { start = start; length = size })) (mkState engine ring memory) (mkState after ring memory) words
   unfolding performCall
   open-plays start size r words after e w g = record { says = rw (← e) (w ∙ sym (told-words (r .answer) opened opened-words)); leaves = rw (g, e) }
 
-  pub submit-plays : (client : ℕ) (batch : List ℕ) (r : Reply) (words ring′ : List ℕ) (after : Record) → r ≡ submitResult engine ring client batch →
+  pub submit-plays : (client : ℕ) (batch : List ℕ) (r : Reply) (words ring′ : List ℕ) (after : EngineRecord) → r ≡ submitResult engine ring client batch →
       ring′ ≡ submitRing engine ring client batch → words ≡ shortAnswer (refusalNumberOf (r .answer)) (valueOf (r .answer)) → after ≡ r .engine →
       CallMatches (submit client batch) (mkState engine ring memory) (mkState after ring′ memory) words
   unfolding performCall
   submit-plays client batch r words ring′ after e q w g = record { says = rw (← e) (w ∙ sym (told-words (r .answer) accepted accepted-words)); leaves = rw (g, e, q) }
 
-  pub run-plays : (r : Ran) (words memory′ : List ℕ) (after : Record) → r ≡ runResult engine ring memory → memory′ ≡ runMemory engine ring memory →
+  pub run-plays : (r : RunResult) (words memory′ : List ℕ) (after : EngineRecord) → r ≡ runResult engine ring memory → memory′ ≡ runMemory engine ring memory →
       words ≡ outcomeWords (r .outcome) → after ≡ r .engine →
       CallMatches run (mkState engine ring memory) (mkState after ring memory′) words
   unfolding performCall
   run-plays r words memory′ after e q w g = record { says = rw (← e) (w ∙ sym (run-words (r .outcome))); leaves = rw (g, e, q) }
 
-  pub begin-plays : (client total : ℕ) (r : Reply) (words : List ℕ) (after : Record) → r ≡ beginResult engine (length ring) client total →
+  pub begin-plays : (client total : ℕ) (r : Reply) (words : List ℕ) (after : EngineRecord) → r ≡ beginResult engine (length ring) client total →
       words ≡ shortAnswer (refusalNumberOf (r .answer)) (valueOf (r .answer)) → after ≡ r .engine →
       CallMatches (begin client total) (mkState engine ring memory) (mkState after ring memory) words
   unfolding performCall beginResult
   begin-plays client total r words after e w g = record { says = w ∙ rw e (sym (silent-words (firstRefusal (submitTable engine (length ring) client total)))); leaves = rw (g, e) }
 
-  pub piece-plays : (client : ℕ) (bytes : List ℕ) (r : Reply) (words ring′ : List ℕ) (after : Record) → r ≡ pieceResult engine ring client bytes →
+  pub piece-plays : (client : ℕ) (bytes : List ℕ) (r : Reply) (words ring′ : List ℕ) (after : EngineRecord) → r ≡ pieceResult engine ring client bytes →
       ring′ ≡ pieceRing engine ring client bytes → words ≡ twoWords (r .answer) → after ≡ r .engine →
       CallMatches (piece client bytes) (mkState engine ring memory) (mkState after ring′ memory) words
   unfolding performCall pieceResult
@@ -76,13 +76,13 @@ module _ (engine : Record) (ring memory : List ℕ) where
     leaves = rw (g, e, q);
   }
 
-  pub cancel-plays : (client : ℕ) (r : Reply) (words : List ℕ) (after : Record) → r ≡ cancelResult engine client →
+  pub cancel-plays : (client : ℕ) (r : Reply) (words : List ℕ) (after : EngineRecord) → r ≡ cancelResult engine client →
       words ≡ shortAnswer (refusalNumberOf (r .answer)) (valueOf (r .answer)) → after ≡ r .engine →
       CallMatches (cancel client) (mkState engine ring memory) (mkState after ring memory) words
   unfolding performCall cancelResult
   cancel-plays client r words after e w g = record { says = w ∙ rw e (sym (silent-words (firstRefusal (cancelTable engine client)))); leaves = rw (g, e) }
 
-  pub close-plays : (client : ℕ) (r : Reply) (words memory′ : List ℕ) (after : Record) → r ≡ closeResult engine (length memory) client → memory′ ≡ closeMemory engine memory client →
+  pub close-plays : (client : ℕ) (r : Reply) (words memory′ : List ℕ) (after : EngineRecord) → r ≡ closeResult engine (length memory) client → memory′ ≡ closeMemory engine memory client →
       words ≡ shortAnswer (refusalNumberOf (r .answer)) (valueOf (r .answer)) → after ≡ r .engine →
       CallMatches (close client) (mkState engine ring memory) (mkState after ring memory′) words
   unfolding performCall closeResult

@@ -8,8 +8,8 @@ use Rattle.session.specs.declared.script.Request.{Request}
 use Rattle.session.specs.declared.script.Request.the-variants.{Open, Submit, Run, Pending, Begin, Piece, Cancel, Close}
 use Rattle.session.specs.declared.script.OfClient.{OfClient}
 use Rattle.session.specs.declared.script.OfClient.the-variants.{Pending as PendingOf, Cancel as CancelOf, Close as CloseOf}
-use Rattle.session.specs.declared.script.Next.{Next}
-use Rattle.session.specs.declared.script.Next.the-variants.{End, Call as Begins}
+use Rattle.session.specs.declared.script.ParseResult.{ParseResult}
+use Rattle.session.specs.declared.script.ParseResult.the-variants.{End, Call as Begins}
 use Rattle.session.specs.Script.{Parsed, ended, parsed}
 
 -- a batch or a piece is the bytes `from` to `to`
@@ -45,15 +45,15 @@ BatchInBounds size (Piece client from to) = (from ≤ to) × (to ≤ size)
 BatchInBounds size (Cancel client) = Unit {0}
 BatchInBounds size (Close client) = Unit {0}
 
-abbrev pub parsedOf : List ℕ → Next → Parsed
+abbrev pub parsedOf : List ℕ → ParseResult → Parsed
 parsedOf bytes End = ended
 parsedOf bytes (Begins found) = parsed (callOf bytes (found .request)) (drop (found .size) bytes)
 
-abbrev pub CallInBounds : (size : ℕ) → Next → Type 0
+abbrev pub CallInBounds : (size : ℕ) → ParseResult → Type 0
 CallInBounds size End = Unit {0}
 CallInBounds size (Begins found) = (found .size ≤ size) × BatchInBounds size (found .request)
 
 -- the code's value stands for what is parsed, and lies in the bytes
-pub record ParsesAs (bytes : List ℕ) (p : Parsed) (r : Next) : Type 0 where
+pub record ParsesAs (bytes : List ℕ) (p : Parsed) (r : ParseResult) : Type 0 where
   pub means : parsedOf bytes r ≡ p
   pub within : CallInBounds (length bytes) r

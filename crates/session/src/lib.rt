@@ -12,48 +12,48 @@ ghost use Rattle.session.specs.Script.{decode};
 ghost use Rattle.session.specs.Parsing.{callOf, BatchInBounds};
 ghost use Rattle.session.specs.Contracts.{CallMatches, CallsMatch};
 ghost use Rattle.session.specs.Played.{ScriptResult};
-use crate::script::Next;
+use crate::script::ParseResult;
 use crate::script::Request;
-use engine::Ran;
+use engine::RunResult;
 use queue::Reply;
-use record::Record;
+use record::EngineRecord;
 use reset::ResetRule;
 
 // An answer's words, and the record after the call.
-struct Step {
+struct CallOutput {
     words: [u32; 6],
-    engine: Record,
+    engine: EngineRecord,
 }
 
-fn step_of(reply: Reply) -> Step
+fn step_of(reply: Reply) -> CallOutput
     ensures { λ r. ⌜ (r .words ≡ shortAnswer (refusalNumberOf (reply .answer)) (valueOf (reply .answer))) × (r .engine ≡ reply .engine) ⌝ }
 {
     let answer = reply.answer;
     let engine = reply.engine;
-    Step {
+    CallOutput {
         words: answers::answer_words(answer),
         engine: engine,
     }
 }
 
-fn step_of_piece(reply: Reply) -> Step
+fn step_of_piece(reply: Reply) -> CallOutput
     ensures { λ r. ⌜ (r .words ≡ pieceWords (reply .answer)) × (r .engine ≡ reply .engine) ⌝ }
 {
     let answer = reply.answer;
     let engine = reply.engine;
-    Step {
+    CallOutput {
         words: answers::piece_words(answer),
         engine: engine,
     }
 }
 
-fn step_of_run(ran: Ran) -> Step
+fn step_of_run(ran: RunResult) -> CallOutput
     requires { ⌜ Small (ran .outcome) ⌝ }
     ensures { λ r. ⌜ (r .words ≡ outcomeWords (ran .outcome)) × (r .engine ≡ ran .engine) ⌝ }
 {
     let outcome = ran.outcome;
     let engine = ran.engine;
-    Step {
+    CallOutput {
         words: answers::outcome_words(outcome),
         engine: engine,
     }
@@ -61,12 +61,12 @@ fn step_of_run(ran: Ran) -> Step
 
 // One call, taken from the script's bytes that begin with it.
 fn play_call(
-    engine: Record,
+    engine: EngineRecord,
     ring: &mut [u8],
     memory: &mut [u8],
     bytes: &[u8],
     request: Request,
-) -> Step
+) -> CallOutput
     requires { ⌜ BatchInBounds (length (now bytes)) request ⌝ }
     ensures { λ r. ⌜ CallMatches (callOf (now (bytes .entry)) request) (mkState engine (now (ring .entry)) (now (memory .entry)))
         (mkState (r .engine) (now (ring .exit)) (now (memory .exit))) (r .words) ⌝ }
@@ -80,7 +80,7 @@ fn play_call(
             &bytes[from..to],
         )),
         Request::Run => step_of_run(run::run(engine, ring, memory)),
-        Request::Pending(client) => Step {
+        Request::Pending(client) => CallOutput {
             words: answers::answer_words(clients::pending(engine, client)),
             engine: engine,
         },
@@ -98,7 +98,7 @@ fn play_call(
 
 // The calls of a script, as many as there is room for their answers.
 fn play_calls(
-    start: Record,
+    start: EngineRecord,
     ring: &mut [u8],
     memory: &mut [u8],
     script: &[u8],
@@ -114,10 +114,10 @@ fn play_calls(
     while 0 < left {
         let bytes = &script[at..];
         match script::next_call(bytes) {
-            Next::End => {
+            ParseResult::End => {
                 return count;
             }
-            Next::Call(found) => {
+            ParseResult::Call(found) => {
                 let request = found.request;
                 let step = play_call(engine, ring, memory, bytes, request);
                 let words = step.words;

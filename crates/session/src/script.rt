@@ -25,41 +25,41 @@ pub enum OfClient {
 }
 
 // A call, and how many bytes it takes.
-pub struct Found {
+pub struct ParsedCall {
     pub request: Request,
     pub size: usize,
 }
 
-pub enum Next {
+pub enum ParseResult {
     End,
-    Call(Found),
+    Call(ParsedCall),
 }
 
 // Open: start and length after the opcode.
-fn open_in(bytes: &[u8]) -> Next
+fn open_in(bytes: &[u8]) -> ParseResult
     ensures { λ r. ⌜ ParsesAs (now (bytes .entry)) (parseOpen (now (bytes .entry))) r ⌝ }
 {
     if bytes.len() < 9 {
-        return Next::End;
+        return ParseResult::End;
     }
     let start = word::read_le32(bytes, 1);
     let length = word::read_le32(bytes, 5);
-    Next::Call(Found {
+    ParseResult::Call(ParsedCall {
         request: Request::Open(start, length),
         size: 9,
     })
 }
 
 // Submit, if `whole`, or a piece: client, length and bytes after the opcode. The length is read only where it is there.
-fn bytes_in(bytes: &[u8], whole: bool) -> Next
+fn bytes_in(bytes: &[u8], whole: bool) -> ParseResult
     ensures { λ r. ⌜ ParsesAs (now (bytes .entry)) (parseBytes (cond whole submit piece) (now (bytes .entry))) r ⌝ }
 {
     if bytes.len() < 6 {
-        return Next::End;
+        return ParseResult::End;
     }
     let size = word::read_le32(bytes, 2) as usize;
     if bytes.len() - 6 < size {
-        return Next::End;
+        return ParseResult::End;
     }
     let client = bytes[1] as u32;
     let end = 6 + size;
@@ -68,22 +68,22 @@ fn bytes_in(bytes: &[u8], whole: bool) -> Next
     } else {
         Request::Piece(client, 6, end)
     };
-    Next::Call(Found {
+    ParseResult::Call(ParsedCall {
         request: request,
         size: end,
     })
 }
 
 // Begin: client and total length after the opcode.
-fn begin_in(bytes: &[u8]) -> Next
+fn begin_in(bytes: &[u8]) -> ParseResult
     ensures { λ r. ⌜ ParsesAs (now (bytes .entry)) (parseBegin (now (bytes .entry))) r ⌝ }
 {
     if bytes.len() < 6 {
-        return Next::End;
+        return ParseResult::End;
     }
     let total = word::read_le32(bytes, 2) as usize;
     let client = bytes[1] as u32;
-    Next::Call(Found {
+    ParseResult::Call(ParsedCall {
         request: Request::Begin(client, total),
         size: 6,
     })
@@ -100,30 +100,30 @@ fn request_of(kind: OfClient, client: u32) -> Request
 }
 
 // A call of a client alone: the client after the opcode.
-fn client_in(bytes: &[u8], kind: OfClient) -> Next
+fn client_in(bytes: &[u8], kind: OfClient) -> ParseResult
     ensures { λ r. ⌜ ParsesAs (now (bytes .entry)) (parseClient (clientCall kind) (now (bytes .entry))) r ⌝ }
 {
     if bytes.len() < 2 {
-        return Next::End;
+        return ParseResult::End;
     }
     let request = request_of(kind, bytes[1] as u32);
-    Next::Call(Found {
+    ParseResult::Call(ParsedCall {
         request: request,
         size: 2,
     })
 }
 
 // The call that the bytes begin with.
-pub fn next_call(bytes: &[u8]) -> Next
+pub fn next_call(bytes: &[u8]) -> ParseResult
     ensures { λ r. ⌜ ParsesAs (now (bytes .entry)) (parseCall (now (bytes .entry))) r ⌝ }
 {
     if bytes.len() == 0 {
-        return Next::End;
+        return ParseResult::End;
     }
     match bytes[0] {
         0 => open_in(bytes),
         1 => bytes_in(bytes, true),
-        2 => Next::Call(Found {
+        2 => ParseResult::Call(ParsedCall {
             request: Request::Run,
             size: 1,
         }),
@@ -132,6 +132,6 @@ pub fn next_call(bytes: &[u8]) -> Next
         5 => bytes_in(bytes, false),
         6 => client_in(bytes, OfClient::Cancel),
         7 => client_in(bytes, OfClient::Close),
-        _ => Next::End,
+        _ => ParseResult::End,
     }
 }

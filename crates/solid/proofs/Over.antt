@@ -13,7 +13,7 @@ use Rattle.pixel.specs.Blending.{blendedChannel, blended}
 use Rattle.pixel.specs.Rules.{blendModeFactors}
 use Rattle.pixel.specs.declared.colour.Colour.{Colour}
 use Rattle.pixel.specs.declared.blend.AlphaMode.the-variants.{Pixel}
-use Rattle.pixel.specs.declared.blend.RuleName.the-variants.{SrcOver}
+use Rattle.pixel.specs.declared.blend.BlendMode.the-variants.{SrcOver}
 use Rattle.pixel.specs.declared.format.Format.the-variants.{Argb8888}
 use Rattle.pixel.proofs.Stored.{Bytes}
 use Rattle.register.specs.declared.task.Alpha.{Alpha}

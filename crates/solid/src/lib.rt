@@ -4,7 +4,7 @@ ghost use Prim.Native.Nat.{ℕ, _+_, _*_, _%_, _-_, _≤_, _<_};
 ghost use lib.ListN.{length, getD};
 ghost use Rattle.pixel.specs.Blending.{blended};
 ghost use Rattle.pixel.specs.Rules.{blendModeFactors};
-ghost use Rattle.pixel.specs.declared.blend.RuleName.the-variants.{SrcOver};
+ghost use Rattle.pixel.specs.declared.blend.BlendMode.the-variants.{SrcOver};
 ghost use Rattle.pixel.specs.declared.format.Format.the-variants.{Argb8888};
 ghost use Rattle.lanes.specs.Lanes.{Done};
 ghost use Rattle.plan.specs.Blend.{duo};

@@ -8,7 +8,7 @@ use borrow.Rule.Slice.PartMut.{midOf, putMid}
 use Rattle.pixel.specs.Blending.{blended}
 use Rattle.pixel.specs.Rules.{blendModeFactors}
 use Rattle.pixel.specs.declared.colour.Colour.{Colour as Channels}
-use Rattle.pixel.specs.declared.blend.RuleName.the-variants.{SrcOver}
+use Rattle.pixel.specs.declared.blend.BlendMode.the-variants.{SrcOver}
 use Rattle.pixel.specs.declared.format.Format.{Format}
 use Rattle.pixel.specs.declared.format.Format.the-variants.{Argb8888}
 use Rattle.surface.specs.Surface.{rowLength, rowStart}
@@ -23,7 +23,7 @@ use Rattle.rows.specs.Mixed.{composite}
 use Rattle.solid.proofs.Over.{composite-over}
 use Rattle.raster.specs.Task.{sourceColour, destinationColour, pixelColour}
 use Rattle.raster.specs.Row.{rowDrawn}
-use Rattle.raster.proofs.Lent.{row-lent, row-ext}
+use Rattle.raster.proofs.Slices.{row-lent, row-ext}
 use Rattle.raster.proofs.Pixel.{pixel-blended}
 use Rattle.raster.proofs.InPlace.{argb-length, own-pixel}
 use Rattle.raster.proofs.Parts.{SolidTask}

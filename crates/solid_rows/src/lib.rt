@@ -4,7 +4,7 @@ ghost use Prim.Native.Nat.{_+_, _*_};
 ghost use lib.ListN.{length};
 ghost use Rattle.pixel.specs.Blending.{blended};
 ghost use Rattle.pixel.specs.Rules.{blendModeFactors};
-ghost use Rattle.pixel.specs.declared.blend.RuleName.the-variants.{SrcOver};
+ghost use Rattle.pixel.specs.declared.blend.BlendMode.the-variants.{SrcOver};
 ghost use Rattle.surface.specs.Drawn.{loadPixel};
 ghost use Rattle.solid_colour.specs.Solid.{solidOf, Prepared};
 ghost use Rattle.kinds.specs.Kinds.{kindOf};

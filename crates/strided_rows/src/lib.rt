@@ -10,7 +10,7 @@ use argb_words::load_word;
 use argb_words::store_word;
 use argb_words::word_of;
 use pixel::Format;
-use rows::place;
+use rows::strided_address;
 use surface::load;
 
 // The word of the pixel at an address.
@@ -43,7 +43,7 @@ fn fetch_each(
         store_word(
             buffer,
             x * 4,
-            load_as_word(memory, place(start, step, back, x), format),
+            load_as_word(memory, strided_address(start, step, back, x), format),
         );
         x += 1;
     }

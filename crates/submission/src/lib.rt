@@ -12,11 +12,11 @@ use queue::Answer;
 use queue::Reply;
 use record::Batch;
 use record::Checked;
-use record::Record;
+use record::EngineRecord;
 use record::Staged;
 
 // Puts a batch into the ring and the queue. What it says is not looked at.
-pub fn submit(engine: Record, ring: &mut [u8], client: u32, batch: &[u8]) -> Reply
+pub fn submit(engine: EngineRecord, ring: &mut [u8], client: u32, batch: &[u8]) -> Reply
     ensures { λ r. ⌜ (r ≡ submitResult engine (now (ring .entry)) client (now (batch .entry)))
         × (now (ring .exit) ≡ submitRing engine (now (ring .entry)) client (now (batch .entry))) ⌝ }
 {
@@ -48,7 +48,7 @@ pub fn submit(engine: Record, ring: &mut [u8], client: u32, batch: &[u8]) -> Rep
 }
 
 // The record with another staged submission, or none.
-fn with_staged(engine: Record, staged: Staged) -> Record
+fn with_staged(engine: EngineRecord, staged: Staged) -> EngineRecord
     ensures { λ r. ⌜ r ≡ withStaged engine staged ⌝ }
 {
     let mut after = engine;
@@ -57,7 +57,7 @@ fn with_staged(engine: Record, staged: Staged) -> Record
 }
 
 // Begins a batch of a total length that is handed over by pieces. The ring is lent to be looked at: its length is checked.
-pub fn begin(engine: Record, ring: &[u8], client: u32, total: usize) -> Reply
+pub fn begin(engine: EngineRecord, ring: &[u8], client: u32, total: usize) -> Reply
     ensures { λ r. ⌜ r ≡ beginResult engine (length (now (ring .entry))) client total ⌝ }
 {
     let found = record::check(engine);
@@ -95,7 +95,7 @@ fn missing_bytes(staged: Staged) -> usize
     }
 }
 
-fn piece_refusal(engine: Record, found: Checked, given: usize, client: u32, size: usize) -> u32
+fn piece_refusal(engine: EngineRecord, found: Checked, given: usize, client: u32, size: usize) -> u32
     requires { ⌜ found ≡ checkedOf engine ⌝ }
     ensures { λ r. ⌜ r ≡ firstRefusal (pieceTable engine given client size) ⌝ }
 {
@@ -110,7 +110,7 @@ fn piece_refusal(engine: Record, found: Checked, given: usize, client: u32, size
 }
 
 // The record with the staged batch ready at its offset.
-fn finished(engine: Record, offset: usize) -> Record
+fn finished(engine: EngineRecord, offset: usize) -> EngineRecord
     requires { ⌜ (offset ≡ writeOffset engine) × (engine .staged .client < 4) × (clientAt engine (engine .staged .client) .pending ≤ 8) × (engine .staged .slot < 8) ⌝ }
     ensures { λ r. ⌜ r ≡ withBatch engine (engine .staged .slot) (newBatch engine (engine .staged .client) (engine .staged .total)) ⌝ }
 {
@@ -125,7 +125,7 @@ fn finished(engine: Record, offset: usize) -> Record
 }
 
 // The record with so many bytes of the staged batch.
-fn continued(engine: Record, received: usize) -> Record
+fn continued(engine: EngineRecord, received: usize) -> EngineRecord
     ensures { λ r. ⌜ r ≡ withStaged engine (withReceived (engine .staged) received) ⌝ }
 {
     let mut staged = engine.staged;
@@ -134,7 +134,7 @@ fn continued(engine: Record, received: usize) -> Record
 }
 
 // Hands over a piece of the staged batch: it is copied behind the bytes that have come.
-pub fn piece(engine: Record, ring: &mut [u8], client: u32, piece: &[u8]) -> Reply
+pub fn piece(engine: EngineRecord, ring: &mut [u8], client: u32, piece: &[u8]) -> Reply
     ensures { λ r. ⌜ (r ≡ pieceResult engine (now (ring .entry)) client (now (piece .entry)))
         × (now (ring .exit) ≡ pieceRing engine (now (ring .entry)) client (now (piece .entry))) ⌝ }
 {
@@ -150,7 +150,7 @@ pub fn piece(engine: Record, ring: &mut [u8], client: u32, piece: &[u8]) -> Repl
     let setup = engine.setup;
     let staged = engine.staged;
     let offset = enqueue::write_offset(engine, found.bytes);
-    let at = record::wrap(setup.ring, offset + staged.received);
+    let at = record::wrap_offset(setup.ring, offset + staged.received);
     ring::copy_in(ring, at, piece);
     let received = staged.received + size;
     let total = staged.total;
@@ -168,7 +168,7 @@ pub fn piece(engine: Record, ring: &mut [u8], client: u32, piece: &[u8]) -> Repl
     }
 }
 
-fn cancel_refusal(engine: Record, client: u32) -> u32
+fn cancel_refusal(engine: EngineRecord, client: u32) -> u32
     ensures { λ r. ⌜ r ≡ firstRefusal (cancelTable engine client) ⌝ }
 {
     let staged = engine.staged;
@@ -178,7 +178,7 @@ fn cancel_refusal(engine: Record, client: u32) -> u32
 }
 
 // Drops the staged batch. Bytes that were copied stay in the ring.
-pub fn cancel(engine: Record, client: u32) -> Reply
+pub fn cancel(engine: EngineRecord, client: u32) -> Reply
     ensures { λ r. ⌜ r ≡ cancelResult engine client ⌝ }
 {
     let number = cancel_refusal(engine, client);

@@ -65,10 +65,10 @@ impl Surface {
     }
 
     // Whether the spans of two surfaces share a byte.
-    pub fn shares(self, other: Surface) -> bool
+    pub fn overlaps(self, other: Surface) -> bool
         ensures { λ r. ⌜ r ≡ overlaps (span self) (span other) ⌝ }
     {
-        self.span().shares(other.span())
+        self.span().overlaps(other.span())
     }
 }
 
@@ -87,7 +87,7 @@ fn number_of(bytes: &[u8]) -> u32
 }
 
 // Puts the low bytes of a number in the place of some others, low byte first.
-fn put(bytes: &mut [u8], number: u32)
+fn write_le_number(bytes: &mut [u8], number: u32)
     ensures { λ _. ⌜ now (bytes .exit) ≡ mapi (λ k old. byteOf number k) (now (bytes .entry)) ⌝ }
 {
     let mut rest = number;
@@ -122,5 +122,5 @@ pub fn store(memory: &mut [u8], at: usize, format: Format, c: Colour)
     ensures { λ _. ⌜ now (memory .exit) ≡ storePixel format (now (memory .entry)) at c ⌝ }
 {
     let end = at + format.bytes();
-    put(&mut memory[at..end], format.pack(c));
+    write_le_number(&mut memory[at..end], format.pack(c));
 }

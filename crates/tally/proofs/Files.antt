@@ -22,7 +22,7 @@ use Rattle.totals.specs.declared.Answer.{Answer}
 use Rattle.totals.specs.Totals.{largest}
 use Rattle.tally.specs.declared.Running.{Running}
 use Rattle.tally.specs.declared.Tally.{Tally}
-use Rattle.tally.specs.declared.Fed.{Fed}
+use Rattle.tally.specs.declared.FeedResult.{FeedResult}
 use Rattle.tally.specs.Counts.{Count, countOver, recordCount, editionOf, fileCount, position}
 use Rattle.tally.specs.Running.{foundPlus}
 use Rattle.tally.specs.Tally.{totalOf, Adds, Over, Keeps, editionFor, restCount, tallyStart, fedIn, fedBy, heldBy, Stands, Feeds}
@@ -73,7 +73,7 @@ module _ (totals : Totals) (seen held input held′ : List ℕ) (t : Tally) (e :
       ∙ ap (λ (file : File). countOver (recordCount c e) (file .entries)) (T .file rest)
       ∙ found-sum c e (u .found) held′ (fileAt e (u .reader) held′ rest)
 
-  pub feeds-by : (fed : Fed) (running : Running) → running ≡ foundPlus e (u .found) held′ (t .running)
+  pub feeds-by : (fed : FeedResult) (running : Running) → running ≡ foundPlus e (u .found) held′ (t .running)
       → fed ≡ record { tally = record { before = t .before; edition = e; begun = true; reader = u .reader; running = running }; used = u .used } → Feeds totals seen input fed held′
   feeds-by fed running running-is fed-is = rw (fed-is, running-is) (record {
     stands = record {
@@ -127,7 +127,7 @@ module _ (totals : Totals) (seen held : List ℕ) (t : Tally) (S : Stands totals
 
 -- ---- a piece
 
-module _ (totals : Totals) (seen piece : List ℕ) (used : ℕ) (fed : Fed) (held′ : List ℕ) where
+module _ (totals : Totals) (seen piece : List ℕ) (used : ℕ) (fed : FeedResult) (held′ : List ℕ) where
   -- what is left of it
   abbrev left : List ℕ
   left = take (length piece - used) (drop used piece)

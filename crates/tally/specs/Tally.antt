@@ -15,7 +15,7 @@ use Rattle.totals.specs.declared.Answer.{Answer}
 use Rattle.totals.specs.Totals.{largest, countAt, Added}
 use Rattle.tally.specs.declared.Running.{Running}
 use Rattle.tally.specs.declared.Tally.{Tally}
-use Rattle.tally.specs.declared.Fed.{Fed}
+use Rattle.tally.specs.declared.FeedResult.{FeedResult}
 use Rattle.tally.specs.Counts.{Count, countOver, recordCount, editionOf, fileCount, position}
 use Rattle.tally.specs.Running.{foundPlus}
 
@@ -64,7 +64,7 @@ tallyStart totals = record {
 }
 
 -- a step of the reading (crate records), and what it found counted
-unfoldable pub fedIn : Edition → Tally → (held input : List ℕ) → Fed
+unfoldable pub fedIn : Edition → Tally → (held input : List ℕ) → FeedResult
 fedIn edition t held input =
     let taken : Taken = takenBy edition (t .reader) held input in
     record {
@@ -79,7 +79,7 @@ fedIn edition t held input =
     }
 
 -- of no input nothing is used, and nothing changes
-abbrev pub fedBy : Tally → (held input : List ℕ) → Fed
+abbrev pub fedBy : Tally → (held input : List ℕ) → FeedResult
 fedBy t held input = cond (eqb (length input) 0) (record { tally = t; used = 0 }) (fedIn (editionFor t input) t held input)
 
 -- and the buffer after it
@@ -102,6 +102,6 @@ pub record Stands (totals : Totals) (seen : List ℕ) (t : Tally) (held : List �
   pub keeps : Keeps (λ count. totalOf count totals + so-far count) (t .running)
 
 -- after some input more, and it uses a byte of it if there is one
-pub record Feeds (totals : Totals) (seen input : List ℕ) (f : Fed) (held : List ℕ) : Type 0 where
+pub record Feeds (totals : Totals) (seen input : List ℕ) (f : FeedResult) (held : List ℕ) : Type 0 where
   pub stands : Stands totals (seen ++ take (f .used) input) (f .tally) held
   pub some : 1 ≤ length input → 1 ≤ f .used

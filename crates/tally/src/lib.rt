@@ -27,7 +27,7 @@ pub struct Tally {
 }
 
 // A tally after some input, and how many bytes of it were used.
-pub struct Fed {
+pub struct FeedResult {
     pub tally: Tally,
     pub used: usize,
 }

@@ -15,8 +15,8 @@ use Rattle.register.specs.declared.task.Task.{Task}
 use Rattle.rules.specs.declared.fault.Fault.{Fault}
 use Rattle.rules.specs.declared.task.Bounds.{Bounds}
 use Rattle.rules.specs.Faults.{faultNumber}
-use Rattle.batch.specs.declared.walk.Step.{Step}
-use Rattle.batch.specs.declared.walk.Step.the-variants.{Task as Next, Faulty as Stop, End}
+use Rattle.batch.specs.declared.walk.WalkStep.{WalkStep}
+use Rattle.batch.specs.declared.walk.WalkStep.the-variants.{Task as Next, Faulty as Stop, End}
 use Rattle.batch.specs.Batch.{DecodedBatch, decodeBatch}
 use Rattle.batch.specs.Walk.{decodeRest, stepAt}
 use Rattle.batch.proofs.Steps.{reads-task, reads-fault, reads-end}
@@ -35,7 +35,7 @@ use Rattle.acceptance.proofs.Taken.{taken-facts, whole-words}
 use Rattle.tally.specs.declared.Running.{Running}
 use Rattle.tally.specs.Running.{plus, taskPlus, tasksPlus, restPlus, ranPlus, unscoredPlus, submittedPlus, recordPlus}
 
-module _ (bounds : Bounds) (ws : List ℕ) (b : Bank) (k : ℕ) (s : Step) (is : s ≡ stepAt bounds ws b k) (so-far : Running) where
+module _ (bounds : Bounds) (ws : List ℕ) (b : Bank) (k : ℕ) (s : WalkStep) (is : s ≡ stepAt bounds ws b k) (so-far : Running) where
   pub rest-task : (t : Task) (b′ : Bank) (k′ : ℕ) → s ≡ Next t b′ k′ → restPlus (decodeRest bounds ws b k) so-far ≡ restPlus (decodeRest bounds ws b′ k′) (taskPlus t so-far)
   unfolding tasksPlus
   rest-task t b′ k′ e = ap (λ (r : DecodedBatch). restPlus r so-far) (reads-task bounds ws b k s is t b′ k′ e)

@@ -15,7 +15,7 @@ ghost use Rattle.tally.specs.Counts.{editionOf};
 ghost use Rattle.tally.specs.Running.{plus, taskPlus, ranPlus, unscoredPlus, submittedPlus, recordPlus, foundPlus};
 ghost use Rattle.tally.specs.Tally.{fedBy, heldBy, Stands, Feeds};
 use acceptance::Submitted;
-use batch::Step;
+use batch::WalkStep;
 use batch::next_task;
 use records::Edition;
 use records::Found;
@@ -24,7 +24,7 @@ use register::Task;
 use reset::ResetRule;
 use rules::Bounds;
 use rules::Fault;
-use tally::Fed;
+use tally::FeedResult;
 use tally::Running;
 use tally::Tally;
 
@@ -92,16 +92,16 @@ fn add_batch(running: Running, batch: &[u8], bounds: Bounds, rule: ResetRule) ->
     let mut so_far = add(running, 0, 1);
     loop {
         match next_task(batch, 0, batch.len(), bounds, current, at) {
-            Step::Task(task, b, next) => {
+            WalkStep::Task(task, b, next) => {
                 so_far = add_task(so_far, task);
                 current = b;
                 at = next;
             }
             // the tasks before a fault are drawn
-            Step::Faulty(fault, _, _) => {
+            WalkStep::Faulty(fault, _, _) => {
                 return add_fault(so_far, fault);
             }
-            Step::End => {
+            WalkStep::End => {
                 return so_far;
             }
         }
@@ -181,13 +181,13 @@ fn edition_for(begun: bool, edition: Edition, input: &[u8]) -> Edition
 }
 
 // Takes some bytes of the input, at most those of one record. `held` is to be 32,777 bytes long: where it does not suffice for the edition, nothing is used.
-pub fn feed(tally: Tally, held: &mut [u8], input: &[u8]) -> Fed
+pub fn feed(tally: Tally, held: &mut [u8], input: &[u8]) -> FeedResult
     ensures { λ r. ⌜ (r .used ≤ length (now (input .entry)))
         × (r ≡ fedBy tally (now (held .entry)) (now (input .entry))) × (now (held .exit) ≡ heldBy tally (now (held .entry)) (now (input .entry)))
         × ((totals : Totals) (seen : List ℕ) → Stands totals seen tally (now (held .entry)) → Feeds totals seen (now (input .entry)) r (now (held .exit))) ⌝ }
 {
     if input.len() == 0 {
-        return Fed {
+        return FeedResult {
             tally: tally,
             used: 0,
         };
@@ -201,7 +201,7 @@ pub fn feed(tally: Tally, held: &mut [u8], input: &[u8]) -> Fed
     let after = taken.reader;
     let found = taken.found;
     let next = add_found(running, edition, found, held);
-    Fed {
+    FeedResult {
         tally: Tally {
             before: before,
             edition: edition,

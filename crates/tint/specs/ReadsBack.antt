@@ -10,7 +10,7 @@ use lib.Ieee.{Float}
 use Rattle.word.specs.Word.{words}
 use Rattle.pixel.specs.declared.format.Format.the-variants.{Argb8888}
 use Rattle.pixel.specs.declared.blend.AlphaMode.the-variants.{Pixel}
-use Rattle.pixel.specs.declared.blend.RuleName.the-variants.{SrcOver}
+use Rattle.pixel.specs.declared.blend.BlendMode.the-variants.{SrcOver}
 use Rattle.pixel.specs.Rules.{blendModeFactors}
 use Rattle.transform.specs.declared.Rotation.the-variants.{Rotate0}
 use Rattle.gradient.specs.declared.Steps.{Steps}

@@ -45,7 +45,7 @@ impl Answer {
 fn channel_of(channel: u8, coverage: u8) -> u8
     ensures { λ r. ⌜ r ≡ div255 (channel * coverage) ⌝ }
 {
-    division::near((channel as u32) * (coverage as u32)) as u8
+    division::div_255((channel as u32) * (coverage as u32)) as u8
 }
 
 // The colour that is laid over the rectangle.

@@ -2,27 +2,27 @@
 // `touched FILE ADDRESS STRIDE FORMAT X Y`.
 use inquiry::Question;
 use inquiry_io::Asked;
-use ppm::Named;
-use ppm::Number;
+use ppm::ParsedFormat;
+use ppm::ParsedNumber;
 use ppm::Pixel;
 
 // The first byte of the pixel that the arguments name, of a page that begins at an address. What is wrong with them is reported.
 fn pixel(address: u32) -> Pixel {
     let mut text = io::buffer();
     let n = os::arg(3, &mut text);
-    let Number::Value(stride) = command::number_in(&text[..n], b"STRIDE") else {
+    let ParsedNumber::Value(stride) = command::number_in(&text[..n], b"STRIDE") else {
         return Pixel::TooFar;
     };
     let n = os::arg(4, &mut text);
-    let Named::Known(format) = command::format_in(&text[..n]) else {
+    let ParsedFormat::Known(format) = command::format_in(&text[..n]) else {
         return Pixel::TooFar;
     };
     let n = os::arg(5, &mut text);
-    let Number::Value(x) = command::number_in(&text[..n], b"X") else {
+    let ParsedNumber::Value(x) = command::number_in(&text[..n], b"X") else {
         return Pixel::TooFar;
     };
     let n = os::arg(6, &mut text);
-    let Number::Value(y) = command::number_in(&text[..n], b"Y") else {
+    let ParsedNumber::Value(y) = command::number_in(&text[..n], b"Y") else {
         return Pixel::TooFar;
     };
     let at = ppm::pixel_of(address, stride, format, x, y);
@@ -36,14 +36,14 @@ fn pixel(address: u32) -> Pixel {
 }
 
 // The byte that the arguments name.
-fn asked(count: usize) -> Pixel {
+fn pixel_argument(count: usize) -> Pixel {
     if (count != 3) & (count != 7) {
         command::complain(b"touched", b" takes two arguments, or six\n");
         return Pixel::TooFar;
     }
     let mut text = io::buffer();
     let n = os::arg(2, &mut text);
-    let Number::Value(address) = command::number_in(&text[..n], b"ADDRESS") else {
+    let ParsedNumber::Value(address) = command::number_in(&text[..n], b"ADDRESS") else {
         return Pixel::TooFar;
     };
     if count == 3 {
@@ -61,7 +61,7 @@ fn usage() {
 }
 
 fn main() {
-    let Pixel::At(address) = asked(os::arg_count()) else {
+    let Pixel::At(address) = pixel_argument(os::arg_count()) else {
         usage();
         return;
     };

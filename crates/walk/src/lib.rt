@@ -6,7 +6,7 @@ ghost use Rattle.batch.specs.Batch.{decodeBatch, verdictOf};
 ghost use Rattle.raster.specs.Task.{drawTask};
 ghost use Rattle.raster.specs.Batch.{drawBatch};
 ghost use Rattle.raster.specs.Preconditions.{Drawable, BoundsInMemory};
-use batch::Step;
+use batch::WalkStep;
 use batch::Verdict;
 use batch::next_task;
 use range::Range;
@@ -46,16 +46,16 @@ pub fn run_batch(
     let mut count: usize = 0;
     loop {
         match next_task(ring, offset, size, bounds, current, at) {
-            Step::Task(task, b, next) => {
+            WalkStep::Task(task, b, next) => {
                 draw_task(memory, window, task, slow);
                 current = b;
                 at = next;
                 count = count + 1;
             }
-            Step::Faulty(fault, place, _) => {
+            WalkStep::Faulty(fault, place, _) => {
                 return Verdict::Faulty(count, fault, place);
             }
-            Step::End => {
+            WalkStep::End => {
                 return Verdict::Faultless(count);
             }
         }

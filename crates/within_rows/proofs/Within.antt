@@ -13,7 +13,7 @@ use Rattle.division.specs.Division.{div255}
 use Rattle.pixel.specs.Blending.{blendedChannel, blended}
 use Rattle.pixel.specs.declared.blend.AlphaMode.{AlphaMode}
 use Rattle.pixel.specs.declared.blend.AlphaMode.the-variants.{Pixel}
-use Rattle.pixel.specs.declared.blend.Rule.{Rule}
+use Rattle.pixel.specs.declared.blend.BlendFactors.{BlendFactors}
 use Rattle.pixel.specs.declared.colour.Colour.{Colour}
 use Rattle.pixel.specs.declared.format.Format.the-variants.{Argb8888}
 use Rattle.surface.specs.Surface.{rowLength, rowStart, pixelStart}
@@ -58,11 +58,11 @@ channel-small : (s fs d fd : ℕ) → blendedChannel s fs d fd < 256
 unfolding blendedChannel
 channel-small s fs d fd = omega (arith, min-le-left 255 (div255 (s * fs + d * fd)))
 
-blend-small : (rule : Rule) (m : List ℕ) (to from i : ℕ) → blendWithin rule m to from i < 256
+blend-small : (rule : BlendFactors) (m : List ℕ) (to from i : ℕ) → blendWithin rule m to from i < 256
 unfolding blendWithin blendAt
 blend-small rule m to from i = channel-small _ _ _ _
 
-module _ (rule : Rule) (m e : List ℕ) (to from n : ℕ) (did : Done (blendWithin rule m to from) m e to (to + n)) where
+module _ (rule : BlendFactors) (m e : List ℕ) (to from n : ℕ) (did : Done (blendWithin rule m to from) m e to (to + n)) where
   in-after : Row m → Row e
   in-after h j =
       under-or j to
@@ -108,7 +108,7 @@ drop-colour m a i h l =
 -- ---- a row
 
 -- blended, it is the row of the colours that the task blends
-pub within-drawn : {window : Range} (t : Task) (rule : Rule) (bytes e : List ℕ) (to from n : ℕ) → BlendedWithin window t → rule ≡ t .blending .rule → n ≡ rowLength (t .output) → Row bytes →
+pub within-drawn : {window : Range} (t : Task) (rule : BlendFactors) (bytes e : List ℕ) (to from n : ℕ) → BlendedWithin window t → rule ≡ t .blending .rule → n ≡ rowLength (t .output) → Row bytes →
     Apart (length bytes) to from n → length e ≡ length bytes → Done (blendWithin rule bytes to from) bytes e to (to + n) →
     e ≡ rowDrawn (t .output) to (mixedFrom t (drop from bytes) bytes to) bytes
 within-drawn {window} t rule bytes e to from n w is-rule is-n in-b a same did =
@@ -126,7 +126,7 @@ within-drawn {window} t rule bytes e to from n w is-rule is-n in-b a same did =
     (row-is d (midOf to n e) width in-d in-e (omega arith) (omega arith) _ (long-e ∙ sym long-d) (long-d ∙ wide)
     (λ x l.
     blend-colour d (midOf to n e) width in-d in-e (omega arith) (omega arith) rule (drop from bytes) (in-drop bytes from in-b) long-s (to-end (blendAt rule (drop from bytes) d) d (midOf to n e) 0 n (width * 4) wide row) x l
-    ∙ (ap (λ (r : Rule). blended r (colourIn (drop from bytes) x) (colourIn d x)) is-rule
+    ∙ (ap (λ (r : BlendFactors). blended r (colourIn (drop from bytes) x) (colourIn d x)) is-rule
     ∙ sym (plain-composite (t .blending) (t .source .alpha) (t .destination .alpha) (colourIn (drop from bytes) x) (colourIn d x) (w .plain) (w .source) (w .destination)))))
 
 -- which are the task's; the rows lie in a window of n bytes from `start` on

@@ -10,8 +10,11 @@ returns c =
 
 returns-2 : tie.Need-returns-2
 returns-2 c =
-    let d = c .before .before .before .before .before .before .before .before .before .before .before .before .before .before .before .before .before .detail .given .1 in
-    rw d (detail-typed _ _ _ _ _ _ _ (c .before .before .before .before .before .before .before .before .before .before .before .before .before .before .push .ensures) (c .before .before .before .before .before .before .before .before .before .before .hex-three .ensures) (c .before .before .before .before .before .before .push2 .ensures) (c .before .before .hex-word .ensures), detail-size _ _)
+    let c₆ = c .before .before .before .before .before .before in
+    let c₁₀ = c₆ .before .before .before .before in
+    let c₁₄ = c₁₀ .before .before .before .before in
+    let d = c₁₄ .before .before .before .detail .given .1 in
+    rw d (detail-typed _ _ _ _ _ _ _ (c₁₄ .push .ensures) (c₁₀ .hex-three .ensures) (c₆ .push2 .ensures) (c .before .before .hex-word .ensures), detail-size _ _)
 
 pub detail-text-spec : {M : Type 1} → statement M
 detail-text-spec =

@@ -5,11 +5,13 @@ use Rattle.answer_lines.proofs.explanation_line.Tie as tie
 
 returns : tie.Need-returns
 returns c =
-    let a = c .before .before .before .before .before .before .before .before .before .before .before .before .before .before .before .before .before .before .before .before .before .before .before .before .before .before .args in
-    let fault = c .before .before .before .before .before .before .before .before .before .before .before .before .before .before .before .before .before .before .before .before .before .before .decimal .ensures in
-    let place = c .before .before .before .before .before .before .before .before .before .before .before .before .before .before .before .before .before .before .field .ensures in
+    let c₁₀ = c .before .before .before .before .before .before .before .before .before .before in
+    let c₁₄ = c₁₀ .before .before .before .before in
+    let a = c₁₄ .before .before .before .before .before .before .before .before .before .before .before .before .args in
+    let fault = c₁₄ .before .before .before .before .before .before .before .before .decimal .ensures in
+    let place = c₁₄ .before .before .before .before .field .ensures in
     let detail = c .before .before .before .before .before .before .detail-text .ensures in
-    explanation-types _ _ _ (a .explanation) _ _ _ _ _ (fault .1) (place .1) (detail .1) (fault .0) (place .0) (c .before .before .before .before .before .before .before .before .before .before .before .before .before .before .push .ensures) (c .before .before .before .before .before .before .before .before .before .before .hex-word .ensures) (detail .0) (c .before .before .push2 .ensures)
+    explanation-types _ _ _ (a .explanation) _ _ _ _ _ (fault .1) (place .1) (detail .1) (fault .0) (place .0) (c₁₄ .push .ensures) (c₁₀ .hex-word .ensures) (detail .0) (c .before .before .push2 .ensures)
 
 pub explanation-line-spec : {M : Type 1} → statement M
 explanation-line-spec =

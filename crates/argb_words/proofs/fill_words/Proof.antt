@@ -6,13 +6,13 @@ use denote.Ref.{now}
 use borrow.Author.Needs.{needs}
 use Rattle.pixel.specs.declared.format.Format.the-variants.{Argb8888}
 use Rattle.rows.specs.Row.{wordColour}
-use Rattle.argb_words.proofs.Begun.{begun, none-begun, more-begun, all-begun}
+use Rattle.argb_words.proofs.RowPrefix.{prefix, none-begun, prefix-step, prefix-all}
 use Rattle.argb_words.proofs.fill_words.Statement.{statement}
 use Rattle.argb_words.proofs.fill_words.Tie as tie
 
 abbrev Inv-loop : tie.InvT-loop
 Inv-loop row₀ width word x₀ at₀ row x at =
-    (x ≤ width) × (at ≡ x * 4) × (row ≡ begun Argb8888 (λ x. wordColour word) x row₀) × (length row ≡ length row₀)
+    (x ≤ width) × (at ≡ x * 4) × (row ≡ prefix Argb8888 (λ x. wordColour word) x row₀) × (length row ≡ length row₀)
 
 abbrev μ-loop : tie.MeasureT-loop
 μ-loop row₀ width word x₀ at₀ row x at = width - x
@@ -40,7 +40,7 @@ loop-again c =
     let s = c .before .before .store-word in (
       search needs,
       search needs,
-      more-begun Argb8888 (λ x. wordColour (a .word)) (now (a .row)) (l .row) (s .last .0) (l .x) (l .at) _ (l .inv .1) refl (l .inv .2) (s .ensures),
+      prefix-step Argb8888 (λ x. wordColour (a .word)) (now (a .row)) (l .row) (s .last .0) (l .x) (l .at) _ (l .inv .1) refl (l .inv .2) (s .ensures),
       s .kept .0 ∙ l .inv .3,
     )
 
@@ -52,7 +52,7 @@ returns c =
     let l = c .before .loop in
     let s = c .before .before .before in
     let e : l .x ≡ s .args .width = omega arith in
-    all-begun Argb8888 _ (now (s .args .row)) (l .row) (s .args .width) (s .pre) (rw e at (l .inv .2))
+    prefix-all Argb8888 _ (now (s .args .row)) (l .row) (s .args .width) (s .pre) (rw e at (l .inv .2))
 
 pub fill-words-spec : {M : Type 1} → statement M
 fill-words-spec =

@@ -16,7 +16,10 @@ same-length : tie.Need-same-length
 same-length c = search needs
 
 returns : tie.Need-returns
-returns c = begin-told _ _ (c .before .before .before .before .before .before .decode .ensures) _ _ _ _ _ _ _ (c .before .before .before .before .before .begin .ensures) (c .before .before .write-value .ensures)
+returns c =
+    let c₅ = c .before .before .before .before .before in
+    let c₆ = c₅ .before in
+    begin-told _ _ (c₆ .decode .ensures) _ _ _ _ _ _ _ (c₅ .begin .ensures) (c .before .before .write-value .ensures)
 
 pub begin-spec : {M : Type 1} → statement M
 begin-spec = tie.close (tie.spec decode-requires begin-requires write-value-requires same-length returns)

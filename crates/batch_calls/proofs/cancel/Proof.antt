@@ -16,7 +16,10 @@ same-length : tie.Need-same-length
 same-length c = search needs
 
 returns : tie.Need-returns
-returns c = cancel-told _ _ (c .before .before .before .before .before .before .decode .ensures) _ _ _ _ _ (c .before .before .before .before .before .cancel .ensures) (c .before .before .write-value .ensures)
+returns c =
+    let c₅ = c .before .before .before .before .before in
+    let c₆ = c₅ .before in
+    cancel-told _ _ (c₆ .decode .ensures) _ _ _ _ _ (c₅ .cancel .ensures) (c .before .before .write-value .ensures)
 
 pub cancel-spec : {M : Type 1} → statement M
 cancel-spec =

@@ -19,7 +19,10 @@ same-length-2 : tie.Need-same-length-2
 same-length-2 c = search needs
 
 returns : tie.Need-returns
-returns c = piece-told _ _ (c .before .before .before .before .before .before .before .before .before .decode .ensures) _ _ _ _ _ _ _ _ (c .before .before .before .before .before .before .before .piece .ensures .0) (c .before .before .before .before .before .before .before .piece .ensures .1) (c .before .before .write-progress .ensures)
+returns c =
+    let c₇ = c .before .before .before .before .before .before .before in
+    let c₉ = c₇ .before .before in
+    piece-told _ _ (c₉ .decode .ensures) _ _ _ _ _ _ _ _ (c₇ .piece .ensures .0) (c₇ .piece .ensures .1) (c .before .before .write-progress .ensures)
 
 pub piece-spec : {M : Type 1} → statement M
 piece-spec =

@@ -19,7 +19,10 @@ same-length-2 : tie.Need-same-length-2
 same-length-2 c = search needs
 
 returns : tie.Need-returns
-returns c = run-told _ _ _ _ _ _ _ _ _ (c .before .before .before .before .before .before .before .before .before .decode .ensures) (c .before .before .before .before .before .before .before .run .ensures .0) (c .before .before .before .before .before .before .before .run .ensures .1) (c .before .before .write-completion .ensures)
+returns c =
+    let c₇ = c .before .before .before .before .before .before .before in
+    let c₉ = c₇ .before .before in
+    run-told _ _ _ _ _ _ _ _ _ (c₉ .decode .ensures) (c₇ .run .ensures .0) (c₇ .run .ensures .1) (c .before .before .write-completion .ensures)
 
 pub run-spec : {M : Type 1} → statement M
 run-spec =

@@ -22,7 +22,9 @@ read-row-requires c κs =
     (record { source = fetches (s .pre .0) (now (s .args .source)) (s .pre .1 .source); destination = destination-row (s .pre .0) }, s .pre .1)
 
 sub-finish-at : tie.Need-sub-finish-at
-sub-finish-at c = ordered (c .before .before .before .before .before .before .before .before .before .before .before .before .before .pre .0)
+sub-finish-at c =
+    let c₁₃ = c .before .before .before .before .before .before .before .before .before .before .before .before .before in
+    ordered (c₁₃ .pre .0)
 
 part-finish-at-start : tie.Need-part-finish-at-start
 part-finish-at-start c =

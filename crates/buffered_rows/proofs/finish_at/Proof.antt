@@ -18,7 +18,9 @@ same-length-2 : tie.Need-same-length-2
 same-length-2 c = search needs
 
 returns : tie.Need-returns
-returns c = rw (c .before .before .before .before .before .enum-told .given .1) (c .before .before .blit-at .ensures)
+returns c =
+    let c₅ = c .before .before .before .before .before in
+    rw (c₅ .enum-told .given .1) (c .before .before .blit-at .ensures)
 
 enum-told-2 : tie.Need-enum-told-2
 enum-told-2 c = search needs

@@ -4,7 +4,7 @@ use native.Mathlib.Omega.{arith}
 use lib.ListN.{length, length-set}
 use denote.Ref.{now}
 use Rattle.pixel.specs.Rules.{blendModeFactors}
-use Rattle.pixel.specs.declared.blend.RuleName.the-variants.{Add}
+use Rattle.pixel.specs.declared.blend.BlendMode.the-variants.{Add}
 use Rattle.lanes.specs.Lanes.{Done}
 use Rattle.lanes.proofs.Passes.{to-end}
 use Rattle.bytes_within.specs.Within.{blendWithin}

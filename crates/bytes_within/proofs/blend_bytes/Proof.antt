@@ -67,13 +67,14 @@ loop-less c = search needs
 
 loop-again : tie.Need-loop-again Inv-loop μ-loop
 loop-again c =
-    let l = c .before .before .before .before .before .before in
+    let c₅ = c .before .before .before .before .before in
+    let l = c₅ .before in
     let s = l .before .before in
     let a = s .args in (
       (omega arith, omega arith),
       simp length-set (l .loop .inv .1),
       byte-within (a .p .rule) (now (a .m)) (l .loop .m) (a .to) (a .from) (a .n) (l .loop .j) (a .to + a .a) (s .pre .0 .0) (s .pre .0 .1 .1) (omega arith) (omega arith) (omega arith) (l .loop .inv .2) _
-          (c .before .before .before .before .before .loop-test .taken) (omega (arith, l .loop .inv .1, s .pre .0 .0 .target)) (c .blend-one .ensures ∙ sym (within-reads (a .p .rule) (l .loop .m) (a .to) (a .from) (l .loop .j))),
+          (c₅ .loop-test .taken) (omega (arith, l .loop .inv .1, s .pre .0 .0 .target)) (c .blend-one .ensures ∙ sym (within-reads (a .p .rule) (l .loop .m) (a .to) (a .from) (l .loop .j))),
     )
 
 same-length : tie.Need-same-length Inv-loop μ-loop

@@ -19,7 +19,10 @@ same-length-2 : tie.Need-same-length-2
 same-length-2 c = search needs
 
 returns : tie.Need-returns
-returns c = close-told _ _ (c .before .before .before .before .before .before .before .before .before .decode .ensures) _ _ _ _ _ _ _ (c .before .before .before .before .before .before .before .close .ensures .0) (c .before .before .before .before .before .before .before .close .ensures .1) (c .before .before .write-value .ensures)
+returns c =
+    let c₇ = c .before .before .before .before .before .before .before in
+    let c₉ = c₇ .before .before in
+    close-told _ _ (c₉ .decode .ensures) _ _ _ _ _ _ _ (c₇ .close .ensures .0) (c₇ .close .ensures .1) (c .before .before .write-value .ensures)
 
 pub close-spec : {M : Type 1} → statement M
 close-spec =

@@ -16,7 +16,10 @@ same-length : tie.Need-same-length
 same-length c = search needs
 
 returns : tie.Need-returns
-returns c = open-told _ _ (c .before .before .before .before .before .before .decode .ensures) _ _ _ _ _ (c .before .before .before .before .before .open .ensures) (c .before .before .write-value .ensures)
+returns c =
+    let c₅ = c .before .before .before .before .before in
+    let c₆ = c₅ .before in
+    open-told _ _ (c₆ .decode .ensures) _ _ _ _ _ (c₅ .open .ensures) (c .before .before .write-value .ensures)
 
 pub open-spec : {M : Type 1} → statement M
 open-spec = tie.close (tie.spec decode-requires open-requires write-value-requires same-length returns)

@@ -16,7 +16,10 @@ same-length : tie.Need-same-length
 same-length c = search needs
 
 returns-2 : tie.Need-returns-2
-returns-2 c = set-up-told _ _ _ _ _ _ _ _ _ (c .before .before .before .before .before .before .if1 .left) (c .before .before .before .before .before .set-up .ensures) (c .before .before .write-value .ensures)
+returns-2 c =
+    let c₅ = c .before .before .before .before .before in
+    let c₆ = c₅ .before in
+    set-up-told _ _ _ _ _ _ _ _ _ (c₆ .if1 .left) (c₅ .set-up .ensures) (c .before .before .write-value .ensures)
 
 pub set-up-spec : {M : Type 1} → statement M
 set-up-spec = tie.close (tie.spec returns set-up-requires write-value-requires same-length returns-2)

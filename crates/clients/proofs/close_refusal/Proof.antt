@@ -29,7 +29,12 @@ first-refusal-requires-4 c κs = search needs
 
 returns : tie.Need-returns
 unfolding firstRefusal
-returns c = rw (c .first-refusal4 .ensures, c .before .is-valid .ensures, c .before .before .first-refusal3 .ensures, c .before .before .before .before .first-refusal2 .ensures, c .before .before .before .before .before .is-open .ensures, c .before .before .before .before .before .before .first-refusal .ensures, c .before .before .before .before .before .before .before .staged-by .ensures, c .before .before .before .before .before .before .before .before .count-of .ensures)
+returns c =
+    let c₅ = c .before .before .before .before .before in
+    let c₆ = c₅ .before in
+    let c₇ = c₆ .before in
+    let c₈ = c₇ .before in
+    rw (c .first-refusal4 .ensures, c .before .is-valid .ensures, c .before .before .first-refusal3 .ensures, c .before .before .before .before .first-refusal2 .ensures, c₅ .is-open .ensures, c₆ .first-refusal .ensures, c₇ .staged-by .ensures, c₈ .count-of .ensures)
 
 pub close-refusal-spec : {M : Type 1} → statement M
 close-refusal-spec =

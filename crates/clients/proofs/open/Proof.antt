@@ -31,7 +31,9 @@ with-client-requires : tie.Need-with-client-requires
 with-client-requires c κs = (c .lowest-closed .ensures .0, id-small c)
 
 returns-2 : tie.Need-returns-2
-returns-2 c = let e = c .before .before .before .before .before .args in
+returns-2 c =
+    let c₅ = c .before .before .before .before .before in
+    let e = c₅ .args in
     open-done (e .engine) (record { start = e .start; length = e .length }) (c .before .before .before .before .open-refusal .result) (c .before .before .before .before .open-refusal .ensures) (c .before .before .before .if1 .left)
     (c .before .lowest-closed .result) (c .before .lowest-closed .ensures .0) (c .with-client .result) (c .with-client .ensures)
 

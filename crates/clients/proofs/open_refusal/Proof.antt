@@ -31,7 +31,9 @@ first-refusal-requires-2 c κs = search needs
 
 returns-2 : tie.Need-returns-2
 unfolding firstRefusal
-returns-2 c = rw (right (c .before .before .before .before .before .before), c .first-refusal2 .ensures, c .before .first-refusal .ensures, c .before .before .bad-window .ensures, c .before .before .before .lowest-closed .ensures .2)
+returns-2 c =
+    let c₆ = c .before .before .before .before .before .before in
+    rw (right c₆, c .first-refusal2 .ensures, c .before .first-refusal .ensures, c .before .before .bad-window .ensures, c .before .before .before .lowest-closed .ensures .2)
 
 pub open-refusal-spec : {M : Type 1} → statement M
 open-refusal-spec =

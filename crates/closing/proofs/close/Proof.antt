@@ -53,8 +53,9 @@ clear-requires c κs = search needs
 
 without-client-requires : tie.Need-without-client-requires
 without-client-requires c κs =
-    let a = c .before .before .before .before .before .before .before .before .before .args in
-    let o = allowed (c .before .before .before .before .before .before) in
+    let c₆ = c .before .before .before .before .before .before in
+    let a = c₆ .before .before .before .args in
+    let o = allowed c₆ in
     client-small (a .engine) (o .ok) (a .client) (o .owner)
 
 same-length : tie.Need-same-length

@@ -28,10 +28,14 @@ same-length c = search needs
 -- src/lane.rt:71:1
 returns : tie.Need-returns
 returns c =
-    let a = c .before .before .before .before .before .before .before .before .before .before .before .before .before in
+    let c₈ = c .before .before .before .before .before .before .before .before in
+    let c₉ = c₈ .before in
+    let c₁₁ = c₉ .before .before in
+    let c₁₂ = c₁₁ .before in
+    let a = c₁₂ .before in
     let r = c .before .before .before .before .before in
-    four-done (a .args .p .rule) _ _ (r .blend8 .result) (c .before .before .store8 .last .0) (a .args .o) (a .pre .0 .1) (λ j. omega (arith, c .before .before .before .before .before .before .before .before .before .before .before .shared-slice-known .given j)) (λ j. omega (arith, c .before .before .before .before .before .before .before .before .before .before .before .before .slice-known .given j))
-    (λ k l. r .blend8 .ensures k l ∙ blend-two (a .args .s .now) (a .args .d .now) (c .before .before .before .before .before .before .before .before .load82 .result) (c .before .before .before .before .before .before .before .before .before .load8 .result) (a .args .o) (c .before .before .before .before .before .before .before .before .before .load8 .ensures) (a .args .p .rule) (c .before .before .before .before .before .before .before .before .load82 .ensures) k l)
+    four-done (a .args .p .rule) _ _ (r .blend8 .result) (c .before .before .store8 .last .0) (a .args .o) (a .pre .0 .1) (λ j. omega (arith, c₁₁ .shared-slice-known .given j)) (λ j. omega (arith, c₁₂ .slice-known .given j))
+    (λ k l. r .blend8 .ensures k l ∙ blend-two (a .args .s .now) (a .args .d .now) (c₈ .load82 .result) (c₉ .load8 .result) (a .args .o) (c₉ .load8 .ensures) (a .args .p .rule) (c₈ .load82 .ensures) k l)
     (c .before .before .store8 .ensures .0) (c .before .before .store8 .ensures .1 .0) (c .before .before .store8 .ensures .1 .1 .0) (c .before .before .store8 .ensures .1 .1 .1)
 
 pub blend-four-spec : {M : Type 1} → statement M

@@ -21,9 +21,11 @@ same-length c = search needs
 
 returns : tie.Need-returns
 returns c =
-    let a = c .before .before .before .before .before .before .before .before .before .before .before in
-    part-more (a .args .p .rule) (a .args .s .now) (a .args .d .now) (c .before .before .before .before .before .before .over-turns .last .0) _ 0 (length (a .args .d .now) / 16 * 16) (length (a .args .d .now)) (omega arith) (omega arith)
-    (by-rule _ _ _ _ _ _ _ (over-is (a .args .p) (a .pre .1) (c .before .before .before .before .before .before .before .before .if1 .taken)) (c .before .before .before .before .before .before .over-turns .ensures)) (c .before .before .blend-bytes .ensures)
+    let c₆ = c .before .before .before .before .before .before in
+    let c₈ = c₆ .before .before in
+    let a = c₈ .before .before .before in
+    part-more (a .args .p .rule) (a .args .s .now) (a .args .d .now) (c₆ .over-turns .last .0) _ 0 (length (a .args .d .now) / 16 * 16) (length (a .args .d .now)) (omega arith) (omega arith)
+    (by-rule _ _ _ _ _ _ _ (over-is (a .args .p) (a .pre .1) (c₈ .if1 .taken)) (c₆ .over-turns .ensures)) (c .before .before .blend-bytes .ensures)
 
 constant-row-requires : tie.Need-constant-row-requires
 constant-row-requires c κs = search needs
@@ -45,8 +47,9 @@ same-length-3 c = search needs
 
 returns-3 : tie.Need-returns-3
 returns-3 c =
-    let a = c .before .before .before .before .before .before .before .before .before .before .before .before in
-    part-more (a .args .p .rule) (a .args .s .now) (a .args .d .now) (c .before .before .before .before .before .before .turns .last .0) _ 0 (length (a .args .d .now) / 16 * 16) (length (a .args .d .now)) (omega arith) (omega arith) (c .before .before .before .before .before .before .turns .ensures) (c .before .before .blend-bytes2 .ensures)
+    let c₆ = c .before .before .before .before .before .before in
+    let a = c₆ .before .before .before .before .before .before in
+    part-more (a .args .p .rule) (a .args .s .now) (a .args .d .now) (c₆ .turns .last .0) _ 0 (length (a .args .d .now) / 16 * 16) (length (a .args .d .now)) (omega arith) (omega arith) (c₆ .turns .ensures) (c .before .before .blend-bytes2 .ensures)
 
 pub blend-row-spec : {M : Type 1} → statement M
 blend-row-spec =

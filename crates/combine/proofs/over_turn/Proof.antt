@@ -1,5 +1,5 @@
 use Rattle.pixel.specs.Rules.{blendModeFactors}
-use Rattle.pixel.specs.declared.blend.RuleName.the-variants.{SrcOver}
+use Rattle.pixel.specs.declared.blend.BlendMode.the-variants.{SrcOver}
 use Rattle.combine.proofs.Fours.{copy-done, clear-done, add-done}
 use mathlib.Core.Path.{refl, sym, _∙_}
 use denote.Ref.{now}

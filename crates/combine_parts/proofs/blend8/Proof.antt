@@ -78,7 +78,9 @@ top-requires-2 c κs = search needs
 
 -- src/lane.rt:52:16
 blend-two-requires : tie.Need-blend-two-requires Inv-loop μ-loop
-blend-two-requires c κs = (c .before .before .before .before .before .before .before .before .pre, (search needs, search needs))
+blend-two-requires c κs =
+    let c₈ = c .before .before .before .before .before .before .before .before in
+    (c₈ .pre, (search needs, search needs))
 
 -- src/lane.rt:52:9
 mul-r : tie.Need-mul-r Inv-loop μ-loop
@@ -98,7 +100,9 @@ loop-less c = search needs
 
 -- src/lane.rt:51:5
 loop-again : tie.Need-loop-again Inv-loop μ-loop
-loop-again c = (omega arith, (simp length-set (omega arith), grown _ (c .before .before .before .before .before .before .before .before .loop .r) (c .before .before .before .before .before .before .before .before .loop .i) _ (omega arith) (c .before .before .before .before .before .before .before .before .loop .inv .1 .1) (c .blend-two .ensures ∙ lane-by _ _ _ _ _ _ (c .before .before .before .top .ensures .0) (c .before .top2 .ensures .0))))
+loop-again c =
+    let c₈ = c .before .before .before .before .before .before .before .before in
+    (omega arith, (simp length-set (omega arith), grown _ (c₈ .loop .r) (c₈ .loop .i) _ (omega arith) (c₈ .loop .inv .1 .1) (c .blend-two .ensures ∙ lane-by _ _ _ _ _ _ (c .before .before .before .top .ensures .0) (c .before .top2 .ensures .0))))
 
 -- src/lane.rt:45:1
 returns : tie.Need-returns Inv-loop μ-loop

@@ -77,7 +77,9 @@ loop-less c = search needs
 
 -- src/lane.rt:56:5
 loop-again : tie.Need-loop-again Inv-loop μ-loop
-loop-again c = (omega arith, (simp length-set (omega arith), grown _ (c .before .before .before .before .before .before .loop .r) (c .before .before .before .before .before .before .loop .i) _ (omega arith) (c .before .before .before .before .before .before .loop .inv .1 .1) (c .over-two .ensures ∙ ap (duo _ 255 _) (c .before .top .ensures .0))))
+loop-again c =
+    let c₆ = c .before .before .before .before .before .before in
+    (omega arith, (simp length-set (omega arith), grown _ (c₆ .loop .r) (c₆ .loop .i) _ (omega arith) (c₆ .loop .inv .1 .1) (c .over-two .ensures ∙ ap (duo _ 255 _) (c .before .top .ensures .0))))
 
 -- src/lane.rt:51:1
 returns : tie.Need-returns Inv-loop μ-loop

@@ -5,7 +5,7 @@ use borrow.Author.Tests.{eq-eqb}
 use Rattle.opacity.proofs.Sums.{full-sum, empty-sum}
 use Rattle.plan.proofs.Blends.{Bytes}
 use Rattle.pixel.specs.Rules.{blendModeFactors}
-use Rattle.pixel.specs.declared.blend.RuleName.the-variants.{SrcOver}
+use Rattle.pixel.specs.declared.blend.BlendMode.the-variants.{SrcOver}
 use Rattle.combine_within.proofs.Fours.{opaque-within, clear-within, add-within}
 use borrow.Author.Needs.{needs}
 use Rattle.combine_within.proofs.over_turn.Statement.{statement}

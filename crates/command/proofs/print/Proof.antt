@@ -23,7 +23,9 @@ fail-requires : tie.Need-fail-requires
 fail-requires c κs = search needs
 
 returns-2 : tie.Need-returns-2
-returns-2 c = (simp (le-leb _ _ (c .before .before .before .before .before .if1 .left)), λ h. absurd (omega arith))
+returns-2 c =
+    let c₅ = c .before .before .before .before .before in
+    (simp (le-leb _ _ (c₅ .if1 .left)), λ h. absurd (omega arith))
 
 returns-3 : tie.Need-returns-3
 returns-3 c = (simp (le-leb _ _ (c .before .before .before .if1 .left)), λ h. absurd (omega arith))

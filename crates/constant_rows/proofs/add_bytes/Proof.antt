@@ -1,5 +1,5 @@
 use Rattle.pixel.specs.Rules.{blendModeFactors}
-use Rattle.pixel.specs.declared.blend.RuleName.the-variants.{Add}
+use Rattle.pixel.specs.declared.blend.BlendMode.the-variants.{Add}
 use Rattle.lanes.specs.Lanes.{Done}
 use Rattle.lanes.proofs.Passes.{none-done, to-end}
 use Rattle.plan.specs.Blend.{blendAt}

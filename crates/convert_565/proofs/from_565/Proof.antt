@@ -71,18 +71,21 @@ loop-less c = search needs
 -- src/lib.rt:78:5
 loop-again : tie.Need-loop-again Inv-loop μ-loop
 loop-again c =
-    let a = c .before .before .before .before .before .before .before .before .before .before .before .before .before .before .before in
-    let b = c .before .before .before .before .before .before .before .before .before .before .before .before in
-    let p = c .before .before .before .before .before .before .before .put2 .ensures in
+    let c₇ = c .before .before .before .before .before .before .before in
+    let c₁₀ = c₇ .before .before .before in
+    let c₁₃ = c₁₀ .before .before .before in
+    let a = c₁₃ .before .before in
+    let b = c₁₀ .before .before in
+    let p = c₇ .put2 .ensures in
     let q = c .before .before .put22 .ensures in
-    let l = c .before .before .before .before .before .before .before .before .low .ensures in
+    let l = c₇ .before .low .ensures in
     let h = c .before .before .before .high .ensures in
-    let v = c .before .before .before .before .before .before .before .before .before .before .get2 .result in
-    let in-s : Row (a .args .s .now) = λ j. omega (arith, c .before .before .before .before .before .before .before .before .before .before .before .before .before .shared-slice-known .given j) in
+    let v = c₁₀ .get2 .result in
+    let in-s : Row (a .args .s .now) = λ j. omega (arith, c₁₃ .shared-slice-known .given j) in
     let in-e : Row (c .before .before .put22 .last .0) = λ j. omega (arith, c .slice-known3 .given j) in (
       search needs,
       four-more (λ k. loadPixel Rgb565 (a .args .s .now) (k * 2)) (a .args .d .now) (b .loop .d) (c .before .before .put22 .last .0) (b .loop .x)
-          (widen-is (a .args .s .now) (c .before .before .before .before .before .before .before .put2 .last .0) (c .before .before .put22 .last .0) (b .loop .x) v in-s (omega arith) (c .before .before .before .before .before .before .before .before .before .before .get2 .ensures) (search needs)
+          (widen-is (a .args .s .now) (c₇ .put2 .last .0) (c .before .before .put22 .last .0) (b .loop .x) v in-s (omega arith) (c₁₀ .get2 .ensures) (search needs)
           (p .0 ∙ ap (λ (n : ℕ). n % 256) l) (p .1 .0 ∙ ap (λ (n : ℕ). n / 256) l) (q .0 ∙ ap (λ (n : ℕ). n % 256) h) (q .1 .0 ∙ ap (λ (n : ℕ). n / 256) h) (q .1 .1 .0) in-e)
           (λ j u. q .1 .1 .0 j (omega arith) ∙ p .1 .1 .0 j u) (λ j u. q .1 .1 .1 j (omega arith) ∙ p .1 .1 .1 j (omega arith)) (b .loop .inv .1),
     )

@@ -87,10 +87,11 @@ loop-less c = search needs
 -- src/lib.rt:114:5
 loop-again : tie.Need-loop-again Inv-loop μ-loop
 loop-again c =
-    let a = c .before .before .before .before .before .before .before .before .before .before .before in
+    let c₉ = c .before .before .before .before .before .before .before .before .before in
+    let a = c₉ .before .before in
     let b = c .before .before .before .before .before .before .before .before in
     let p = c .before .before .put-three in
-    let in-s : Row (a .args .s .now) = λ j. omega (arith, c .before .before .before .before .before .before .before .before .before .shared-slice-known .given j) in
+    let in-s : Row (a .args .s .now) = λ j. omega (arith, c₉ .shared-slice-known .given j) in
     ((omega arith, simp length-set (p .kept .0 ∙ b .loop .inv .0 .1)), opaque-more (a .args .s .now) (a .args .d .now) (b .loop .d) (p .last .0) (b .loop .x) in-s (omega arith) (omega (arith, p .kept .0, b .loop .inv .0 .1)) (p .ensures) (b .loop .inv .1))
 
 -- src/lib.rt:109:1

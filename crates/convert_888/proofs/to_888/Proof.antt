@@ -75,10 +75,11 @@ loop-less c = search needs
 -- src/lib.rt:102:5
 loop-again : tie.Need-loop-again Inv-loop μ-loop
 loop-again c =
-    let a = c .before .before .before .before .before .before .before .before .before .before .before in
+    let c₉ = c .before .before .before .before .before .before .before .before .before in
+    let a = c₉ .before .before in
     let b = c .before .before .before .before .before .before .before .before in
     let p = c .before .before .put-three in
-    let in-s : Row (a .args .s .now) = λ j. omega (arith, c .before .before .before .before .before .before .before .before .before .shared-slice-known .given j) in
+    let in-s : Row (a .args .s .now) = λ j. omega (arith, c₉ .shared-slice-known .given j) in
     (search needs, three-more (a .args .s .now) (a .args .d .now) (b .loop .d) _ (b .loop .x) in-s (omega arith) (p .ensures) (b .loop .inv .1))
 
 -- src/lib.rt:97:1

@@ -17,21 +17,21 @@ freed-requires c κs =
     let s = c .before .before .before .before in
     omega (arith, facts s .slot, s .pre .4)
 
-add-wrap : tie.Need-add-wrap
-add-wrap c =
+add-wrap-offset : tie.Need-add-wrap-offset
+add-wrap-offset c =
     let s = c .before .before .before .before .before .before .before in
     rw (s .pre .5) (omega (arith, facts s .offset))
 
-wrap-requires : tie.Need-wrap-requires
-wrap-requires c κs = search needs
+wrap-offset-requires : tie.Need-wrap-offset-requires
+wrap-offset-requires c κs = search needs
 
 returns : tie.Need-returns
 returns c =
     let s = c .before .before .before .before .before .before .before .before in
     let l = c .before .before .before .before .lower in
     let f = c .before .before .before .freed in
-    without-made (s .args .engine) (s .args .at) (s .pre .4) (s .args .batch) (s .pre .5) (l .result) (l .ensures) (f .result) (f .ensures) (c .wrap .result) (c .wrap .ensures)
+    without-made (s .args .engine) (s .args .at) (s .pre .4) (s .args .batch) (s .pre .5) (l .result) (l .ensures) (f .result) (f .ensures) (c .wrap-offset .result) (c .wrap-offset .ensures)
 
 pub without-oldest-spec : {M : Type 1} → statement M
 without-oldest-spec =
-    tie.close (tie.spec lower-requires freed-requires add-wrap wrap-requires returns)
+    tie.close (tie.spec lower-requires freed-requires add-wrap-offset wrap-offset-requires returns)

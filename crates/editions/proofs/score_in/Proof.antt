@@ -45,7 +45,9 @@ returns-2 : tie.Need-returns-2
 returns-2 c = search needs
 
 returns-3 : tie.Need-returns-3
-returns-3 c = rw (c .before .before .before .enum-told2 .given .1, not-false (Lies-test (c .before .before .before .before .before .before)) (c .before .before .if1 .left)) (c .is-score-word .ensures ∙ ap isScoreWord (c .before .read-be32 .ensures))
+returns-3 c =
+    let c₆ = c .before .before .before .before .before .before in
+    rw (c .before .before .before .enum-told2 .given .1, not-false (Lies-test c₆) (c .before .before .if1 .left)) (c .is-score-word .ensures ∙ ap isScoreWord (c .before .read-be32 .ensures))
 
 pub score-in-spec : {M : Type 1} → statement M
 score-in-spec =

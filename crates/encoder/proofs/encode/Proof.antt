@@ -33,12 +33,14 @@ registers-requires c κs = yes (c .before)
 
 returns-3 : tie.Need-returns-3
 returns-3 c =
-    let e = c .before .before .before .before .before .before .before in
+    let c₅ = c .before .before .before .before .before in
+    let c₆ = c₅ .before in
+    let e = c₆ .before in
     let s = e .before .before .before .before in
     let done = fitting (firstForm (s .args .fields)) (s .args .buffer .now) (yes (e .before)) (e .if2 .left) in (
       done .0,
       c .before .before .write-le-words .ensures
-          ∙ ap (λ (l : List ℕ). spliced 0 (wordsBytes l) (s .args .buffer .now)) (c .before .before .before .before .before .words-of .ensures ∙ ap taskWords (c .before .before .before .before .before .before .registers .ensures))
+          ∙ ap (λ (l : List ℕ). spliced 0 (wordsBytes l) (s .args .buffer .now)) (c₅ .words-of .ensures ∙ ap taskWords (c₆ .registers .ensures))
           ∙ done .1,
     )
 

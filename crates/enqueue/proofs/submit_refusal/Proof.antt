@@ -57,7 +57,15 @@ first-refusal-requires-6 c κs = search needs
 
 returns-2 : tie.Need-returns-2
 unfolding firstRefusal
-returns-2 c = rw (right (c .before .before .before .before .before .before .before .before .before .before .before .before .before), c .first-refusal6 .ensures, c .before .first-refusal5 .ensures, c .before .before .is-open .ensures, c .before .before .before .first-refusal4 .ensures, c .before .before .before .before .before .first-refusal3 .ensures, c .before .before .before .before .before .before .bad-length .ensures, c .before .before .before .before .before .before .before .first-refusal2 .ensures, c .before .before .before .before .before .before .before .before .first-refusal .ensures, c .before .before .before .before .before .before .before .before .before .free-bytes .ensures, c .before .before .before .before .before .before .before .before .before .before .taken-slots .ensures)
+returns-2 c =
+    let c₅ = c .before .before .before .before .before in
+    let c₆ = c₅ .before in
+    let c₇ = c₆ .before in
+    let c₈ = c₇ .before in
+    let c₉ = c₈ .before in
+    let c₁₀ = c₉ .before in
+    let c₁₃ = c₁₀ .before .before .before in
+    rw (right c₁₃, c .first-refusal6 .ensures, c .before .first-refusal5 .ensures, c .before .before .is-open .ensures, c .before .before .before .first-refusal4 .ensures, c₅ .first-refusal3 .ensures, c₆ .bad-length .ensures, c₇ .first-refusal2 .ensures, c₈ .first-refusal .ensures, c₉ .free-bytes .ensures, c₁₀ .taken-slots .ensures)
 
 pub submit-refusal-spec : {M : Type 1} → statement M
 submit-refusal-spec =

@@ -4,16 +4,16 @@ use borrow.Author.Needs.{needs}
 use Rattle.enqueue.proofs.write_offset.Statement.{statement}
 use Rattle.enqueue.proofs.write_offset.Tie as tie
 
-add-wrap : tie.Need-add-wrap
-add-wrap c =
+add-wrap-offset : tie.Need-add-wrap-offset
+add-wrap-offset c =
     let st = c .before .before in
     omega (arith, st .pre .2, offset-small (st .args .engine) (st .pre .0) (st .pre .1))
 
-wrap-requires : tie.Need-wrap-requires
-wrap-requires c κs = search needs
+wrap-offset-requires : tie.Need-wrap-offset-requires
+wrap-offset-requires c κs = search needs
 
 returns : tie.Need-returns
-returns c = rw (c .wrap .ensures, c .before .before .before .pre .2)
+returns c = rw (c .wrap-offset .ensures, c .before .before .before .pre .2)
 
 pub write-offset-spec : {M : Type 1} → statement M
-write-offset-spec = tie.close (tie.spec add-wrap wrap-requires returns)
+write-offset-spec = tie.close (tie.spec add-wrap-offset wrap-offset-requires returns)

@@ -30,10 +30,11 @@ returns c =
 
 returns-2 : tie.Need-returns-2
 returns-2 c =
-    let s = c .before .before .before .before .before .before .before .before .before .before .before in
-    let j = c .before .before .before .before .before .before .before .before in
+    let c₅ = c .before .before .before .before .before in
+    let s = c₅ .before .before .before .before .before .before in
+    let j = c₅ .before .before .before in
     rw (c .before .before .number .ensures, c .before .word-at .ensures, c .detail-of .ensures, c .before .before .before .register-at .ensures)
-    (explained-fault (Ws s) (said s) (j .validate .result) (judged j) _ _ _ (c .before .before .before .before .before .verdict .given .1))
+    (explained-fault (Ws s) (said s) (j .validate .result) (judged j) _ _ _ (c₅ .verdict .given .1))
 
 pub explain-spec : {M : Type 1} → statement M
 explain-spec =

@@ -38,7 +38,9 @@ onward-requires : tie.Need-onward-requires Inv-loop μ-loop
 onward-requires c κs = c .before .before .loop .inv .2
 
 add-at : tie.Need-add-at Inv-loop μ-loop
-add-at c = omega (arith, c .before .before .loop-test .taken, c .before .before .before .before .before .before .before .fits .k)
+add-at c =
+    let c₇ = c .before .before .before .before .before .before .before in
+    omega (arith, c .before .before .loop-test .taken, c₇ .fits .k)
 
 loop-less : tie.Need-loop-less Inv-loop μ-loop
 loop-less c = omega arith

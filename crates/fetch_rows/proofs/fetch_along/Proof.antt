@@ -4,13 +4,13 @@ use borrow.Author.Needs.{needs}
 use Rattle.fetch_rows.proofs.fetch_along.Statement.{statement}
 use Rattle.fetch_rows.proofs.fetch_along.Tie as tie
 
-is-straight-requires : tie.Need-is-straight-requires
-is-straight-requires c κs = search needs
+is-identity-row-requires : tie.Need-is-identity-row-requires
+is-identity-row-requires c κs = search needs
 
 fetch-straight-requires : tie.Need-fetch-straight-requires
 fetch-straight-requires c κs =
     let t = c .before in
-    let h = straight (t .before .before .before .before .args .transform) (sym (t .before .is-straight .ensures) ∙ t .if1 .taken) in
+    let h = straight (t .before .before .before .before .args .transform) (sym (t .before .is-identity-row .ensures) ∙ t .if1 .taken) in
     (t .before .before .before .before .pre, h .0, h .1)
 
 same-length : tie.Need-same-length
@@ -32,7 +32,7 @@ pub fetch-along-spec : {M : Type 1} → statement M
 fetch-along-spec =
     tie.close
     (tie.spec
-    is-straight-requires
+    is-identity-row-requires
     fetch-straight-requires
     same-length
     returns

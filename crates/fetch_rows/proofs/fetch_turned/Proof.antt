@@ -18,8 +18,8 @@ returns c = λ x z. absurd (not-suc-le-zero (rw (c .if1 .taken) at z))
 origin-requires : tie.Need-origin-requires
 origin-requires c κs = search needs
 
-step-of-requires : tie.Need-step-of-requires
-step-of-requires c κs = search needs
+pixel-stride-requires : tie.Need-pixel-stride-requires
+pixel-stride-requires c κs = search needs
 
 is-reversed-requires : tie.Need-is-reversed-requires
 is-reversed-requires c κs = search needs
@@ -39,7 +39,7 @@ fetch-steps-requires c κs =
     let o = n .before in
     let s = o .before .before .before .before in
     let a = s .args in
-    rw (o .origin .ensures, n .step-of .ensures, b .is-reversed .ensures)
+    rw (o .origin .ensures, n .pixel-stride .ensures, b .is-reversed .ensures)
     (record {
       inside = λ x l. stepped-in (a .s) (a .transform) x (a .y) (drawn o x l) _ (s .pre .inside);
       above = λ x l. origin-above (a .s) (a .transform) x (a .y) (drawn o x l);
@@ -60,7 +60,7 @@ returns-2 c =
     λ x z.
     f .fetch-steps .ensures x z
     ∙ ap (loadPixel (a .s .format) (now (a .memory)))
-    (rw (o .origin .ensures, n .step-of .ensures, b .is-reversed .ensures) (sym (origin-stepped (a .s) (a .transform) x (a .y) (drawn o x z))))
+    (rw (o .origin .ensures, n .pixel-stride .ensures, b .is-reversed .ensures) (sym (origin-stepped (a .s) (a .transform) x (a .y) (drawn o x z))))
 
 pub fetch-turned-spec : {M : Type 1} → statement M
 fetch-turned-spec =
@@ -68,7 +68,7 @@ fetch-turned-spec =
     (tie.spec
     returns
     origin-requires
-    step-of-requires
+    pixel-stride-requires
     is-reversed-requires
     fetch-steps-requires
     same-length

@@ -40,7 +40,9 @@ after-why-requires : tie.Need-after-why-requires
 after-why-requires c κs = search needs
 
 add-t19 : tie.Need-add-t19
-add-t19 c = omega (arith, few (c .before .before .before .before .before .before .before))
+add-t19 c =
+    let c₇ = c .before .before .before .before .before .before .before in
+    omega (arith, few c₇)
 
 returns-2 : tie.Need-returns-2
 returns-2 c =

@@ -22,8 +22,9 @@ abbrev μ-loop : tie.MeasureT-loop
 -- what a call used is of what is left
 within : (c : tie.After-feed Inv-loop μ-loop) → c .before .before .before .before .loop .used + c .feed .result .used ≤ length (now (c .before .before .before .before .before .before .before .args .piece))
 within c =
+    let c₇ = c .before .before .before .before .before .before .before in
     let l = c .before .before .before .before .loop in
-    let piece = now (c .before .before .before .before .before .before .before .args .piece) in
+    let piece = now (c₇ .args .piece) in
     omega (arith, c .feed .ensures .0, l .inv .0, length-take (length piece - l .used) (drop (l .used) piece), length-drop (l .used) piece)
 
 loop-holds : tie.Need-loop-holds Inv-loop μ-loop
@@ -32,7 +33,9 @@ loop-holds c =
     (search needs, search needs, λ seen S. piece-none (a .question) seen (a .piece .now) (a .inquiry) (a .held .now) S)
 
 add-used : tie.Need-add-used Inv-loop μ-loop
-add-used c = omega (arith, within (c .before .before .before), c .before .before .before .before .before .before .before .before .before .before .good .1 .1 .1 .0 .0)
+add-used c =
+    let c₁₀ = c .before .before .before .before .before .before .before .before .before .before in
+    omega (arith, within (c .before .before .before), c₁₀ .good .1 .1 .1 .0 .0)
 
 returns : tie.Need-returns Inv-loop μ-loop
 returns c =

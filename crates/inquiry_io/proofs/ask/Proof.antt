@@ -38,8 +38,9 @@ returns-2 c = search needs
 
 returns-3 : tie.Need-returns-3
 returns-3 c =
+    let c₇ = c .before .before .before .before .before .before .before in
     let r = c .before .before .before .before .before .read-all .ensures in
-    record { held = _; reached = r (record { seen = []; stands = c .before .before .before .before .before .before .before .start .ensures _ _ (search needs) }) }
+    record { held = _; reached = r (record { seen = []; stands = c₇ .start .ensures _ _ (search needs) }) }
 
 pub ask-spec : {M : Type 1} → statement M
 ask-spec =

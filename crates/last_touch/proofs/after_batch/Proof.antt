@@ -10,7 +10,7 @@ use Rattle.lines.specs.Lines.{fileReset}
 use Rattle.register.specs.declared.bank.Bank.{Bank}
 use Rattle.batch.specs.Batch.{decodeBatch, tasksDrawn}
 use Rattle.batch.specs.Walk.{decodeRest}
-use Rattle.batch.proofs.Ways.{words-fit}
+use Rattle.batch.proofs.DecoderCases.{words-fit}
 use Rattle.batch.proofs.Steps.{step-onward}
 use Rattle.provenance.specs.declared.Touched.{Touched}
 use Rattle.provenance.specs.Drawn.{numbered}

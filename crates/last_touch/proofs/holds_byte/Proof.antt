@@ -16,7 +16,9 @@ rem-result : tie.Need-rem-result
 rem-result c = let a = c .before .before .before .before .args in some-stride (a .s) (a .i) (c .before .if1 .left)
 
 returns-2 : tie.Need-returns-2
-returns-2 c = let a = c .before .before .before .before .before .args in rw (c .row-length .ensures) (holds-some (a .s) (a .i) (c .before .before .if1 .left))
+returns-2 c =
+    let c₅ = c .before .before .before .before .before in
+    let a = c₅ .args in rw (c .row-length .ensures) (holds-some (a .s) (a .i) (c .before .before .if1 .left))
 
 pub holds-byte-spec : {M : Type 1} → statement M
 holds-byte-spec =

@@ -28,9 +28,10 @@ loop-holds c = (search needs, refl)
 
 returns : tie.Need-returns Inv-loop μ-loop
 returns c =
-    let l = c .before .before .before .before .before .before .loop in
+    let c₅ = c .before .before .before .before .before in
+    let l = c₅ .before .loop in
     let bad = not-true (c .before .before .is-digit .result && c .before .fits2 .result) (c .if1 .taken) in
-    let stops = numeral-stop _ (l .value) (l .end) _ (c .before .before .before .before .before .loop-test .taken) (rw (c .before .before .is-digit .ensures, c .before .fits2 .ensures, c .before .before .before .digit-value .ensures) at bad) in
+    let stops = numeral-stop _ (l .value) (l .end) _ (c₅ .loop-test .taken) (rw (c .before .before .is-digit .ensures, c .before .fits2 .ensures, c .before .before .before .digit-value .ensures) at bad) in
     (sym (l .inv .1 ∙ stops), l .inv .0)
 
 -- the number with its digit
@@ -48,10 +49,11 @@ add-value c = omega (arith, small c)
 
 loop-again : tie.Need-loop-again Inv-loop μ-loop
 loop-again c =
-    let l = c .before .before .before .before .before .before .loop in
+    let c₅ = c .before .before .before .before .before in
+    let l = c₅ .before .loop in
     let good = not-false (c .before .before .is-digit .result && c .before .fits2 .result) (c .if1 .left) in
     let d = c .before .before .before .digit-value .ensures in
-    let more = numeral-more _ (l .value) (l .end) _ (c .before .before .before .before .before .loop-test .taken) (rw (c .before .before .is-digit .ensures, c .before .fits2 .ensures, d) at good) in
+    let more = numeral-more _ (l .value) (l .end) _ (c₅ .loop-test .taken) (rw (c .before .before .is-digit .ensures, c .before .fits2 .ensures, d) at good) in
     (search needs, l .inv .1 ∙ rw d more)
 
 returns-2 : tie.Need-returns-2 Inv-loop μ-loop

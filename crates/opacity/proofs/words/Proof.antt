@@ -45,7 +45,9 @@ add-result-3 c = search needs
 
 -- src/lib.rt:197:1
 returns : tie.Need-returns
-returns c = λ z. words-zero (c .before .before .before .before .before .args .s .now) (c .before .before .before .before .before .args .o) _ _ _ _ (c .before .before .before .get4 .ensures .0) (c .before .before .get42 .ensures .0) (c .before .get43 .ensures .0) (c .get44 .ensures .0) z
+returns c =
+    let c₅ = c .before .before .before .before .before in
+    λ z. words-zero (c₅ .args .s .now) (c₅ .args .o) _ _ _ _ (c .before .before .before .get4 .ensures .0) (c .before .before .get42 .ensures .0) (c .before .get43 .ensures .0) (c .get44 .ensures .0) z
 
 pub words-spec : {M : Type 1} → statement M
 words-spec =

@@ -34,27 +34,33 @@ add-to c =
 
 add-y : tie.Need-add-y
 add-y c =
-    let a = c .before .before .before .before .before .before .before .args in
-    omega (arith, div-le-self (a .later .address - (a .first .address + c .before .before .before .before .before .row-length .result)) (a .first .stride))
+    let c₅ = c .before .before .before .before .before in
+    let a = c₅ .before .before .args in
+    omega (arith, div-le-self (a .later .address - (a .first .address + c₅ .row-length .result)) (a .first .stride))
 
 mul-down : tie.Need-mul-down
-mul-down c = let s = c .before .before .before .before .before .before .before in omega (arith, first-down (s .args .first) (s .args .later) (s .pre) _ (first c))
+mul-down c =
+    let c₇ = c .before .before .before .before .before .before .before in
+    let s = c₇ in omega (arith, first-down (s .args .first) (s .args .later) (s .pre) _ (first c))
 
 add-result : tie.Need-add-result
-add-result c = let s = c .before .before .before .before .before .before .before in omega (arith, first-down (s .args .first) (s .args .later) (s .pre) _ (first c))
+add-result c =
+    let c₇ = c .before .before .before .before .before .before .before in
+    let s = c₇ in omega (arith, first-down (s .args .first) (s .args .later) (s .pre) _ (first c))
 
 add-t18 : tie.Need-add-t18
 add-t18 c =
-    let s = c .before .before .before .before .before .before .before in
+    let c₅ = c .before .before .before .before .before in
+    let s = c₅ .before .before in
     let a = s .args in
-    omega (arith, first-down (a .first) (a .later) (s .pre) _ (first c), c .before .before .before .before .before .row-length .ensures, pixels-most (a .first .width) (a .first .format) (omega arith))
+    omega (arith, first-down (a .first) (a .later) (s .pre) _ (first c), c₅ .row-length .ensures, pixels-most (a .first .width) (a .first .format) (omega arith))
 
 returns : tie.Need-returns
 returns c =
     let k = c .before .before .before in
     let s = k .before .before .before .before .before .before .before in
     let a = s .args in
-    rw (c .shares .ensures)
+    rw (c .overlaps .ensures)
     (row-tells (a .first) (a .later) (s .pre) (k .before .if1 .y) _ _ _ (first k) (omega (arith, k .before .before .before .before .before .row-length .ensures)) refl (ap (λ (n : ℕ). a .later .address + n) (k .before .before .before .row-length2 .ensures)))
 
 pub shares-rows-spec : {M : Type 1} → statement M

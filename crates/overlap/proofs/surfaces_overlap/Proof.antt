@@ -8,7 +8,7 @@ use Rattle.overlap.proofs.surfaces_overlap.Tie as tie
 
 returns : tie.Need-returns
 unfolding surfacesOverlap
-returns c = rw (ne-eqb _ _ (c .before .if1 .taken)) (c .shares .ensures)
+returns c = rw (ne-eqb _ _ (c .before .if1 .taken)) (c .overlaps .ensures)
 
 returns-2 : tie.Need-returns-2
 unfolding surfacesOverlap

@@ -3,13 +3,13 @@ use Prim.Native.Nat.{_-_, _≤_}
 use native.Mathlib.Omega.{arith}
 use lib.ListN.{length}
 use denote.Ref.{now}
-use Rattle.plain.proofs.Turn.{begun, none-begun, more-begun, all-begun}
+use Rattle.plain.proofs.PixelByPixel.{prefix, none-begun, prefix-step, prefix-all}
 use borrow.Author.Needs.{needs}
 use Rattle.plain.proofs.draw_row.Statement.{statement}
 use Rattle.plain.proofs.draw_row.Tie as tie
 
 abbrev Inv-loop : tie.InvT-loop
-Inv-loop memory₀ task y width x₀ memory x = (x ≤ width) × (memory ≡ begun task y x memory₀) × (length memory ≡ length memory₀)
+Inv-loop memory₀ task y width x₀ memory x = (x ≤ width) × (memory ≡ prefix task y x memory₀) × (length memory ≡ length memory₀)
 
 abbrev μ-loop : tie.MeasureT-loop
 μ-loop memory₀ task y width x₀ memory x = width - x
@@ -40,7 +40,7 @@ loop-again c =
     let s = t .before .before .before .before in
     let f = d .draw-pixel in (
       search needs,
-      more-begun (record { start = 0; end = length (now (s .args .memory)) }) _ (s .args .task) (s .pre .whole .clear) (now (s .args .memory)) (l .memory) (f .last .0) (l .x) (s .args .y) (t .loop-test .taken) (s .pre .row) (l .inv .1) (f .ensures),
+      prefix-step (record { start = 0; end = length (now (s .args .memory)) }) _ (s .args .task) (s .pre .whole .clear) (now (s .args .memory)) (l .memory) (f .last .0) (l .x) (s .args .y) (t .loop-test .taken) (s .pre .row) (l .inv .1) (f .ensures),
       f .kept .0 ∙ l .inv .2,
     )
 
@@ -52,7 +52,7 @@ returns c =
     let l = c .before .loop in
     let a = c .before .before .before .before .args in
     let e : l .x ≡ a .task .output .width = omega arith in
-    (rw e at (l .inv .1)) ∙ all-begun (a .task) (a .y) (now (a .memory))
+    (rw e at (l .inv .1)) ∙ prefix-all (a .task) (a .y) (now (a .memory))
 
 pub draw-row-spec : {M : Type 1} → statement M
 draw-row-spec =

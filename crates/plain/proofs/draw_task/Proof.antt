@@ -3,13 +3,13 @@ use Prim.Native.Nat.{_-_, _≤_}
 use native.Mathlib.Omega.{arith}
 use lib.ListN.{length}
 use denote.Ref.{now}
-use Rattle.raster.proofs.Turn.{begun, none-begun, more-begun, all-begun}
+use Rattle.raster.proofs.RowByRow.{prefix, none-begun, prefix-step, prefix-all}
 use borrow.Author.Needs.{needs}
 use Rattle.plain.proofs.draw_task.Statement.{statement}
 use Rattle.plain.proofs.draw_task.Tie as tie
 
 abbrev Inv-loop : tie.InvT-loop
-Inv-loop memory₀ task height y₀ memory y = (y ≤ height) × (memory ≡ begun task y memory₀) × (length memory ≡ length memory₀)
+Inv-loop memory₀ task height y₀ memory y = (y ≤ height) × (memory ≡ prefix task y memory₀) × (length memory ≡ length memory₀)
 
 abbrev μ-loop : tie.MeasureT-loop
 μ-loop memory₀ task height y₀ memory y = height - y
@@ -40,7 +40,7 @@ loop-again c =
     let s = t .before .before .before .before in
     let f = d .draw-row in (
       search needs,
-      more-begun (record { start = 0; end = length (now (s .args .memory)) }) _ (s .args .task) (s .pre .clear) (now (s .args .memory)) (l .memory) (f .last .0) (l .y) (t .loop-test .taken) (l .inv .1) (f .ensures),
+      prefix-step (record { start = 0; end = length (now (s .args .memory)) }) _ (s .args .task) (s .pre .clear) (now (s .args .memory)) (l .memory) (f .last .0) (l .y) (t .loop-test .taken) (l .inv .1) (f .ensures),
       f .kept .0 ∙ l .inv .2,
     )
 
@@ -52,7 +52,7 @@ returns c =
     let l = c .before .loop in
     let a = c .before .before .before .before .args in
     let e : l .y ≡ a .task .output .height = omega arith in
-    (rw e at (l .inv .1)) ∙ all-begun (a .task) (now (a .memory))
+    (rw e at (l .inv .1)) ∙ prefix-all (a .task) (now (a .memory))
 
 pub draw-task-spec : {M : Type 1} → statement M
 draw-task-spec =

@@ -16,14 +16,14 @@ destination-colour-requires c κs =
     let a = s .args in
     destination-pixel (now (a .memory)) (a .task) (a .x) (a .y) (s .pre) (c .if1 .taken)
 
-mix-requires : tie.Need-mix-requires
-mix-requires c κs = search needs
+composite-requires : tie.Need-composite-requires
+composite-requires c κs = search needs
 
 returns : tie.Need-returns
 returns c =
     let t = c .before .before in
     let a = t .before .before .before .before .before .args in
-    c .mix .ensures
+    c .composite .ensures
     ∙ (ap₂ (composite (a .task .blending) (a .task .source .alpha) (a .task .destination .alpha)) (t .before .source-colour .ensures) (c .before .destination-colour .ensures)
     ∙ sym (pixel-blended (a .task) (now (a .memory)) (a .x) (a .y) (t .if1 .taken)))
 
@@ -34,4 +34,4 @@ returns-2 c =
 
 pub pixel-colour-spec : {M : Type 1} → statement M
 pixel-colour-spec =
-    tie.close (tie.spec source-colour-requires destination-colour-requires mix-requires returns returns-2)
+    tie.close (tie.spec source-colour-requires destination-colour-requires composite-requires returns returns-2)

@@ -12,16 +12,16 @@ overlaps-any-requires c κs = search needs
 is-inside-requires : tie.Need-is-inside-requires
 is-inside-requires c κs = search needs
 
-shares-requires : tie.Need-shares-requires
-shares-requires c κs = search needs
+overlaps-requires : tie.Need-overlaps-requires
+overlaps-requires c κs = search needs
 
 returns : tie.Need-returns
 returns c =
     let st = c .before .before .before .before .before in
-    bad-made (st .args .setup) _ (st .args .w) (c .before .before .before .before .new .result) (c .before .is-inside .result) (c .shares .result) (c .before .before .before .overlaps-any .result)
-    (c .before .before .before .before .new .ensures) (c .before .is-inside .ensures) (c .shares .ensures) (c .before .before .before .overlaps-any .ensures)
+    bad-made (st .args .setup) _ (st .args .w) (c .before .before .before .before .new .result) (c .before .is-inside .result) (c .overlaps .result) (c .before .before .before .overlaps-any .result)
+    (c .before .before .before .before .new .ensures) (c .before .is-inside .ensures) (c .overlaps .ensures) (c .before .before .before .overlaps-any .ensures)
 
 pub bad-window-spec : {M : Type 1} → statement M
 bad-window-spec =
     tie.close
-    (tie.spec new-requires overlaps-any-requires is-inside-requires shares-requires returns)
+    (tie.spec new-requires overlaps-any-requires is-inside-requires overlaps-requires returns)

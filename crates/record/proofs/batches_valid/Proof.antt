@@ -40,9 +40,11 @@ slot-of-age-requires : tie.Need-slot-of-age-requires Inv-loop μ-loop
 slot-of-age-requires c κs = omega arith
 
 returns : tie.Need-returns Inv-loop μ-loop
-returns c = let l = c .before .before .before in
+returns c =
+    let c₆ = c .before .before .before .before .before .before in
+    let l = c .before .before .before in
     let p = c .before .slot-of-age in
-    walk-missing _ _ _ _ _ _ _ (c .before .before .loop-test .taken) (p .result) (p .ensures) (omega (arith, c .before .before .before .before .before .before .pre .4)) ∙ l .loop .inv .3 ∙ decided (c .before .before .before .before .before .before)
+    walk-missing _ _ _ _ _ _ _ (c .before .before .loop-test .taken) (p .result) (p .ensures) (omega (arith, c₆ .pre .4)) ∙ l .loop .inv .3 ∙ decided c₆
 
 mul-batch-of : tie.Need-mul-batch-of Inv-loop μ-loop
 mul-batch-of c = omega arith
@@ -60,17 +62,20 @@ fits-in-requires : tie.Need-fits-in-requires Inv-loop μ-loop
 fits-in-requires c κs = search needs
 
 returns-2 : tie.Need-returns-2 Inv-loop μ-loop
-returns-2 c = let l = c .before .before .before .before .before .before .before .before in
+returns-2 c =
+    let c₇ = c .before .before .before .before .before .before .before in
+    let l = c₇ .before in
+    let c₁₁ = l .before .before .before in
     let p = c .before .before .before .before .before .before .slot-of-age in
     let j = c .before .before .before .batch-of in
     let e = sym (told (c .before)) ∙ not-true _ (c .if2 .taken) in
-    walk-unfit _ _ _ _ _ _ _ (c .before .before .before .before .before .before .before .loop-test .taken) (p .result) (p .ensures) (omega (arith, c .before .before .before .before .before .before .before .before .before .before .before .pre .4)) (j .result) (j .ensures) e ∙ l .loop .inv .3 ∙ decided (c .before .before .before .before .before .before .before .before .before .before .before)
+    walk-unfit _ _ _ _ _ _ _ (c₇ .loop-test .taken) (p .result) (p .ensures) (omega (arith, c₁₁ .pre .4)) (j .result) (j .ensures) e ∙ l .loop .inv .3 ∙ decided c₁₁
 
-add-wrap : tie.Need-add-wrap Inv-loop μ-loop
-add-wrap c = let f = fits c .within in omega arith
+add-wrap-offset : tie.Need-add-wrap-offset Inv-loop μ-loop
+add-wrap-offset c = let f = fits c .within in omega arith
 
-wrap-requires : tie.Need-wrap-requires Inv-loop μ-loop
-wrap-requires c κs = search needs
+wrap-offset-requires : tie.Need-wrap-offset-requires Inv-loop μ-loop
+wrap-offset-requires c κs = search needs
 
 sub-room : tie.Need-sub-room Inv-loop μ-loop
 sub-room c = fits (c .before) .within
@@ -88,9 +93,9 @@ loop-again c = let l = c .before .before .before .before .before .before .before
     let f = fits (c .before) .within in
     let small = c .before .before .before .before .before .before .before .before .before .before .before .before .pre in (
       omega arith,
-      rw (c .wrap .ensures) (wrapped-below (c .before .before .before .before .before .before .before .before .before .before .before .before .args .engine .setup .ring) (l .loop .offset + j .result .length) (omega arith)),
+      rw (c .wrap-offset .ensures) (wrapped-below (c .before .before .before .before .before .before .before .before .before .before .before .before .args .engine .setup .ring) (l .loop .offset + j .result .length) (omega arith)),
       omega arith,
-      walk-next _ _ _ _ _ _ _ (c .before .before .before .before .before .before .before .before .loop-test .taken) (p .result) (p .ensures) (omega (arith, c .before .before .before .before .before .before .before .before .before .before .before .before .pre .4)) (j .result) (j .ensures) (fit (c .before)) (c .wrap .result) (c .wrap .ensures) ∙ l .loop .inv .3,
+      walk-next _ _ _ _ _ _ _ (c .before .before .before .before .before .before .before .before .loop-test .taken) (p .result) (p .ensures) (omega (arith, c .before .before .before .before .before .before .before .before .before .before .before .before .pre .4)) (j .result) (j .ensures) (fit (c .before)) (c .wrap-offset .result) (c .wrap-offset .ensures) ∙ l .loop .inv .3,
     )
 
 returns-3 : tie.Need-returns-3 Inv-loop μ-loop
@@ -111,8 +116,8 @@ batches-valid-spec =
     is-open-requires
     fits-in-requires
     returns-2
-    add-wrap
-    wrap-requires
+    add-wrap-offset
+    wrap-offset-requires
     sub-room
     sub-k
     loop-less

@@ -26,7 +26,8 @@ array-copy-out-client : tie.Need-array-copy-out-client Inv-loop μ-loop
 array-copy-out-client c = omega arith
 
 returns : tie.Need-returns Inv-loop μ-loop
-returns c = let st = c .before .before .before .before .before in
+returns c =
+    let st = c .before .before .before .before .before in
     let i : ℕ = c .before .before .before .before .loop .id in
     let g = st .good .0 .1 .0 .1 in
     let f = closed-step (st .args .t1) i (omega arith) in
@@ -41,7 +42,8 @@ loop-less : tie.Need-loop-less Inv-loop μ-loop
 loop-less c = omega arith
 
 loop-again : tie.Need-loop-again Inv-loop μ-loop
-loop-again c = let st = c .before .before .before .before .before in
+loop-again c =
+    let st = c .before .before .before .before .before in
     let i : ℕ = c .before .before .before .before .loop .id in
     let g = st .good .0 .1 .0 .1 in
     let f = closed-step (st .args .t1) i (omega arith) in

@@ -27,7 +27,8 @@ is-free-requires : tie.Need-is-free-requires Inv-loop μ-loop
 is-free-requires c κs = search needs
 
 returns : tie.Need-returns Inv-loop μ-loop
-returns c = let st = c .before .before .before .before .before in
+returns c =
+    let st = c .before .before .before .before .before in
     let i : ℕ = c .before .before .before .before .loop .lowest in
     let h : i < length (st .args .t1) = omega (arith, st .good .0 .1 .0 .1) in
     let f = lowest-step (st .args .t1) i h in
@@ -40,7 +41,8 @@ loop-less : tie.Need-loop-less Inv-loop μ-loop
 loop-less c = omega arith
 
 loop-again : tie.Need-loop-again Inv-loop μ-loop
-loop-again c = let st = c .before .before .before .before .before in
+loop-again c =
+    let st = c .before .before .before .before .before in
     let i : ℕ = c .before .before .before .before .loop .lowest in
     let h : i < length (st .args .t1) = omega (arith, st .good .0 .1 .0 .1) in
     let f = lowest-step (st .args .t1) i h in

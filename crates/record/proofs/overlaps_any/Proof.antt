@@ -4,7 +4,7 @@ use lib.ListN.{drop}
 use native.Mathlib.Omega.{arith}
 use borrow.Author.Needs.{needs}
 use Rattle.record.specs.Clients.{windowsOf, overlapsAny}
-use Rattle.record.proofs.Clients.{shares-found, shares-next, shares-end}
+use Rattle.record.proofs.Clients.{shares-found, shares-next, overlaps-end}
 use Rattle.record.proofs.overlaps_any.Statement.{statement}
 use Rattle.record.proofs.overlaps_any.Tie as tie
 
@@ -26,14 +26,15 @@ array-copy-out-client c = omega arith
 new-requires : tie.Need-new-requires Inv-loop μ-loop
 new-requires c κs = search needs
 
-shares-requires : tie.Need-shares-requires Inv-loop μ-loop
-shares-requires c κs = search needs
+overlaps-requires : tie.Need-overlaps-requires Inv-loop μ-loop
+overlaps-requires c κs = search needs
 
 returns : tie.Need-returns Inv-loop μ-loop
-returns c = let st = c .before .before .before .before .before .before .before .before in
+returns c =
+    let st = c .before .before .before .before .before .before .before .before in
     let l = c .before .before .before .before .before .before .before in
     let g = st .good .0 .1 .0 .1 in
-    shares-found (st .args .t1) (l .loop .i) (omega arith) (st .args .bytes) (c .before .before .before .new .result) (c .before .before .before .new .ensures) (c .before .before .shares .result) (c .before .before .shares .ensures) (c .if1 .taken) ∙ l .loop .inv
+    shares-found (st .args .t1) (l .loop .i) (omega arith) (st .args .bytes) (c .before .before .before .new .result) (c .before .before .before .new .ensures) (c .before .before .overlaps .result) (c .before .before .overlaps .ensures) (c .if1 .taken) ∙ l .loop .inv
 
 add-i : tie.Need-add-i Inv-loop μ-loop
 add-i c = omega arith
@@ -42,14 +43,15 @@ loop-less : tie.Need-loop-less Inv-loop μ-loop
 loop-less c = omega arith
 
 loop-again : tie.Need-loop-again Inv-loop μ-loop
-loop-again c = let st = c .before .before .before .before .before .before .before .before in
+loop-again c =
+    let st = c .before .before .before .before .before .before .before .before in
     let l = c .before .before .before .before .before .before .before in
     let g = st .good .0 .1 .0 .1 in
-    shares-next (st .args .t1) (l .loop .i) (omega arith) (st .args .bytes) (c .before .before .before .new .result) (c .before .before .before .new .ensures) (c .before .before .shares .result) (c .before .before .shares .ensures) (c .if1 .left) ∙ l .loop .inv
+    shares-next (st .args .t1) (l .loop .i) (omega arith) (st .args .bytes) (c .before .before .before .new .result) (c .before .before .before .new .ensures) (c .before .before .overlaps .result) (c .before .before .overlaps .ensures) (c .if1 .left) ∙ l .loop .inv
 
 returns-2 : tie.Need-returns-2 Inv-loop μ-loop
 returns-2 c = let g = c .before .before .good .0 .1 .0 .1 in
-    sym (shares-end (c .before .before .args .t1) (c .before .loop .i) (omega arith) _) ∙ c .before .loop .inv
+    sym (overlaps-end (c .before .before .args .t1) (c .before .loop .i) (omega arith) _) ∙ c .before .loop .inv
 
 pub overlaps-any-spec : {M : Type 1} → statement M
 overlaps-any-spec =
@@ -61,7 +63,7 @@ overlaps-any-spec =
     mul-client
     array-copy-out-client
     new-requires
-    shares-requires
+    overlaps-requires
     returns
     add-i
     loop-less

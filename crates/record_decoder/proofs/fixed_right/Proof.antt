@@ -23,7 +23,9 @@ word-at-requires-6 c κs = search needs
 
 returns : tie.Need-returns
 unfolding fixedRight
-returns c = simp (c .word-at6 .ensures, c .before .word-at5 .ensures, c .before .before .word-at4 .ensures, c .before .before .before .word-at3 .ensures, c .before .before .before .before .word-at2 .ensures, c .before .before .before .before .before .word-at .ensures)
+returns c =
+    let c₅ = c .before .before .before .before .before in
+    simp (c .word-at6 .ensures, c .before .word-at5 .ensures, c .before .before .word-at4 .ensures, c .before .before .before .word-at3 .ensures, c .before .before .before .before .word-at2 .ensures, c₅ .word-at .ensures)
 
 pub fixed-right-spec : {M : Type 1} → statement M
 fixed-right-spec =

@@ -23,7 +23,9 @@ staged-in-requires c κs = search needs
 
 returns : tie.Need-returns
 unfolding recordIn
-returns c = simp (c .staged-in .ensures, c .before .word-at .ensures, c .before .before .size-at .ensures, c .before .before .before .slots-in .ensures, c .before .before .before .before .clients-in .ensures, c .before .before .before .before .before .setup-in .ensures)
+returns c =
+    let c₅ = c .before .before .before .before .before in
+    simp (c .staged-in .ensures, c .before .word-at .ensures, c .before .before .size-at .ensures, c .before .before .before .slots-in .ensures, c .before .before .before .before .clients-in .ensures, c₅ .setup-in .ensures)
 
 pub record-in-spec : {M : Type 1} → statement M
 record-in-spec =

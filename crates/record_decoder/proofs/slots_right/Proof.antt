@@ -29,7 +29,11 @@ slot-right-requires-8 c κs = search needs
 
 returns : tie.Need-returns
 unfolding slotsRight
-returns c = simp (c .slot-right8 .ensures, c .before .slot-right7 .ensures, c .before .before .slot-right6 .ensures, c .before .before .before .slot-right5 .ensures, c .before .before .before .before .slot-right4 .ensures, c .before .before .before .before .before .slot-right3 .ensures, c .before .before .before .before .before .before .slot-right2 .ensures, c .before .before .before .before .before .before .before .slot-right .ensures)
+returns c =
+    let c₅ = c .before .before .before .before .before in
+    let c₆ = c₅ .before in
+    let c₇ = c₆ .before in
+    simp (c .slot-right8 .ensures, c .before .slot-right7 .ensures, c .before .before .slot-right6 .ensures, c .before .before .before .slot-right5 .ensures, c .before .before .before .before .slot-right4 .ensures, c₅ .slot-right3 .ensures, c₆ .slot-right2 .ensures, c₇ .slot-right .ensures)
 
 pub slots-right-spec : {M : Type 1} → statement M
 slots-right-spec =

@@ -22,16 +22,19 @@ same-length c = search needs
 
 returns : tie.Need-returns
 returns c =
-    let s = c .before .before .before .before .before .before .before .before in
-    let number = c .before .before .before .before .before .outcome .given .0 .0 in
-    rw (c .before .before .before .before .before .outcome .given .1, outcome-refused (s .args .client) number (s .pre .1 number (c .before .before .before .before .before .outcome .given .1))) (c .before .before .refusal-line .ensures)
+    let c₅ = c .before .before .before .before .before in
+    let s = c₅ .before .before .before in
+    let number = c₅ .outcome .given .0 .0 in
+    rw (c₅ .outcome .given .1, outcome-refused (s .args .client) number (s .pre .1 number (c₅ .outcome .given .1))) (c .before .before .refusal-line .ensures)
 
 same-length-2 : tie.Need-same-length-2
 same-length-2 c = search needs
 
 returns-2 : tie.Need-returns-2
 unfolding answerOrRefusal answerLine
-returns-2 c = rw (c .before .before .before .before .before .outcome2 .given .1) (c .before .before .completion-line .ensures)
+returns-2 c =
+    let c₅ = c .before .before .before .before .before in
+    rw (c₅ .outcome2 .given .1) (c .before .before .completion-line .ensures)
 
 pub outcome-line-spec : {M : Type 1} → statement M
 outcome-line-spec =

@@ -26,10 +26,11 @@ same-length c = search needs
 
 returns : tie.Need-returns
 returns c =
-    let s = c .before .before .before .before .before .before .before .before .before .before .before .before .before .before .before .before .before .before .before in
-    let one = c .before .before .before .before .before .before .before .before .before .before .before .before .before .before .before .before .decimal .ensures in
+    let c₁₁ = c .before .before .before .before .before .before .before .before .before .before .before in
+    let s = c₁₁ .before .before .before .before .before .before .before .before in
+    let one = c₁₁ .before .before .before .before .before .decimal .ensures in
     let two = c .before .before .before .before .before .before .before .decimal2 .ensures in
-    refusal-prints _ _ _ (s .pre) (s .args .client) (s .args .number) _ _ _ (one .1) (two .1) (one .0) (c .before .before .before .before .before .before .before .before .before .before .before .append .ensures) (two .0) (c .before .before .append2 .ensures)
+    refusal-prints _ _ _ (s .pre) (s .args .client) (s .args .number) _ _ _ (one .1) (two .1) (one .0) (c₁₁ .append .ensures) (two .0) (c .before .before .append2 .ensures)
 
 pub refusal-line-spec : {M : Type 1} → statement M
 refusal-line-spec =

@@ -42,9 +42,10 @@ partly-requires-2 c κs = search needs
 
 returns-3 : tie.Need-returns-3
 returns-3 c =
-    let s = c .before .before .before .before .before .before .before in
+    let c₅ = c .before .before .before .before .before in
+    let s = c₅ .before .before in
     let good = sym (c .before .before .before .bad-size .ensures) ∙ c .before .before .if2 .left in
-    (c .partly2 .ensures ∙ decides-part (s .args .edition) (s .args .held .now) (s .args .have) (omega arith) _ (c .before .before .before .before .read-be32 .ensures) (c .before .before .before .before .before .if1 .left) (s .args .used) good (c .before .if3 .taken), rw (c .partly2 .ensures) tt, ap (λ (t : Taken). t .used) (c .partly2 .ensures))
+    (c .partly2 .ensures ∙ decides-part (s .args .edition) (s .args .held .now) (s .args .have) (omega arith) _ (c .before .before .before .before .read-be32 .ensures) (c₅ .if1 .left) (s .args .used) good (c .before .if3 .taken), rw (c .partly2 .ensures) tt, ap (λ (t : Taken). t .used) (c .partly2 .ensures))
 
 returns-4 : tie.Need-returns-4
 returns-4 c =

@@ -9,7 +9,7 @@ use Rattle.records.proofs.take_record.Statement.{statement}
 use Rattle.records.proofs.take_record.Tie as tie
 use Rattle.records.proofs.take_record.Reads as reads
 use Rattle.records.proofs.take_record.Lts as lts
-use Rattle.range.proofs.least.Reads as least-reads
+use Rattle.range.proofs.min_usize.Reads as least-reads
 use Rattle.records.proofs.bytes_missing.Reads as bytes-missing-reads
 use Rattle.records.proofs.decide.Reads as decide-reads
 use Rattle.ring.proofs.copy_in.Reads as copy-in-reads
@@ -17,15 +17,18 @@ use Rattle.ring.proofs.copy_in.Reads as copy-in-reads
 bytes-missing-requires : tie.Need-bytes-missing-requires
 bytes-missing-requires c κs = search needs
 
-least-requires : tie.Need-least-requires
-least-requires c κs = search needs
+min-usize-requires : tie.Need-min-usize-requires
+min-usize-requires c κs = search needs
 
 slice-aggregate-copy-in : tie.Need-slice-aggregate-copy-in
-slice-aggregate-copy-in c = sym (length-take-le (c .before .before .least .result) (c .before .before .before .before .before .before .before .args .input .now) (omega arith))
+slice-aggregate-copy-in c =
+    let c₇ = c .before .before .before .before .before .before .before in
+    sym (length-take-le (c .before .before .min-usize .result) (c₇ .args .input .now) (omega arith))
 
 copy-in-requires : tie.Need-copy-in-requires
 copy-in-requires c κs =
-    let size = length-take-le (c .before .before .least .result) (c .before .before .before .before .before .before .before .args .input .now) (omega arith) in
+    let c₇ = c .before .before .before .before .before .before .before in
+    let size = length-take-le (c .before .before .min-usize .result) (c₇ .args .input .now) (omega arith) in
     record { starts = omega arith; fits = omega arith }
 
 add-decide : tie.Need-add-decide
@@ -41,7 +44,7 @@ returns : tie.Need-returns
 returns c =
     let s = c .before .before .before .before .before .before .before .before .before .before .before .before in
     let d = c .decide .ensures in
-    let least = c .before .before .before .before .before .before .before .least .ensures in
+    let least = c .before .before .before .before .before .before .before .min-usize .ensures in
     let want = c .before .before .before .before .before .before .before .before .bytes-missing .ensures in
     let copy = c .before .before .before .before .copy-in in (
       omega (arith, d .2, least),
@@ -56,7 +59,7 @@ take-record-spec =
     tie.close
     (tie.spec
     bytes-missing-requires
-    least-requires
+    min-usize-requires
     slice-aggregate-copy-in
     copy-in-requires
     add-decide

@@ -16,7 +16,9 @@ enum-known-found : tie.Need-enum-known-found
 enum-known-found c = search needs
 
 serve-record-requires : tie.Need-serve-record-requires
-serve-record-requires c κs = (rw (c .before .before .before .before .found .given .1) at (c .before .before .before .before .before .before .before .before .before .before .pre .0), search needs)
+serve-record-requires c κs =
+    let c₁₀ = c .before .before .before .before .before .before .before .before .before .before in
+    (rw (c .before .before .before .before .found .given .1) at (c₁₀ .pre .0), search needs)
 
 enum-told : tie.Need-enum-told
 enum-told c = search needs
@@ -47,8 +49,10 @@ same-length-3 c = search needs
 
 returns : tie.Need-returns
 returns c =
-    let a = c .before .before .before .before .before .before .before .before .before .before .before .before .before .before .before .before .before .args in
-    found-record (a .edition) (a .engine) (a .ring .now) (a .memory .now) (a .held .now) (a .line .now) (a .found) _ (c .before .before .before .before .before .before .before .before .before .before .before .found .given .1) _ _ _ _ (c .before .before .before .before .before .before .serve-record .ensures)
+    let c₆ = c .before .before .before .before .before .before in
+    let c₁₁ = c₆ .before .before .before .before .before in
+    let a = c₁₁ .before .before .before .before .before .before .args in
+    found-record (a .edition) (a .engine) (a .ring .now) (a .memory .now) (a .held .now) (a .line .now) (a .found) _ (c₁₁ .found .given .1) _ _ _ _ (c₆ .serve-record .ensures)
 
 returns-2 : tie.Need-returns-2
 returns-2 c =
@@ -69,9 +73,10 @@ same-length-5 c = search needs
 returns-4 : tie.Need-returns-4
 unfolding endingLine
 returns-4 c =
-    let s = c .before .before .before .before .before .before .before .before .before .before .before in
+    let c₅ = c .before .before .before .before .before in
+    let s = c₅ .before .before .before .before .before .before in
     let a = s .args in
-    found-bad (a .edition) (a .engine) (a .ring .now) (a .memory .now) (a .held .now) (a .line .now) (a .found) _ _ (c .before .before .before .before .before .enum-told3 .given .1) (prints-typed (endingLine badRecord) (a .line .now) _ _ (omega arith) (s .pre .1) (c .before .before .copy .ensures))
+    found-bad (a .edition) (a .engine) (a .ring .now) (a .memory .now) (a .held .now) (a .line .now) (a .found) _ _ (c₅ .enum-told3 .given .1) (prints-typed (endingLine badRecord) (a .line .now) _ _ (omega arith) (s .pre .1) (c .before .before .copy .ensures))
 
 pub after-found-spec : {M : Type 1} → statement M
 after-found-spec =

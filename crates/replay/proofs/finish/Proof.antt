@@ -40,8 +40,9 @@ same-length c = search needs
 
 returns-3 : tie.Need-returns-3
 returns-3 c =
-    let a = c .before .before .before .before .before .before .before .before .before .args in
-    finishes-version (a .replay) (a .line .now) _ _ (c .before .before .before .before .before .before .before .if1 .left) (c .before .before .before .before .enum-told .given .1) (c .before .before .bad-version .ensures)
+    let c₇ = c .before .before .before .before .before .before .before in
+    let a = c₇ .before .before .args in
+    finishes-version (a .replay) (a .line .now) _ _ (c₇ .if1 .left) (c .before .before .before .before .enum-told .given .1) (c .before .before .bad-version .ensures)
 
 same-length-2 : tie.Need-same-length-2
 same-length-2 c = search needs
@@ -49,9 +50,11 @@ same-length-2 c = search needs
 returns-4 : tie.Need-returns-4
 unfolding endingLine
 returns-4 c =
-    let a = c .before .before .before .before .before .before .before .before .before .before .before .args in
-    let room = c .before .before .before .before .before .before .before .before .before .if1 .left in
-    finishes-cut (a .replay) (a .line .now) _ _ room (c .before .before .before .before .before .before .enum-told2 .given .1) (c .before .before .before .before .before .if2 .left) (prints-typed (endingLine cutRecord) (a .line .now) _ _ (omega arith) room (c .before .before .copy .ensures))
+    let c₅ = c .before .before .before .before .before in
+    let c₆ = c₅ .before in
+    let a = c₆ .before .before .before .before .before .args in
+    let room = c₆ .before .before .before .if1 .left in
+    finishes-cut (a .replay) (a .line .now) _ _ room (c₆ .enum-told2 .given .1) (c₅ .if2 .left) (prints-typed (endingLine cutRecord) (a .line .now) _ _ (omega arith) room (c .before .before .copy .ensures))
 
 returns-5 : tie.Need-returns-5
 returns-5 c =

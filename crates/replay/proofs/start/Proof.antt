@@ -25,7 +25,9 @@ start-requires : tie.Need-start-requires
 start-requires c κs = search needs
 
 returns : tie.Need-returns
-returns c = cc (starting-engine (c .before .before .before .before .before .before .before .before .before .before .before .before .args .edition))
+returns c =
+    let c₁₂ = c .before .before .before .before .before .before .before .before .before .before .before .before in
+    cc (starting-engine (c₁₂ .args .edition))
 
 pub start-spec : {M : Type 1} → statement M
 start-spec =

@@ -34,7 +34,9 @@ same-length-3 : tie.Need-same-length-3
 same-length-3 c = search needs
 
 returns-2 : tie.Need-returns-2
-returns-2 c = λ edition engine R. piece-reached edition engine _ _ _ _ _ _ R _ _ _ _ _ _ _ (c .before .before .before .before .before .before .feed-piece .ensures engine (R .seen) (R .text) (R .stands) (R .counts))
+returns-2 c =
+    let c₆ = c .before .before .before .before .before .before in
+    λ edition engine R. piece-reached edition engine _ _ _ _ _ _ R _ _ _ _ _ _ _ (c₆ .feed-piece .ensures engine (R .seen) (R .text) (R .stands) (R .counts))
 
 pub read-some-spec : {M : Type 1} → statement M
 read-some-spec =

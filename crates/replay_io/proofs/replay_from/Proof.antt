@@ -19,7 +19,10 @@ same-length : tie.Need-same-length
 same-length c = search needs
 
 returns : tie.Need-returns
-returns c = replayed-some _ _ _ _ _ _ _ _ _ (c .before .before .before .before .before .before .before .read-all .ensures _ _ (reached-start _ _ _ _ _ _ (c .before .before .before .before .before .before .before .before .before .before .before .start .ensures) (search needs)))
+returns c =
+    let c₇ = c .before .before .before .before .before .before .before in
+    let c₁₁ = c₇ .before .before .before .before in
+    replayed-some _ _ _ _ _ _ _ _ _ (c₇ .read-all .ensures _ _ (reached-start _ _ _ _ _ _ (c₁₁ .start .ensures) (search needs)))
 
 slice-aggregate-finish : tie.Need-slice-aggregate-finish
 slice-aggregate-finish c = search needs
@@ -35,8 +38,9 @@ same-length-2 c = search needs
 
 returns-2 : tie.Need-returns-2
 returns-2 c =
+    let c₁₅ = c .before .before .before .before .before .before .before .before .before .before .before .before .before .before .before in
     let a = c .before .before .before .before .before .before .before .before .before .before .before .read-all in
-    rw (c .wrapping-add-u64 .ensures) (replayed-all _ _ _ _ _ _ _ _ _ (a .ensures _ _ (reached-start _ _ _ _ _ _ (c .before .before .before .before .before .before .before .before .before .before .before .before .before .before .before .start .ensures) (search needs))) _ _ _ _ (search needs) (c .before .before .finish .kept .1 .0) (c .before .before .finish .ensures))
+    rw (c .wrapping-add-u64 .ensures) (replayed-all _ _ _ _ _ _ _ _ _ (a .ensures _ _ (reached-start _ _ _ _ _ _ (c₁₅ .start .ensures) (search needs))) _ _ _ _ (search needs) (c .before .before .finish .kept .1 .0) (c .before .before .finish .ensures))
 
 pub replay-from-spec : {M : Type 1} → statement M
 replay-from-spec =

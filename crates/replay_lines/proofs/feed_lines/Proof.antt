@@ -29,8 +29,9 @@ abbrev μ-loop : tie.MeasureT-loop
 -- a line has room
 room : (c : tie.In-loop Inv-loop μ-loop) → 128 ≤ length (c .before .loop .out) - c .before .loop .written
 room c =
+    let c₇ = c .before .before .before .before .before .before .before in
     let l = c .before .loop in
-    let input = now (c .before .before .before .before .before .before .before .args .input) in
+    let input = now (c₇ .args .input) in
     leb-true 128 (length (l .out) - l .written) (and-true (ltb (l .used) (length input)) (leb 128 (length (l .out) - l .written)) (c .loop-test .taken) .1)
 
 -- what a call used and wrote lies within the input and the lines
@@ -38,8 +39,9 @@ bounds : (c : tie.After-feed Inv-loop μ-loop) →
     (c .before .before .before .before .before .before .before .loop .used + c .feed .result .used ≤ length (now (c .before .before .before .before .before .before .before .before .before .before .before .before .before .args .input)))
     × (c .before .before .before .before .before .before .before .loop .written + c .feed .result .written ≤ length (now (c .before .before .before .before .before .before .before .before .before .before .before .before .before .args .out)))
 bounds c =
+    let c₁₃ = c .before .before .before .before .before .before .before .before .before .before .before .before .before in
     let l = c .before .before .before .before .before .before .before .loop in
-    let input = now (c .before .before .before .before .before .before .before .before .before .before .before .before .before .args .input) in
+    let input = now (c₁₃ .args .input) in
     let e = c .feed .ensures in (
       omega (arith, e .within, length-mid (l .used) (length input - l .used) input (omega arith)),
       omega (arith, prints-within _ _ _ _ (e .prints) (c .feed .kept .1 .1 .1 .1 .1 .0), length-mid (l .written) (length (l .out) - l .written) (l .out) (omega arith)),
@@ -75,13 +77,21 @@ feed-requires : tie.Need-feed-requires Inv-loop μ-loop
 feed-requires c κs = search needs
 
 add-written : tie.Need-add-written Inv-loop μ-loop
-add-written c = omega (arith, bounds (c .before .before .before .before .before .before .before .before .before .before), c .before .before .before .before .before .before .before .before .before .before .before .before .before .before .before .before .before .before .before .before .before .before .before .good .1 .1 .1 .1 .1 .0 .0)
+add-written c =
+    let c₁₀ = c .before .before .before .before .before .before .before .before .before .before in
+    let c₂₃ = c₁₀ .before .before .before .before .before .before .before .before .before .before .before .before .before in
+    omega (arith, bounds c₁₀, c₂₃ .good .1 .1 .1 .1 .1 .0 .0)
 
 add-used : tie.Need-add-used Inv-loop μ-loop
-add-used c = omega (arith, bounds (c .before .before .before .before .before .before .before .before .before .before), c .before .before .before .before .before .before .before .before .before .before .before .before .before .before .before .before .before .before .before .before .before .before .before .good .1 .1 .1 .1 .0 .0)
+add-used c =
+    let c₁₀ = c .before .before .before .before .before .before .before .before .before .before in
+    let c₂₃ = c₁₀ .before .before .before .before .before .before .before .before .before .before .before .before .before in
+    omega (arith, bounds c₁₀, c₂₃ .good .1 .1 .1 .1 .0 .0)
 
 loop-less : tie.Need-loop-less Inv-loop μ-loop
-loop-less c = omega (arith, bounds (c .before .before .before .before .before .before .before .before .before .before .before), c .if1 .left)
+loop-less c =
+    let c₁₁ = c .before .before .before .before .before .before .before .before .before .before .before in
+    omega (arith, bounds c₁₁, c .if1 .left)
 
 loop-again : tie.Need-loop-again Inv-loop μ-loop
 loop-again c =

@@ -44,10 +44,11 @@ feed-lines-requires c κs = search needs
 
 add-used : tie.Need-add-used Inv-loop μ-loop
 add-used c =
-    let l = c .before .before .before .before .before .before .before .before .before .before .before .before .before .before .before .loop in
-    let s = c .before .before .before .before .before .before .before .before .before .before .before .before .before .before .before .before .before .before .before .before .before in
+    let c₈ = c .before .before .before .before .before .before .before .before in
+    let l = c₈ .before .before .before .before .before .before .before .loop in
+    let s = c₈ .before .before .before .before .before .before .before .before .before .before .before .before .before in
     let piece = now (s .args .piece) in
-    omega (arith, c .before .before .before .before .before .before .before .before .feed-lines .ensures .within, length-mid (l .used) (length piece - l .used) piece (omega arith), s .good .1 .1 .1 .1 .0 .0)
+    omega (arith, c₈ .feed-lines .ensures .within, length-mid (l .used) (length piece - l .used) piece (omega arith), s .good .1 .1 .1 .1 .0 .0)
 
 slice-aggregate-show : tie.Need-slice-aggregate-show Inv-loop μ-loop
 slice-aggregate-show c = search needs
@@ -63,9 +64,10 @@ loop-less c = search needs
 
 loop-again : tie.Need-loop-again Inv-loop μ-loop
 loop-again c =
+    let c₂₅ = c .before .before .before .before .before .before .before .before .before .before .before .before .before .before .before .before .before .before .before .before .before .before .before .before .before in
     let l = c .before .before .before .before .before .before .before .before .before .before .before .before .before .before .before .before .before .before .before .loop in
     let f = c .before .before .before .before .before .before .before .before .before .before .before .before .feed-lines in
-    let piece = now (c .before .before .before .before .before .before .before .before .before .before .before .before .before .before .before .before .before .before .before .before .before .before .before .before .before .args .piece) in
+    let piece = now (c₂₅ .args .piece) in
     let rest = length-mid (l .used) (length piece - l .used) piece (omega (arith, l .inv .0)) in
     (omega (arith, f .ensures .within, rest, l .inv .0), search needs, search needs, search needs, search needs, λ engine seen text S e. rw (c .before .wrapping-add-u64 .ensures) (feeding-more _ engine seen text piece _ (l .used) (l .now) (l .sum) _ _ _ (l .inv .5 engine seen text S e) (length piece - l .used) _ (f .result) _ _ _ _ _ refl (f .kept .1 .1 .1 .1 .1 .0) (f .ensures) (c .before .before .show .ensures)))
 
@@ -96,9 +98,10 @@ same-length-6 c = search needs
 
 returns-2 : tie.Need-returns-2 Inv-loop μ-loop
 returns-2 c =
+    let c₂₅ = c .before .before .before .before .before .before .before .before .before .before .before .before .before .before .before .before .before .before .before .before .before .before .before .before .before in
     let l = c .before .before .before .before .before .before .before .before .before .before .before .before .before .before .before .before .before .before .before .loop in
     let f = c .before .before .before .before .before .before .before .before .before .before .before .before .feed-lines in
-    let piece = now (c .before .before .before .before .before .before .before .before .before .before .before .before .before .before .before .before .before .before .before .before .before .before .before .before .before .args .piece) in
+    let piece = now (c₂₅ .args .piece) in
     λ engine seen text S e. rw (c .before .wrapping-add-u64 .ensures) (piece-failed _ engine seen text piece _ _ _ _ _ _ _ (feeding-more _ engine seen text piece _ (l .used) (l .now) (l .sum) _ _ _ (l .inv .5 engine seen text S e) (length piece - l .used) _ (f .result) _ _ _ _ _ refl (f .kept .1 .1 .1 .1 .1 .0) (f .ensures) (c .before .before .show .ensures)))
 
 pub feed-piece-spec : {M : Type 1} → statement M

@@ -31,7 +31,9 @@ same-length : tie.Need-same-length
 same-length c = search needs
 
 returns : tie.Need-returns
-returns c = reported-done _ _ _ _ (c .before .before .before .before .before .before .outcome-words .ensures) _ (c .before .before .before .before .if1 .taken) (c .before .before .encode .ensures)
+returns c =
+    let c₆ = c .before .before .before .before .before .before in
+    reported-done _ _ _ _ (c₆ .outcome-words .ensures) _ (c .before .before .before .before .if1 .taken) (c .before .before .encode .ensures)
 
 returns-2 : tie.Need-returns-2
 returns-2 c = reported-refused _ _ _ _ (c .before .before .outcome-words .ensures) (c .if1 .left)

@@ -22,7 +22,9 @@ same-length : tie.Need-same-length
 same-length c = search needs
 
 returns : tie.Need-returns
-returns c = two-done _ _ _ _ (c .before .before .before .before .before .before .piece-words .ensures) _ (c .before .before .before .before .if1 .taken) (c .before .before .encode .ensures)
+returns c =
+    let c₆ = c .before .before .before .before .before .before in
+    two-done _ _ _ _ (c₆ .piece-words .ensures) _ (c .before .before .before .before .if1 .taken) (c .before .before .encode .ensures)
 
 returns-2 : tie.Need-returns-2
 returns-2 c = two-refused _ _ _ _ (c .before .before .piece-words .ensures) (c .if1 .left)

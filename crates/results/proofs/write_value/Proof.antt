@@ -19,7 +19,9 @@ same-length : tie.Need-same-length
 same-length c = search needs
 
 returns : tie.Need-returns
-returns c = told-done _ _ _ _ (c .before .before .before .before .before .answer-words .ensures) _ (c .before .before .before .before .if1 .taken) (c .before .before .encode .ensures)
+returns c =
+    let c₅ = c .before .before .before .before .before in
+    told-done _ _ _ _ (c₅ .answer-words .ensures) _ (c .before .before .before .before .if1 .taken) (c .before .before .encode .ensures)
 
 returns-2 : tie.Need-returns-2
 returns-2 c = told-refused _ _ _ _ (c .before .answer-words .ensures) (c .if1 .left)

@@ -88,10 +88,14 @@ byte-at-requires-3 : tie.Need-byte-at-requires-3
 byte-at-requires-3 c κs = (inside (c .before .before .before .before) .starts, omega (arith, inside (c .before .before .before .before), short (c .before .before .before .before)))
 
 add-byte-at-3 : tie.Need-add-byte-at-3
-add-byte-at-3 c = omega (arith, inside (c .before .before .before .before .before), short (c .before .before .before .before .before))
+add-byte-at-3 c =
+    let c₅ = c .before .before .before .before .before in
+    omega (arith, inside c₅, short c₅)
 
 byte-at-requires-4 : tie.Need-byte-at-requires-4
-byte-at-requires-4 c κs = (inside (c .before .before .before .before .before) .starts, omega (arith, inside (c .before .before .before .before .before), short (c .before .before .before .before .before)))
+byte-at-requires-4 c κs =
+    let c₅ = c .before .before .before .before .before in
+    (inside c₅ .starts, omega (arith, inside c₅, short c₅))
 
 join-le32-requires : tie.Need-join-le32-requires
 join-le32-requires c κs = search needs

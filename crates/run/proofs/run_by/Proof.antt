@@ -14,14 +14,17 @@ use Rattle.run.proofs.run_by.Statement.{statement}
 use Rattle.run.proofs.run_by.Tie as tie
 
 allowed : (c : tie.Else1) → RunAllowed (c .before .before .before .before .before .args .engine) (length (now (c .before .before .before .before .before .args .ring))) (length (now (c .before .before .before .before .before .args .memory)))
-allowed c = let a = c .before .before .before .before .before .args in run-allowed (a .engine) (length (now (a .ring))) (length (now (a .memory))) (sym (c .before .run-refusal .ensures) ∙ c .if1 .left)
+allowed c =
+    let c₅ = c .before .before .before .before .before in
+    let a = c₅ .args in run-allowed (a .engine) (length (now (a .ring))) (length (now (a .memory))) (sym (c .before .run-refusal .ensures) ∙ c .if1 .left)
 
 -- the slot is one of the eight
 slot : (c : tie.After-oldest-slot) → c .oldest-slot .result < 8
 slot c =
+    let c₇ = c .before .before .before .before .before .before .before in
     let e = c .before .before in
     let a = allowed e in
-    omega (arith, slot-below (c .before .before .before .before .before .before .before .args .engine) (a .ok) (a .some) (e .before .before .check .ensures .2), c .oldest-slot .ensures)
+    omega (arith, slot-below (c₇ .args .engine) (a .ok) (a .some) (e .before .before .check .ensures .2), c .oldest-slot .ensures)
 
 -- its batch is the oldest
 taken : (c : tie.After-batch-of) → c .batch-of .result ≡ oldest (c .before .before .before .before .before .before .before .before .before .args .engine)
@@ -55,8 +58,9 @@ batch-of-requires c κs = search needs
 
 bounds-for-requires : tie.Need-bounds-for-requires
 bounds-for-requires c κs =
+    let c₉ = c .before .before .before .before .before .before .before .before .before in
     let a = allowed (c .before .before .before .before) in
-    let one = owner-small (c .before .before .before .before .before .before .before .before .before .args .engine) (a .ok) (a .some) in
+    let one = owner-small (c₉ .args .engine) (a .ok) (a .some) in
     omega (arith, ap (λ (b : Batch). b .client) (taken c))
 
 bank-for-requires : tie.Need-bank-for-requires
@@ -73,11 +77,12 @@ run-batch-requires c κs =
 
 without-oldest-requires : tie.Need-without-oldest-requires
 without-oldest-requires c κs =
-    let b = c .before .before .before .before .before .before in
+    let c₅ = c .before .before .before .before .before in
+    let b = c₅ .before in
     let o = b .before .before .oldest-slot in
     let e = b .before .before .before .before in
     let a = allowed e in
-    (a .ok, a .some, c .before .before .before .before .before .bounds-for .ensures .1, e .before .before .check .ensures .2, o .ensures, taken b)
+    (a .ok, a .some, c₅ .bounds-for .ensures .1, e .before .before .check .ensures .2, o .ensures, taken b)
 
 same-length : tie.Need-same-length
 same-length c = search needs

@@ -32,7 +32,9 @@ enum-told-2 : tie.Need-enum-told-2
 enum-told-2 c = search needs
 
 to-888-requires : tie.Need-to-888-requires
-to-888-requires c κs = rw (c .before .enum-told2 .given .1) at (c .before .before .before .before .before .pre)
+to-888-requires c κs =
+    let c₅ = c .before .before .before .before .before in
+    rw (c .before .enum-told2 .given .1) at (c₅ .pre)
 
 same-length-2 : tie.Need-same-length-2
 same-length-2 c = search needs
@@ -44,7 +46,9 @@ enum-told-3 : tie.Need-enum-told-3
 enum-told-3 c = search needs
 
 to-565-requires : tie.Need-to-565-requires
-to-565-requires c κs = rw (c .before .enum-told3 .given .1) at (c .before .before .before .before .before .pre)
+to-565-requires c κs =
+    let c₅ = c .before .before .before .before .before in
+    rw (c .before .enum-told3 .given .1) at (c₅ .pre)
 
 same-length-3 : tie.Need-same-length-3
 same-length-3 c = search needs

@@ -6,13 +6,13 @@ use denote.Ref.{now}
 use borrow.Author.Needs.{needs}
 use Rattle.pixel.specs.Formats.{bytesPerPixel}
 use Rattle.surface.proofs.Rows.{next}
-use Rattle.argb_words.proofs.Begun.{begun, none-begun, more-begun, all-begun}
+use Rattle.argb_words.proofs.RowPrefix.{prefix, none-begun, prefix-step, prefix-all}
 use Rattle.scanline.proofs.fill_pixels.Statement.{statement}
 use Rattle.scanline.proofs.fill_pixels.Tie as tie
 
 abbrev Inv-loop : tie.InvT-loop
 Inv-loop row₀ width format c bytes x₀ at₀ row x at =
-    (x ≤ width) × (at ≡ x * bytesPerPixel format) × (row ≡ begun format (λ x. c) x row₀) × (length row ≡ length row₀)
+    (x ≤ width) × (at ≡ x * bytesPerPixel format) × (row ≡ prefix format (λ x. c) x row₀) × (length row ≡ length row₀)
 
 abbrev μ-loop : tie.MeasureT-loop
 μ-loop row₀ width format c bytes x₀ at₀ row x at = width - x
@@ -52,7 +52,7 @@ loop-again c =
     let s = c .before .before .store in (
       search needs,
       omega (arith, t .before .before .bytes .ensures, l .inv .1),
-      more-begun (a .format) (λ x. a .c) (now (a .row)) (l .row) (s .last .0) (l .x) (l .at) (a .c) (l .inv .1) refl (l .inv .2) (s .ensures),
+      prefix-step (a .format) (λ x. a .c) (now (a .row)) (l .row) (s .last .0) (l .x) (l .at) (a .c) (l .inv .1) refl (l .inv .2) (s .ensures),
       s .kept .0 ∙ l .inv .3,
     )
 
@@ -64,7 +64,7 @@ returns c =
     let l = c .before .loop in
     let s = c .before .before .before .before in
     let e : l .x ≡ s .args .width = omega arith in
-    all-begun (s .args .format) _ (now (s .args .row)) (l .row) (s .args .width) (s .pre) (rw e at (l .inv .2))
+    prefix-all (s .args .format) _ (now (s .args .row)) (l .row) (s .args .width) (s .pre) (rw e at (l .inv .2))
 
 pub fill-pixels-spec : {M : Type 1} → statement M
 fill-pixels-spec =

@@ -9,7 +9,9 @@ word-of-requires : tie.Need-word-of-requires
 word-of-requires c κs = search needs
 
 fill-words-requires : tie.Need-fill-words-requires
-fill-words-requires c κs = rw (c .before .before .enum-told .given .1) at (c .before .before .before .before .before .pre)
+fill-words-requires c κs =
+    let c₅ = c .before .before .before .before .before in
+    rw (c .before .before .enum-told .given .1) at (c₅ .pre)
 
 same-length : tie.Need-same-length
 same-length c = search needs

@@ -11,7 +11,7 @@ use Rattle.serving.proofs.serve_record.Reads as reads
 use Rattle.serving.proofs.serve_record.Lts as lts
 use Rattle.editions.proofs.score_in.Reads as score-in-reads
 use Rattle.records.proofs.Edition.batch_start.Reads as batch-start-reads
-use Rattle.serving.proofs.serve.Reads as serve-reads
+use Rattle.serving.proofs.submit_and_run.Reads as serve-reads
 use Rattle.text.proofs.line.copy.Reads as copy-reads
 
 score-in-requires : tie.Need-score-in-requires
@@ -29,33 +29,34 @@ same-length c = search needs
 returns : tie.Need-returns
 unfolding badScoreLine
 returns c =
-    let s = c .before .before .before .before .before .before .before .before .before .before .before in
+    let c₅ = c .before .before .before .before .before in
+    let s = c₅ .before .before .before .before .before .before in
     let a = s .args in
-    let score = c .before .before .before .before .before .before .score-in in
-    record-bad (a .edition) (a .engine) (a .ring .now) (a .memory .now) (a .held .now) (a .line .now) (a .end) (s .pre .0) (score .result) _ _ (score .ensures) (not-true (score .result) (c .before .before .before .before .before .if1 .taken)) (prints-typed badScoreLine (a .line .now) _ _ (omega arith) (s .pre .1) (c .before .before .copy .ensures))
+    let score = c₅ .before .score-in in
+    record-bad (a .edition) (a .engine) (a .ring .now) (a .memory .now) (a .held .now) (a .line .now) (a .end) (s .pre .0) (score .result) _ _ (score .ensures) (not-true (score .result) (c₅ .if1 .taken)) (prints-typed badScoreLine (a .line .now) _ _ (omega arith) (s .pre .1) (c .before .before .copy .ensures))
 
 batch-start-requires : tie.Need-batch-start-requires
 batch-start-requires c κs = search needs
 
-shared-slice-read-serve : tie.Need-shared-slice-read-serve
-shared-slice-read-serve c =
+shared-slice-read-submit-and-run : tie.Need-shared-slice-read-submit-and-run
+shared-slice-read-submit-and-run c =
     let s = c .before .before .before .before .before .before .before .before .before .before in
     omega (arith, lies-some (s .args .edition) (s .args .end) (length (s .args .held .now)) (s .pre .0))
 
-cast-serve : tie.Need-cast-serve
-cast-serve c = omega (arith, c .shared-slice-known2 .given 4)
+cast-submit-and-run : tie.Need-cast-submit-and-run
+cast-submit-and-run c = omega (arith, c .shared-slice-known2 .given 4)
 
-sub-serve : tie.Need-sub-serve
-sub-serve c = search needs
+sub-submit-and-run : tie.Need-sub-submit-and-run
+sub-submit-and-run c = search needs
 
-part-serve-start : tie.Need-part-serve-start
-part-serve-start c = search needs
+part-submit-and-run-start : tie.Need-part-submit-and-run-start
+part-submit-and-run-start c = search needs
 
-part-serve-end : tie.Need-part-serve-end
-part-serve-end c = search needs
+part-submit-and-run-end : tie.Need-part-submit-and-run-end
+part-submit-and-run-end c = search needs
 
-serve-requires : tie.Need-serve-requires
-serve-requires c κs = search needs
+submit-and-run-requires : tie.Need-submit-and-run-requires
+submit-and-run-requires c κs = search needs
 
 same-length-2 : tie.Need-same-length-2
 same-length-2 c = search needs
@@ -68,10 +69,13 @@ same-length-4 c = search needs
 
 returns-2 : tie.Need-returns-2
 returns-2 c =
-    let s = c .before .before .before .before .before .before .before .before .before .before .before .before .before .before .before .before .before .before .before in
+    let c₆ = c .before .before .before .before .before .before in
+    let c₁₂ = c₆ .before .before .before .before .before .before in
+    let c₁₃ = c₁₂ .before in
+    let s = c₁₃ .before .before .before .before .before .before in
     let a = s .args in
-    let score = c .before .before .before .before .before .before .before .before .before .before .before .before .before .before .score-in in
-    record-good (a .edition) (a .engine) (a .ring .now) (a .memory .now) (a .held .now) (a .line .now) (a .end) (s .pre .0) (score .result) _ _ _ _ _ (score .ensures) (not-false (score .result) (c .before .before .before .before .before .before .before .before .before .before .before .before .before .if1 .left)) (c .before .before .before .before .before .before .before .before .before .before .before .before .batch-start .ensures) (c .before .before .before .before .before .before .serve .ensures)
+    let score = c₁₃ .before .score-in in
+    record-good (a .edition) (a .engine) (a .ring .now) (a .memory .now) (a .held .now) (a .line .now) (a .end) (s .pre .0) (score .result) _ _ _ _ _ (score .ensures) (not-false (score .result) (c₁₃ .if1 .left)) (c₁₂ .batch-start .ensures) (c₆ .submit-and-run .ensures)
 
 pub serve-record-spec : {M : Type 1} → statement M
 serve-record-spec =
@@ -83,12 +87,12 @@ serve-record-spec =
     same-length
     returns
     batch-start-requires
-    shared-slice-read-serve
-    cast-serve
-    sub-serve
-    part-serve-start
-    part-serve-end
-    serve-requires
+    shared-slice-read-submit-and-run
+    cast-submit-and-run
+    sub-submit-and-run
+    part-submit-and-run-start
+    part-submit-and-run-end
+    submit-and-run-requires
     same-length-2
     same-length-3
     same-length-4

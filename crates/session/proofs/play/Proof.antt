@@ -24,8 +24,10 @@ same-length c = search needs
 
 returns-2 : tie.Need-returns-2
 returns-2 c =
-    let room = c .before .before .before .before .before .before .before .before .if1 .left in
-    let words = set-up-words _ _ _ (c .before .before .before .before .before .before .before .set-up .ensures) (c .before .before .before .before .before .answer-words .ensures) in
+    let c₅ = c .before .before .before .before .before in
+    let c₇ = c₅ .before .before in
+    let room = c₇ .before .if1 .left in
+    let words = set-up-words _ _ _ (c₇ .set-up .ensures) (c₅ .answer-words .ensures) in
     played-refused _ _ _ _ _ _ _ room words (c .if2 .taken) (c .before .before .before .write-answer .ensures)
 
 sub-play-calls : tie.Need-sub-play-calls
@@ -42,9 +44,11 @@ play-calls-requires c κs = search needs
 
 add-result : tie.Need-add-result
 add-result c =
+    let c₁₈ = c .before .before .before .before .before .before .before .before .before .before .before .before .before .before .before .before .before .before in
+    let c₂₃ = c₁₈ .before .before .before .before .before in
     let p = c .before .before .before .before .before .before .play-calls in
     let w = c .before .before .before .before .before .before .before .before .before .before .before .before .before .write-answer in
-    omega (arith, count-small _ _ (w .last .0) _ _ _ _ (omega (arith, w .kept .0, c .before .before .before .before .before .before .before .before .before .before .before .before .before .before .before .before .before .before .if1 .left)) (p .ensures) (p .kept .1 .1 .1 .1 .0), w .kept .0, c .before .before .before .before .before .before .before .before .before .before .before .before .before .before .before .before .before .before .before .before .before .before .before .good .1 .1 .1 .1 .1 .1 .1 .0 .0)
+    omega (arith, count-small _ _ (w .last .0) _ _ _ _ (omega (arith, w .kept .0, c₁₈ .if1 .left)) (p .ensures) (p .kept .1 .1 .1 .1 .0), w .kept .0, c₂₃ .good .1 .1 .1 .1 .1 .1 .1 .0 .0)
 
 same-length-2 : tie.Need-same-length-2
 same-length-2 c = search needs
@@ -57,9 +61,14 @@ same-length-4 c = search needs
 
 returns-3 : tie.Need-returns-3
 returns-3 c =
-    let room = c .before .before .before .before .before .before .before .before .before .before .before .before .before .before .before .before .before .before .if1 .left in
-    let words = set-up-words _ _ _ (c .before .before .before .before .before .before .before .before .before .before .before .before .before .before .before .before .before .set-up .ensures) (c .before .before .before .before .before .before .before .before .before .before .before .before .before .before .before .answer-words .ensures) in
-    played-done _ _ _ _ _ room (rw words at (c .before .before .before .before .before .before .before .before .before .before .if2 .left)) _ _ _ _ _ _ _ (c .before .before .before .before .before .before .before .before .before .before .before .before .before .before .before .before .before .set-up .ensures) words (c .before .before .before .before .before .before .before .before .before .before .before .before .before .write-answer .ensures) (c .before .before .before .before .before .before .play-calls .ensures)
+    let c₆ = c .before .before .before .before .before .before in
+    let c₁₀ = c₆ .before .before .before .before in
+    let c₁₃ = c₁₀ .before .before .before in
+    let c₁₅ = c₁₃ .before .before in
+    let c₁₇ = c₁₅ .before .before in
+    let room = c₁₇ .before .if1 .left in
+    let words = set-up-words _ _ _ (c₁₇ .set-up .ensures) (c₁₅ .answer-words .ensures) in
+    played-done _ _ _ _ _ room (rw words at (c₁₀ .if2 .left)) _ _ _ _ _ _ _ (c₁₇ .set-up .ensures) words (c₁₃ .write-answer .ensures) (c₆ .play-calls .ensures)
 
 pub play-spec : {M : Type 1} → statement M
 play-spec =

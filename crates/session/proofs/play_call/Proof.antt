@@ -8,10 +8,14 @@ use Rattle.session.proofs.play_call.Statement.{statement}
 use Rattle.session.proofs.play_call.Tie as tie
 
 lies : (c : tie.After-submit-arg) → (c .before .before .request2 .given .0 .1 .0 ≤ c .before .before .request2 .given .0 .1 .1 .0) × (c .before .before .request2 .given .0 .1 .1 .0 ≤ length (c .before .before .before .before .before .before .before .args .bytes .now))
-lies c = batch-lies _ _ _ _ _ (c .before .before .request2 .given .1) (c .before .before .before .before .before .before .before .pre)
+lies c =
+    let c₇ = c .before .before .before .before .before .before .before in
+    batch-lies _ _ _ _ _ (c .before .before .request2 .given .1) (c₇ .pre)
 
 handed : (c : tie.After-piece-arg) → (c .before .before .request5 .given .0 .1 .0 ≤ c .before .before .request5 .given .0 .1 .1 .0) × (c .before .before .request5 .given .0 .1 .1 .0 ≤ length (c .before .before .before .before .before .before .before .args .bytes .now))
-handed c = piece-lies _ _ _ _ _ (c .before .before .request5 .given .1) (c .before .before .before .before .before .before .before .pre)
+handed c =
+    let c₇ = c .before .before .before .before .before .before .before in
+    piece-lies _ _ _ _ _ (c .before .before .request5 .given .1) (c₇ .pre)
 
 enum-known-request : tie.Need-enum-known-request
 enum-known-request c = search needs
@@ -110,7 +114,9 @@ same-length : tie.Need-same-length
 same-length c = search needs
 
 returns-2 : tie.Need-returns-2
-returns-2 c = rw (c .before .before .before .before .before .before .before .request2 .given .1) (submit-plays _ _ _ _ _ _ _ _ _ (c .before .before .before .submit .ensures .0) (c .before .before .before .submit .ensures .1) (c .step-of2 .ensures .0) (c .step-of2 .ensures .1))
+returns-2 c =
+    let c₇ = c .before .before .before .before .before .before .before in
+    rw (c₇ .request2 .given .1) (submit-plays _ _ _ _ _ _ _ _ _ (c .before .before .before .submit .ensures .0) (c .before .before .before .submit .ensures .1) (c .step-of2 .ensures .0) (c .step-of2 .ensures .1))
 
 same-length-2 : tie.Need-same-length-2
 same-length-2 c = search needs
@@ -119,7 +125,9 @@ same-length-3 : tie.Need-same-length-3
 same-length-3 c = search needs
 
 returns-3 : tie.Need-returns-3
-returns-3 c = rw (c .before .before .before .before .before .before .enum-told .given .1) (run-plays _ _ _ _ _ _ _ (c .before .before .before .run .ensures .0) (c .before .before .before .run .ensures .1) (c .step-of-run .ensures .0) (c .step-of-run .ensures .1))
+returns-3 c =
+    let c₆ = c .before .before .before .before .before .before in
+    rw (c₆ .enum-told .given .1) (run-plays _ _ _ _ _ _ _ (c .before .before .before .run .ensures .0) (c .before .before .before .run .ensures .1) (c .step-of-run .ensures .0) (c .step-of-run .ensures .1))
 
 returns-4 : tie.Need-returns-4
 returns-4 c = rw (c .before .before .before .request3 .given .1) (pending-plays _ _ _ _ _ _ (c .before .pending .ensures) (c .answer-words .ensures))
@@ -134,7 +142,9 @@ same-length-5 : tie.Need-same-length-5
 same-length-5 c = search needs
 
 returns-6 : tie.Need-returns-6
-returns-6 c = rw (c .before .before .before .before .before .before .before .request5 .given .1) (piece-plays _ _ _ _ _ _ _ _ _ (c .before .before .before .piece .ensures .0) (c .before .before .before .piece .ensures .1) (c .step-of-piece .ensures .0) (c .step-of-piece .ensures .1))
+returns-6 c =
+    let c₇ = c .before .before .before .before .before .before .before in
+    rw (c₇ .request5 .given .1) (piece-plays _ _ _ _ _ _ _ _ _ (c .before .before .before .piece .ensures .0) (c .before .before .before .piece .ensures .1) (c .step-of-piece .ensures .0) (c .step-of-piece .ensures .1))
 
 returns-7 : tie.Need-returns-7
 returns-7 c = rw (c .before .before .before .request6 .given .1) (cancel-plays _ _ _ _ _ _ _ (c .before .cancel .ensures) (c .step-of4 .ensures .0) (c .step-of4 .ensures .1))
@@ -143,7 +153,9 @@ same-length-6 : tie.Need-same-length-6
 same-length-6 c = search needs
 
 returns-8 : tie.Need-returns-8
-returns-8 c = rw (c .before .before .before .before .before .before .request7 .given .1) (close-plays _ _ _ _ _ _ _ _ (c .before .before .before .close .ensures .0) (c .before .before .before .close .ensures .1) (c .step-of5 .ensures .0) (c .step-of5 .ensures .1))
+returns-8 c =
+    let c₆ = c .before .before .before .before .before .before in
+    rw (c₆ .request7 .given .1) (close-plays _ _ _ _ _ _ _ _ (c .before .before .before .close .ensures .0) (c .before .before .before .close .ensures .1) (c .step-of5 .ensures .0) (c .step-of5 .ensures .1))
 
 pub play-call-spec : {M : Type 1} → statement M
 play-call-spec =

@@ -47,13 +47,19 @@ enum-told : tie.Need-enum-told Inv-loop μ-loop
 enum-told c = search needs
 
 same-length : tie.Need-same-length Inv-loop μ-loop
-same-length c = c .before .before .before .before .before .loop .inv .3
+same-length c =
+    let c₅ = c .before .before .before .before .before in
+    c₅ .loop .inv .3
 
 same-length-2 : tie.Need-same-length-2 Inv-loop μ-loop
-same-length-2 c = c .before .before .before .before .before .loop .inv .4
+same-length-2 c =
+    let c₅ = c .before .before .before .before .before in
+    c₅ .loop .inv .4
 
 same-length-3 : tie.Need-same-length-3 Inv-loop μ-loop
-same-length-3 c = c .before .before .before .before .before .loop .inv .2
+same-length-3 c =
+    let c₅ = c .before .before .before .before .before in
+    c₅ .loop .inv .2
 
 returns : tie.Need-returns Inv-loop μ-loop
 returns c =
@@ -65,30 +71,48 @@ enum-known-found : tie.Need-enum-known-found Inv-loop μ-loop
 enum-known-found c = search needs
 
 play-call-requires : tie.Need-play-call-requires Inv-loop μ-loop
-play-call-requires c κs = (rw (c .before .before .before .found .given .1) at (c .before .before .before .before .before .next-call .ensures)) .within .1
+play-call-requires c κs =
+    let c₅ = c .before .before .before .before .before in
+    (rw (c .before .before .before .found .given .1) at (c₅ .next-call .ensures)) .within .1
 
 write-answer-requires : tie.Need-write-answer-requires Inv-loop μ-loop
-write-answer-requires c κs = omega (arith, c .before .before .before .before .before .before .before .before .before .before .before .before .before .before .before .loop .inv .1, c .before .before .before .before .before .before .before .before .before .before .before .before .before .before .before .loop .inv .2, c .before .before .before .before .before .before .before .before .before .before .before .before .before .before .loop-test .taken)
+write-answer-requires c κs =
+    let c₁₄ = c .before .before .before .before .before .before .before .before .before .before .before .before .before .before in
+    let c₁₅ = c₁₄ .before in
+    omega (arith, c₁₅ .loop .inv .1, c₁₅ .loop .inv .2, c₁₄ .loop-test .taken)
 
 add-at : tie.Need-add-at Inv-loop μ-loop
-add-at c = omega (arith, found (c .before .before .before .before .before .before .before .before .before .before .before .before .before .before .before) .1, c .before .before .before .before .before .before .before .before .before .before .before .before .before .before .before .before .before .before .before .before .before .before .before .before .before .good .1 .1 .1 .0 .0)
+add-at c =
+    let c₁₅ = c .before .before .before .before .before .before .before .before .before .before .before .before .before .before .before in
+    let c₂₅ = c₁₅ .before .before .before .before .before .before .before .before .before .before in
+    omega (arith, found c₁₅ .1, c₂₅ .good .1 .1 .1 .0 .0)
 
 add-count : tie.Need-add-count Inv-loop μ-loop
-add-count c = omega (arith, c .before .before .before .before .before .before .before .before .before .before .before .before .before .before .before .before .before .before .before .before .loop .inv .1, c .before .before .before .before .before .before .before .before .before .before .before .before .before .before .before .before .before .before .before .loop-test .taken, c .before .before .before .before .before .before .before .before .before .before .before .before .before .before .before .before .before .before .before .before .before .before .before .before .before .good .1 .1 .1 .1 .0 .0)
+add-count c =
+    let c₁₉ = c .before .before .before .before .before .before .before .before .before .before .before .before .before .before .before .before .before .before .before in
+    let c₂₀ = c₁₉ .before in
+    let c₂₅ = c₂₀ .before .before .before .before .before in
+    omega (arith, c₂₀ .loop .inv .1, c₁₉ .loop-test .taken, c₂₅ .good .1 .1 .1 .1 .0 .0)
 
 sub-left : tie.Need-sub-left Inv-loop μ-loop
-sub-left c = omega (arith, c .before .before .before .before .before .before .before .before .before .before .before .before .before .before .before .before .before .before .before .loop-test .taken)
+sub-left c =
+    let c₁₉ = c .before .before .before .before .before .before .before .before .before .before .before .before .before .before .before .before .before .before .before in
+    omega (arith, c₁₉ .loop-test .taken)
 
 loop-less : tie.Need-loop-less Inv-loop μ-loop
-loop-less c = omega (arith, c .before .before .before .before .before .before .before .before .before .before .before .before .before .before .before .before .before .before .before .loop-test .taken)
+loop-less c =
+    let c₁₉ = c .before .before .before .before .before .before .before .before .before .before .before .before .before .before .before .before .before .before .before in
+    omega (arith, c₁₉ .loop-test .taken)
 
 loop-again : tie.Need-loop-again Inv-loop μ-loop
 loop-again c =
-    let l = c .before .before .before .before .before .before .before .before .before .before .before .before .before .before .before .before .before .before .before .before .loop in
-    let some : 0 < l .left = c .before .before .before .before .before .before .before .before .before .before .before .before .before .before .before .before .before .before .before .loop-test .taken in
+    let c₁₅ = c .before .before .before .before .before .before .before .before .before .before .before .before .before .before .before in
+    let c₁₉ = c₁₅ .before .before .before .before in
+    let l = c₁₉ .before .loop in
+    let some : 0 < l .left = c₁₉ .loop-test .taken in
     let p = c .before .before .before .before .before .before .before .before .before .before .before .play-call in
     let w = c .before .before .before .before .write-answer in
-    let q = found (c .before .before .before .before .before .before .before .before .before .before .before .before .before .before .before) in (
+    let q = found c₁₅ in (
       q .1,
       omega (arith, some, l .inv .1),
       w .kept .0 ∙ l .inv .2,

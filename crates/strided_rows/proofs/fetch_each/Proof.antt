@@ -25,8 +25,8 @@ loop-holds c = (search needs, below-none _, refl)
 mul-store-word : tie.Need-mul-store-word Inv-loop μ-loop
 mul-store-word c = search needs
 
-place-requires : tie.Need-place-requires Inv-loop μ-loop
-place-requires c κs =
+strided-address-requires : tie.Need-strided-address-requires Inv-loop μ-loop
+strided-address-requires c κs =
     let t = c .before in
     let p = t .before .before .before .before .pre in
     let l = t .loop-test .taken in
@@ -35,7 +35,7 @@ place-requires c κs =
 load-as-word-requires : tie.Need-load-as-word-requires Inv-loop μ-loop
 load-as-word-requires c κs =
     let t = c .before .before in
-    rw (c .place .ensures) (t .before .before .before .before .pre .inside _ (t .loop-test .taken))
+    rw (c .strided-address .ensures) (t .before .before .before .before .pre .inside _ (t .loop-test .taken))
 
 store-word-requires : tie.Need-store-word-requires Inv-loop μ-loop
 store-word-requires c κs =
@@ -58,7 +58,7 @@ loop-again c =
     let a = s .args in (
       search needs,
       more-spelt _ (l .buffer) (d .store-word .last .0) (l .x) (w .load-as-word .result) (omega (arith, t .loop-test .taken, l .inv .2, s .pre .room)) (omega arith) (l .inv .1) (d .store-word .ensures)
-          (w .load-as-word .ensures ∙ ap (loadPixel (a .format) (now (a .memory))) (w .before .place .ensures)),
+          (w .load-as-word .ensures ∙ ap (loadPixel (a .format) (now (a .memory))) (w .before .strided-address .ensures)),
       d .store-word .kept .0 ∙ l .inv .2,
     )
 
@@ -76,7 +76,7 @@ fetch-each-spec =
     μ-loop
     loop-holds
     mul-store-word
-    place-requires
+    strided-address-requires
     load-as-word-requires
     store-word-requires
     add-x

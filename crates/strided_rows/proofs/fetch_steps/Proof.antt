@@ -6,7 +6,9 @@ enum-told : tie.Need-enum-told
 enum-told c = search needs
 
 fetch-each-requires : tie.Need-fetch-each-requires
-fetch-each-requires c κs = rw (c .before .enum-told .given .1) at (c .before .before .before .before .before .pre)
+fetch-each-requires c κs =
+    let c₅ = c .before .before .before .before .before in
+    rw (c .before .enum-told .given .1) at (c₅ .pre)
 
 same-length : tie.Need-same-length
 same-length c = search needs
@@ -18,7 +20,9 @@ enum-told-2 : tie.Need-enum-told-2
 enum-told-2 c = search needs
 
 fetch-each-requires-2 : tie.Need-fetch-each-requires-2
-fetch-each-requires-2 c κs = rw (c .before .enum-told2 .given .1) at (c .before .before .before .before .before .pre)
+fetch-each-requires-2 c κs =
+    let c₅ = c .before .before .before .before .before in
+    rw (c .before .enum-told2 .given .1) at (c₅ .pre)
 
 same-length-2 : tie.Need-same-length-2
 same-length-2 c = search needs
@@ -30,7 +34,9 @@ enum-told-3 : tie.Need-enum-told-3
 enum-told-3 c = search needs
 
 fetch-each-requires-3 : tie.Need-fetch-each-requires-3
-fetch-each-requires-3 c κs = rw (c .before .enum-told3 .given .1) at (c .before .before .before .before .before .pre)
+fetch-each-requires-3 c κs =
+    let c₅ = c .before .before .before .before .before in
+    rw (c .before .enum-told3 .given .1) at (c₅ .pre)
 
 same-length-3 : tie.Need-same-length-3
 same-length-3 c = search needs

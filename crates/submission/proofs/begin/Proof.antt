@@ -21,7 +21,9 @@ with-staged-requires : tie.Need-with-staged-requires
 with-staged-requires c κs = search needs
 
 returns-2 : tie.Need-returns-2
-returns-2 c = let e = c .before .before .before .before .before .before .before .args in
+returns-2 c =
+    let c₇ = c .before .before .before .before .before .before .before in
+    let e = c₇ .args in
     begin-done (e .engine) (length (e .ring .now)) (e .client) (e .total) (c .before .before .before .before .submit-refusal .result) (c .before .before .before .before .submit-refusal .ensures) (c .before .before .before .if1 .left) (c .with-staged .result) (rw (c .before .lowest-free .ensures) at (c .with-staged .ensures))
 
 pub begin-spec : {M : Type 1} → statement M

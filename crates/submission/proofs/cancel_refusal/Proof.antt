@@ -23,7 +23,9 @@ first-refusal-requires-3 c κs = search needs
 
 returns : tie.Need-returns
 unfolding firstRefusal
-returns c = rw (c .first-refusal3 .ensures, c .before .is-valid .ensures, c .before .before .first-refusal2 .ensures, c .before .before .before .is-open .ensures, c .before .before .before .before .first-refusal .ensures, c .before .before .before .before .before .staged-by .ensures)
+returns c =
+    let c₅ = c .before .before .before .before .before in
+    rw (c .first-refusal3 .ensures, c .before .is-valid .ensures, c .before .before .first-refusal2 .ensures, c .before .before .before .is-open .ensures, c .before .before .before .before .first-refusal .ensures, c₅ .staged-by .ensures)
 
 pub cancel-refusal-spec : {M : Type 1} → statement M
 cancel-refusal-spec =

@@ -12,7 +12,9 @@ use Rattle.submission.proofs.submit.Statement.{statement}
 use Rattle.submission.proofs.submit.Tie as tie
 
 allowed : (c : tie.Else1) → SubmitAllowed (c .before .before .before .before .before .args .engine) (length (c .before .before .before .before .before .args .ring .now)) (c .before .before .before .before .before .args .client) (length (c .before .before .before .before .before .args .batch .now))
-allowed c = submit-allowed (c .before .before .before .before .before .args .engine) (length (c .before .before .before .before .before .args .ring .now)) (c .before .before .before .before .before .args .client) (length (c .before .before .before .before .before .args .batch .now)) (sym (c .before .submit-refusal .ensures) ∙ c .if1 .left)
+allowed c =
+    let c₅ = c .before .before .before .before .before in
+    submit-allowed (c₅ .args .engine) (length (c₅ .args .ring .now)) (c₅ .args .client) (length (c₅ .args .batch .now)) (sym (c .before .submit-refusal .ensures) ∙ c .if1 .left)
 
 check-requires : tie.Need-check-requires
 check-requires c κs = search needs
@@ -21,7 +23,9 @@ submit-refusal-requires : tie.Need-submit-refusal-requires
 submit-refusal-requires c κs = (c .check .ensures .0, c .check .ensures .1)
 
 returns : tie.Need-returns
-returns c = submit-refused (c .before .before .before .before .before .args .engine) (c .before .before .before .before .before .args .ring .now) (c .before .before .before .before .before .args .client) (c .before .before .before .before .before .args .batch .now) (c .before .submit-refusal .result) (c .before .submit-refusal .ensures) (c .if1 .taken)
+returns c =
+    let c₅ = c .before .before .before .before .before in
+    submit-refused (c₅ .args .engine) (c₅ .args .ring .now) (c₅ .args .client) (c₅ .args .batch .now) (c .before .submit-refusal .result) (c .before .submit-refusal .ensures) (c .if1 .taken)
 
 write-offset-requires : tie.Need-write-offset-requires
 write-offset-requires c κs =
@@ -30,7 +34,9 @@ write-offset-requires c κs =
     (ok, f .check .ensures .1, checked-bytes (f .before .before .before .args .engine) (f .check .result) (f .check .ensures .0) ok)
 
 copy-in-requires : tie.Need-copy-in-requires
-copy-in-requires c κs = rw (c .before .write-offset .ensures) (submit-lies (c .before .before .before .before .before .before .before .args .engine) (c .before .before .before .before .before .before .before .args .ring .now) (c .before .before .before .before .before .before .before .args .client) (length (c .before .before .before .before .before .before .before .args .batch .now)) (allowed (c .before .before)))
+copy-in-requires c κs =
+    let c₇ = c .before .before .before .before .before .before .before in
+    rw (c .before .write-offset .ensures) (submit-lies (c₇ .args .engine) (c₇ .args .ring .now) (c₇ .args .client) (length (c₇ .args .batch .now)) (allowed (c .before .before)))
 
 lowest-free-requires : tie.Need-lowest-free-requires
 lowest-free-requires c κs = search needs
@@ -44,9 +50,12 @@ below c =
     omega (arith, c .lowest-free .ensures, f .2)
 
 with-batch-requires : tie.Need-with-batch-requires
-with-batch-requires c κs = let a = allowed (c .before .before .before .before .before .before .before) in
-    let e = c .before .before .before .before .before .before .before .before .before .before .before .before .args .engine in
-    let d = c .before .before .before .before .before .before .before .before .before .before .before .before .args .client in
+with-batch-requires c κs =
+    let c₇ = c .before .before .before .before .before .before .before in
+    let c₁₂ = c₇ .before .before .before .before .before in
+    let a = allowed c₇ in
+    let e = c₁₂ .args .engine in
+    let d = c₁₂ .args .client in
     (client-small e (a .ok) d (a .owner), omega (arith, pending-small e (a .ok) d (a .owner), a .slot), below c)
 
 same-length : tie.Need-same-length
@@ -54,11 +63,14 @@ same-length c = search needs
 
 returns-2 : tie.Need-returns-2
 returns-2 c =
-    let e = c .before .before .before .before .before .before .before .before .before .before .before .before .before .args in
-    let w = c .before .before .before .before .before .before .before .write-offset in
-    submit-done (e .engine) (e .ring .now) (e .client) (e .batch .now) (c .before .before .before .before .before .before .before .before .before .submit-refusal .result) (c .before .before .before .before .before .before .before .before .before .submit-refusal .ensures) (c .before .before .before .before .before .before .before .before .if1 .left) (c .with-batch .result) _
+    let c₅ = c .before .before .before .before .before in
+    let c₈ = c₅ .before .before .before in
+    let c₉ = c₈ .before in
+    let e = c₉ .before .before .before .before .args in
+    let w = c₅ .before .before .write-offset in
+    submit-done (e .engine) (e .ring .now) (e .client) (e .batch .now) (c₉ .submit-refusal .result) (c₉ .submit-refusal .ensures) (c₈ .if1 .left) (c .with-batch .result) _
     (rw (w .ensures, c .before .lowest-free .ensures) at (c .with-batch .ensures))
-    (rw (w .ensures) at (c .before .before .before .before .before .copy-in .ensures))
+    (rw (w .ensures) at (c₅ .copy-in .ensures))
 
 pub submit-spec : {M : Type 1} → statement M
 submit-spec =

@@ -14,11 +14,12 @@ use Rattle.surface.proofs.store.Tie as tie
 returns : tie.Need-returns
 unfolding storePixel
 returns c =
-    let s = c .before .before .before .before .before .before .before in
+    let c₅ = c .before .before .before .before .before in
+    let s = c₅ .before .before in
     let m = now (s .args .memory) in
-    let n : s .args .at + c .before .before .before .before .before .bytes .result - s .args .at ≡ bytesPerPixel (s .args .format) = omega arith in
-    part-mapi (λ k old. byteOf (packed (layoutOf (s .args .format)) (s .args .c)) k) m (c .before .before .put .last .0) (s .args .at) _ (bytesPerPixel (s .args .format)) n (omega arith)
-    (rw (c .before .before .before .pack .ensures) at (c .before .before .put .ensures))
+    let n : s .args .at + c₅ .bytes .result - s .args .at ≡ bytesPerPixel (s .args .format) = omega arith in
+    part-mapi (λ k old. byteOf (packed (layoutOf (s .args .format)) (s .args .c)) k) m (c .before .before .write-le-number .last .0) (s .args .at) _ (bytesPerPixel (s .args .format)) n (omega arith)
+    (rw (c .before .before .before .pack .ensures) at (c .before .before .write-le-number .ensures))
 
 pub store-spec : {M : Type 1} → statement M
 store-spec =

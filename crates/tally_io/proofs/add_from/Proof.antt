@@ -37,8 +37,10 @@ finish-requires c κs = search needs
 -- src/lib.rt:81:1
 returns-2 : tie.Need-returns-2
 returns-2 c =
-    let totals = c .before .before .before .before .before .before .before .before .before .args .totals in
-    let r = c .before .before .before .before .before .read-all .ensures totals (record { seen = []; stands = c .before .before .before .before .before .before .before .start .ensures .1 _ (search needs) }) in
+    let c₅ = c .before .before .before .before .before in
+    let c₇ = c₅ .before .before in
+    let totals = c₇ .before .before .args .totals in
+    let r = c₅ .read-all .ensures totals (record { seen = []; stands = c₇ .start .ensures .1 _ (search needs) }) in
     file-some _ totals (r .seen) _ (c .finish .ensures .1 totals (r .seen) _ (r .stands))
 
 pub add-from-spec : {M : Type 1} → statement M

@@ -4,7 +4,10 @@ use Rattle.tally_lines.proofs.count_line.Statement.{statement}
 use Rattle.tally_lines.proofs.count_line.Tie as tie
 
 returns : tie.Need-returns
-returns c = typed-three _ _ _ _ _ _ 10 (c .before .before .before .before .before .before .before .before .before .before .label .ensures) (c .before .before .before .before .before .before .decimal .ensures .0) (c .before .before .push .ensures)
+returns c =
+    let c₆ = c .before .before .before .before .before .before in
+    let c₁₀ = c₆ .before .before .before .before in
+    typed-three _ _ _ _ _ _ 10 (c₁₀ .label .ensures) (c₆ .decimal .ensures .0) (c .before .before .push .ensures)
 
 pub count-line-spec : {M : Type 1} → statement M
 count-line-spec =

@@ -60,12 +60,13 @@ loop-less c = search needs
 -- src/lib.rt:94:5
 loop-again : tie.Need-loop-again Inv-loop μ-loop
 loop-again c =
+    let c₆ = c .before .before .before .before .before .before in
     let l = c .before .before .before .before .loop in
     let size = c .before .before .label-size .ensures in
     let read = c .before .read in (
       search needs,
       simp length-set (l .inv .1),
-      omega (arith, read .ensures .1, size .1, l .inv .2, c .before .before .before .before .before .before .pre),
+      omega (arith, read .ensures .1, size .1, l .inv .2, c₆ .pre),
       λ own O e. going-more _ _ own (l .at) (l .k) O (c .before .before .before .loop-test .taken) (l .inv .1) (l .inv .3 own O e) (read .result) (rw (size .0) at (read .ensures .0)),
     )
 

@@ -39,8 +39,10 @@ returns-5 c =
 returns-6 : tie.Need-returns-6
 unfolding labelOf
 returns-6 c =
-    let e = c .before .before .before .before .before .before .before .before .before .before .before .before .before in
-    rw (ne-eqb _ 0 (e .before .before .before .before .if1 .left), ne-eqb _ 1 (e .before .before .before .if2 .left), ne-eqb _ 2 (e .before .before .if3 .left), ne-eqb _ 3 (e .before .if4 .left), ne-eqb _ 13 (e .if5 .left)) (typed-three _ _ _ _ _ _ 32 (c .before .before .before .before .before .before .before .before .before .before .append6 .ensures) (c .before .before .before .before .before .before .decimal .ensures .0) (c .before .before .push .ensures))
+    let c₆ = c .before .before .before .before .before .before in
+    let c₁₀ = c₆ .before .before .before .before in
+    let e = c₁₀ .before .before .before in
+    rw (ne-eqb _ 0 (e .before .before .before .before .if1 .left), ne-eqb _ 1 (e .before .before .before .if2 .left), ne-eqb _ 2 (e .before .before .if3 .left), ne-eqb _ 3 (e .before .if4 .left), ne-eqb _ 13 (e .if5 .left)) (typed-three _ _ _ _ _ _ 32 (c₁₀ .append6 .ensures) (c₆ .decimal .ensures .0) (c .before .before .push .ensures))
 
 pub label-spec : {M : Type 1} → statement M
 label-spec =

@@ -50,9 +50,10 @@ same-requires c κs = search needs
 -- src/lib.rt:105:1
 returns-2 : tie.Need-returns-2
 returns-2 c =
+    let c₅ = c .before .before .before .before .before in
     let w = c .before .before .before .write in
     let typed = lines-typed _ _ _ _ (w .ensures .1) refl (w .ensures .0) in
-    reads-by _ _ (c .before .before .before .before .before .find-totals .ensures) (w .ensures .2) _ (c .same .result) (typed .1) (c .same .ensures .0) (c .same .ensures .1)
+    reads-by _ _ (c₅ .find-totals .ensures) (w .ensures .2) _ (c .same .result) (typed .1) (c .same .ensures .0) (c .same .ensures .1)
 
 pub read-spec : {M : Type 1} → statement M
 read-spec =

@@ -20,8 +20,9 @@ same-length c = search needs
 -- src/lib.rt:78:9
 returns : tie.Need-returns
 returns c =
+    let c₈ = c .before .before .before .before .before .before .before .before in
     let w = c .before .before .before .before .write in
-    answer-added _ _ (c .before .before .before .before .before .before .before .before .args .answer) (w .ensures .0) (w .ensures .1) (c .if1 .taken)
+    answer-added _ _ (c₈ .args .answer) (w .ensures .0) (w .ensures .1) (c .if1 .taken)
 
 -- src/lib.rt:80:35
 slice-aggregate-append : tie.Need-slice-aggregate-append
@@ -50,10 +51,13 @@ same-length-2 c = search needs
 -- src/lib.rt:72:1
 returns-2 : tie.Need-returns-2
 returns-2 c =
-    let w = c .before .before .before .before .before .before .before .before .before .before .before .before .before .before .before .before .before .before .write in
+    let c₁₁ = c .before .before .before .before .before .before .before .before .before .before .before in
+    let c₁₄ = c₁₁ .before .before .before in
+    let c₂₂ = c₁₄ .before .before .before .before .before .before .before .before in
+    let w = c₁₄ .before .before .before .before .write in
     let d = c .before .before .before .before .before .before .decimal in
-    answer-refused _ _ (c .before .before .before .before .before .before .before .before .before .before .before .before .before .before .before .before .before .before .before .before .before .before .args .answer) (w .ensures .0) (w .ensures .1) (c .before .before .before .before .before .before .before .before .before .before .before .before .before .before .if1 .left) (d .ensures .1) _
-    (typed-three _ _ _ _ _ _ 10 (c .before .before .before .before .before .before .before .before .before .before .before .append .ensures) (d .ensures .0) (c .before .before .push .ensures))
+    answer-refused _ _ (c₂₂ .args .answer) (w .ensures .0) (w .ensures .1) (c₁₄ .if1 .left) (d .ensures .1) _
+    (typed-three _ _ _ _ _ _ 10 (c₁₁ .append .ensures) (d .ensures .0) (c .before .before .push .ensures))
 
 pub write-answer-spec : {M : Type 1} → statement M
 write-answer-spec =

@@ -50,10 +50,12 @@ same-length c = search needs
 returns : tie.Need-returns
 unfolding progressText
 returns c =
-    let files = c .before .before .before .before .before .before .before .before .before .before .before .before .before .before .before .before .before .before .before .before .before .decimal .ensures in
-    let of = c .before .before .before .before .before .before .before .before .before .before .before .before .decimal2 .ensures in
+    let c₇ = c .before .before .before .before .before .before .before in
+    let c₁₆ = c₇ .before .before .before .before .before .before .before .before .before in
+    let files = c₁₆ .before .before .before .before .before .decimal .ensures in
+    let of = c₇ .before .before .before .before .before .decimal2 .ensures in
     let pushed = rw (c .before .before .before .last-byte .ensures) at (c .before .before .push .ensures) in
-    (typed-then _ _ _ _ _ (files .0) (typed-then _ _ _ _ _ (c .before .before .before .before .before .before .before .before .before .before .before .before .before .before .before .before .append .ensures) (typed-three _ _ _ _ _ _ _ (of .0) (c .before .before .before .before .before .before .before .append2 .ensures) pushed)), progress-size _ _ (files .1) (of .1))
+    (typed-then _ _ _ _ _ (files .0) (typed-then _ _ _ _ _ (c₁₆ .append .ensures) (typed-three _ _ _ _ _ _ _ (of .0) (c₇ .append2 .ensures) pushed)), progress-size _ _ (files .1) (of .1))
 
 pub write-progress-spec : {M : Type 1} → statement M
 write-progress-spec =

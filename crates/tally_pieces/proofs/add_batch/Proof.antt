@@ -103,12 +103,13 @@ enum-told c = search needs
 
 returns-2 : tie.Need-returns-2 Inv-loop μ-loop
 returns-2 c =
-    let s = c .before .before .before .before .before .before .before in
+    let c₅ = c .before .before .before .before .before in
+    let s = c₅ .before .before in
     let l = c .before .before .before .loop in
     let n = c .before .before .next-task in
     sym (rest-end (s .args .bounds) (Ws s) (l .current) (l .at) (n .result) (n .ensures) (l .so-far) (c .enum-told .given .1))
     ∙ sym (l .inv .1)
-    ∙ from-start s _ (c .before .before .before .before .before .reset .ensures) _ (c .before .before .before .before .add .ensures)
+    ∙ from-start s _ (c₅ .reset .ensures) _ (c .before .before .before .before .add .ensures)
 
 pub add-batch-spec : {M : Type 1} → statement M
 add-batch-spec =

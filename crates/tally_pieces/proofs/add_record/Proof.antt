@@ -49,10 +49,11 @@ add-submitted-requires c κs = search needs
 
 returns-2 : tie.Need-returns-2
 returns-2 c =
-    let s = c .before .before .before .before .before .before .before .before in
+    let c₆ = c .before .before .before .before .before .before in
+    let s = c₆ .before .before in
     let a = s .args in
     let score = c .before .before .before .before .before .score-in in
-    record-good (a .edition) (a .held .now) (a .end) (s .pre) (a .running) _ (c .before .before .before .before .before .before .add-unscored .ensures) _ (score .ensures) (not-false (score .result) (c .before .before .before .before .if1 .left)) _ (c .before .before .before .batch-start .ensures) _ (c .add-submitted .ensures)
+    record-good (a .edition) (a .held .now) (a .end) (s .pre) (a .running) _ (c₆ .add-unscored .ensures) _ (score .ensures) (not-false (score .result) (c .before .before .before .before .if1 .left)) _ (c .before .before .before .batch-start .ensures) _ (c .add-submitted .ensures)
 
 pub add-record-spec : {M : Type 1} → statement M
 add-record-spec =

@@ -30,8 +30,9 @@ returns c =
 
 returns-2 : tie.Need-returns-2
 returns-2 c =
-    let a = c .before .before .before .before .before .before .before .args in
-    submitted-within (a .edition) (record { client = a .client; batch = a .batch .now }) (a .running) _ (c .before .before .before .before .before .accept .ensures) _ (c .before .before .before .submitted .given .1) _ (c .before .reset-of .ensures) _ (c .add-batch .ensures)
+    let c₅ = c .before .before .before .before .before in
+    let a = c₅ .before .before .args in
+    submitted-within (a .edition) (record { client = a .client; batch = a .batch .now }) (a .running) _ (c₅ .accept .ensures) _ (c .before .before .before .submitted .given .1) _ (c .before .reset-of .ensures) _ (c .add-batch .ensures)
 
 pub add-submitted-spec : {M : Type 1} → statement M
 add-submitted-spec =

@@ -27,8 +27,9 @@ take-requires c κs = search needs
 
 add-found-requires : tie.Need-add-found-requires
 add-found-requires c κs =
+    let c₈ = c .before .before .before .before .before .before .before .before in
     let t = c .before .before .before .before .take in
-    subst (λ (n : ℕ). Lies (c .before .before .before .before .before .before .before .before .edition-for .result) (t .result .found) n) (sym (t .kept .1 .1 .0)) (t .ensures .1)
+    subst (λ (n : ℕ). Lies (c₈ .edition-for .result) (t .result .found) n) (sym (t .kept .1 .1 .0)) (t .ensures .1)
 
 same-length : tie.Need-same-length
 same-length c = search needs

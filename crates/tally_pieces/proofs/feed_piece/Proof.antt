@@ -26,8 +26,9 @@ abbrev μ-loop : tie.MeasureT-loop
 -- what a call used is of what is left
 within : (c : tie.After-feed Inv-loop μ-loop) → c .before .before .before .before .loop .used + c .feed .result .used ≤ length (now (c .before .before .before .before .before .before .before .args .piece))
 within c =
+    let c₇ = c .before .before .before .before .before .before .before in
     let l = c .before .before .before .before .loop in
-    let piece = now (c .before .before .before .before .before .before .before .args .piece) in
+    let piece = now (c₇ .args .piece) in
     omega (arith, c .feed .ensures .0, l .inv .0, length-take (length piece - l .used) (drop (l .used) piece), length-drop (l .used) piece)
 
 loop-holds : tie.Need-loop-holds Inv-loop μ-loop
@@ -48,7 +49,9 @@ feed-requires : tie.Need-feed-requires Inv-loop μ-loop
 feed-requires c κs = search needs
 
 add-used : tie.Need-add-used Inv-loop μ-loop
-add-used c = omega (arith, within (c .before .before .before), c .before .before .before .before .before .before .before .before .before .before .good .1 .1 .0 .0)
+add-used c =
+    let c₁₀ = c .before .before .before .before .before .before .before .before .before .before in
+    omega (arith, within (c .before .before .before), c₁₀ .good .1 .1 .0 .0)
 
 same-length : tie.Need-same-length Inv-loop μ-loop
 same-length c = search needs

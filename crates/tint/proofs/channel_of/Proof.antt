@@ -11,15 +11,15 @@ use Rattle.tint.proofs.channel_of.Tie as tie
 small : (c : tie.Start) → c .args .channel * c .args .coverage ≤ 65025
 small c = product-small (c .args .channel) (c .args .coverage) (omega arith) (omega arith)
 
-mul-near : tie.Need-mul-near
-mul-near c = omega (arith, small c)
+mul-div-255 : tie.Need-mul-div-255
+mul-div-255 c = omega (arith, small c)
 
-near-requires : tie.Need-near-requires
-near-requires c κs = omega (arith, small c)
+div-255-requires : tie.Need-div-255-requires
+div-255-requires c κs = omega (arith, small c)
 
 -- a product of two bytes is divided exactly
-quotient : (c : tie.After-near) → c .near .result ≡ div255 (c .before .args .channel * c .before .args .coverage)
-quotient c = c .near .ensures ∙ division .exact (c .before .args .channel * c .before .args .coverage) (omega (arith, small (c .before)))
+quotient : (c : tie.After-div-255) → c .div-255 .result ≡ div255 (c .before .args .channel * c .before .args .coverage)
+quotient c = c .div-255 .ensures ∙ division .exact (c .before .args .channel * c .before .args .coverage) (omega (arith, small (c .before)))
 
 cast-result : tie.Need-cast-result
 unfolding div255
@@ -29,4 +29,4 @@ returns : tie.Need-returns
 returns c = quotient c
 
 pub channel-of-spec : {M : Type 1} → statement M
-channel-of-spec = tie.close (tie.spec mul-near near-requires cast-result returns)
+channel-of-spec = tie.close (tie.spec mul-div-255 div-255-requires cast-result returns)

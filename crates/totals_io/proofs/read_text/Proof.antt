@@ -42,7 +42,9 @@ same-length c = search needs
 
 -- src/lib.rt:94:13
 returns : tie.Need-returns Inv-loop μ-loop
-returns c = counts-of (c .before .before .before .before .before .before .before .loop .end) _ (search needs)
+returns c =
+    let c₇ = c .before .before .before .before .before .before .before in
+    counts-of (c₇ .loop .end) _ (search needs)
 
 -- src/lib.rt:99:9
 add-end : tie.Need-add-end Inv-loop μ-loop

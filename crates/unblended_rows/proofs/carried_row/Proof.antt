@@ -29,7 +29,9 @@ fetch-bytes-requires c κs =
     (record { inside = f .inside (m .buffer); across = f .across; down = f .down; room = f .room }, m .upright, m .kept)
 
 sub-store-at : tie.Need-sub-store-at
-sub-store-at c = ordered (c .before .before .before .before .before .before .before .before .before .before .before .pre .0)
+sub-store-at c =
+    let c₁₁ = c .before .before .before .before .before .before .before .before .before .before .before in
+    ordered (c₁₁ .pre .0)
 
 part-store-at-start : tie.Need-part-store-at-start
 part-store-at-start c =

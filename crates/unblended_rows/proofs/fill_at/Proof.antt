@@ -3,7 +3,7 @@ use Prim.Native.Nat.{_+_, _-_}
 use native.Mathlib.Omega.{arith}
 use denote.Ref.{now}
 use Rattle.surface.specs.Surface.{rowLength}
-use Rattle.raster.proofs.Lent.{row-lent}
+use Rattle.raster.proofs.Slices.{row-lent}
 use borrow.Author.Needs.{needs}
 use Rattle.unblended_rows.proofs.fill_at.Statement.{statement}
 use Rattle.unblended_rows.proofs.fill_at.Tie as tie

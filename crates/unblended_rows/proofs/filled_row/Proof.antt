@@ -21,7 +21,9 @@ uniform-colour-requires c κs =
     uniform-down (s .pre .0) (of-kind (s .args .window) (s .args .task) Filled (s .pre .1) .uniform)
 
 sub-fill-at : tie.Need-sub-fill-at
-sub-fill-at c = ordered (c .before .before .before .before .before .pre .0)
+sub-fill-at c =
+    let c₅ = c .before .before .before .before .before in
+    ordered (c₅ .pre .0)
 
 part-fill-at-start : tie.Need-part-fill-at-start
 part-fill-at-start c =

@@ -29,13 +29,17 @@ row-start-requires : tie.Need-row-start-requires
 row-start-requires c κs = search needs
 
 sub-to : tie.Need-sub-to
-sub-to c = omega (arith, c .row-start .ensures, starts (c .before .before .before .before .before .pre .0))
+sub-to c =
+    let c₅ = c .before .before .before .before .before in
+    omega (arith, c .row-start .ensures, starts (c₅ .pre .0))
 
 row-length-requires : tie.Need-row-length-requires
 row-length-requires c κs = search needs
 
 sub-copy-within : tie.Need-sub-copy-within
-sub-copy-within c = ordered (c .before .before .before .before .before .before .pre .0)
+sub-copy-within c =
+    let c₆ = c .before .before .before .before .before .before in
+    ordered (c₆ .pre .0)
 
 part-copy-within-start : tie.Need-part-copy-within-start
 part-copy-within-start c =
@@ -43,7 +47,9 @@ part-copy-within-start c =
     omega (arith, ordered r, room r)
 
 part-copy-within-end : tie.Need-part-copy-within-end
-part-copy-within-end c = omega (arith, room (c .before .before .before .before .before .before .pre .0))
+part-copy-within-end c =
+    let c₆ = c .before .before .before .before .before .before in
+    omega (arith, room (c₆ .pre .0))
 
 copy-within-requires : tie.Need-copy-within-requires
 copy-within-requires c κs =

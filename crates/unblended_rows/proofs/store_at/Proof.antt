@@ -5,7 +5,7 @@ use denote.Ref.{now}
 use Rattle.surface.specs.Surface.{rowLength}
 use Rattle.surface.proofs.Parts.{length-mid}
 use Rattle.row_copy.proofs.Bytes.{narrower}
-use Rattle.raster.proofs.Lent.{row-lent}
+use Rattle.raster.proofs.Slices.{row-lent}
 use borrow.Author.Needs.{needs}
 use Rattle.unblended_rows.proofs.store_at.Statement.{statement}
 use Rattle.unblended_rows.proofs.store_at.Tie as tie

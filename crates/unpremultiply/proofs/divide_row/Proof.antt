@@ -38,7 +38,9 @@ loop-less : tie.Need-loop-less Inv-loop μ-loop
 loop-less c = search needs
 
 loop-again : tie.Need-loop-again Inv-loop μ-loop
-loop-again c = (search needs, divided-more _ _ _ (c .before .before .before .before .before .before .loop .x) (c .before .before .before .before .before .before .loop .inv .1) (c .before .before .divide-pixel .ensures))
+loop-again c =
+    let c₆ = c .before .before .before .before .before .before in
+    (search needs, divided-more _ _ _ (c₆ .loop .x) (c₆ .loop .inv .1) (c .before .before .divide-pixel .ensures))
 
 same-length : tie.Need-same-length Inv-loop μ-loop
 same-length c = search needs

@@ -1,4 +1,4 @@
-use Rattle.plain.proofs.Turn.{in-all}
+use Rattle.plain.proofs.PixelByPixel.{in-all}
 use borrow.Author.Needs.{needs}
 use Rattle.walk.proofs.draw_task.Statement.{statement}
 use Rattle.walk.proofs.draw_task.Tie as tie

@@ -10,7 +10,7 @@ use Rattle.batch.specs.declared.verdict.Validation.{Validation}
 use Rattle.batch.specs.declared.verdict.Verdict.{Verdict}
 use Rattle.batch.specs.Batch.{decodeBatch, validationOf}
 use Rattle.batch.specs.Walk.{decodeRest}
-use Rattle.batch.proofs.Ways.{words-fit}
+use Rattle.batch.proofs.DecoderCases.{words-fit}
 use Rattle.batch.proofs.Steps.{counted, counted-none, step-onward, step-task, step-faulty, step-end}
 use Rattle.batch.proofs.Tasks.{step-sound}
 use Rattle.raster.specs.Task.{drawTasks}

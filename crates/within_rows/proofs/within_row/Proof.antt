@@ -32,13 +32,17 @@ row-start-requires : tie.Need-row-start-requires
 row-start-requires c κs = search needs
 
 sub-to : tie.Need-sub-to
-sub-to c = omega (arith, c .row-start .ensures, starts (c .before .before .before .before .before .pre .0))
+sub-to c =
+    let c₅ = c .before .before .before .before .before in
+    omega (arith, c .row-start .ensures, starts (c₅ .pre .0))
 
 row-length-requires : tie.Need-row-length-requires
 row-length-requires c κs = search needs
 
 sub-blend-within : tie.Need-sub-blend-within
-sub-blend-within c = ordered (c .before .before .before .before .before .before .pre .0)
+sub-blend-within c =
+    let c₆ = c .before .before .before .before .before .before in
+    ordered (c₆ .pre .0)
 
 part-blend-within-start : tie.Need-part-blend-within-start
 part-blend-within-start c =
@@ -46,7 +50,9 @@ part-blend-within-start c =
     omega (arith, ordered r, room r)
 
 part-blend-within-end : tie.Need-part-blend-within-end
-part-blend-within-end c = omega (arith, room (c .before .before .before .before .before .before .pre .0))
+part-blend-within-end c =
+    let c₆ = c .before .before .before .before .before .before in
+    omega (arith, room (c₆ .pre .0))
 
 blend-within-requires : tie.Need-blend-within-requires
 blend-within-requires c κs =

@@ -7,7 +7,7 @@ use lib.ListN.{length}
 use Rattle.ring.specs.Segment.{batchWords}
 use Rattle.batch.specs.Batch.{decodeBatch, validationOf}
 use Rattle.batch.specs.Walk.{decodeRest}
-use Rattle.batch.proofs.Ways.{words-fit}
+use Rattle.batch.proofs.DecoderCases.{words-fit}
 use Rattle.batch.proofs.Steps.{counted, counted-none, step-onward, step-task, step-faulty, step-end}
 use Rattle.batch.proofs.verdict.validate.Statement.{statement}
 use Rattle.batch.proofs.verdict.validate.Tie as tie

@@ -1,7 +1,7 @@
 use mathlib.Core.Path.{sym}
 use native.Mathlib.Omega.{arith}
 use Rattle.ring.specs.Segment.{batchWords}
-use Rattle.batch.proofs.Ways.{past}
+use Rattle.batch.proofs.DecoderCases.{past}
 use borrow.Author.Needs.{needs}
 use Rattle.batch.proofs.walk.next_task.Statement.{statement}
 use Rattle.batch.proofs.walk.next_task.Tie as tie

@@ -13,11 +13,11 @@ use Rattle.ring.specs.Segment.{batchWords}
 use Rattle.register.specs.Task.{taskOf}
 use Rattle.rules.specs.declared.fault.Fault.{Fault}
 use Rattle.rules.specs.Rules.{checkTask}
-use Rattle.batch.specs.declared.walk.Step.{Step}
-use Rattle.batch.specs.declared.walk.Step.the-variants.{Faulty as Stop}
+use Rattle.batch.specs.declared.walk.WalkStep.{WalkStep}
+use Rattle.batch.specs.declared.walk.WalkStep.the-variants.{Faulty as Stop}
 use Rattle.batch.specs.Batch.{inside, reservedBits, groupOf}
 use Rattle.batch.specs.Walk.{stepFrom, stepAt}
-use Rattle.batch.proofs.Ways.{words-fit, next-group, open-task, ended, reserved, bad-length, open-group, refused, taken}
+use Rattle.batch.proofs.DecoderCases.{words-fit, next-group, open-task, ended, reserved, bad-length, open-group, refused, taken}
 use Rattle.batch.proofs.walk.step_from.Statement.{statement}
 use Rattle.batch.proofs.walk.step_from.Tie as tie
 
@@ -82,62 +82,85 @@ sub-if2 : tie.Need-sub-if2 Inv-loop μ-loop Inv-groups μ-groups
 sub-if2 c = omega (arith, c .before .before .before .groups .inv .1)
 
 mul-t27 : tie.Need-mul-t27 Inv-loop μ-loop Inv-groups μ-groups
-mul-t27 c = omega (arith, small (c .before .before .before .before .before), c .before .before .before .before .groups .inv .1)
+mul-t27 c =
+    let c₅ = c .before .before .before .before .before in
+    omega (arith, small c₅, c .before .before .before .before .groups .inv .1)
 
 loop-holds : tie.Need-loop-holds Inv-loop μ-loop Inv-groups μ-groups
 loop-holds c =
+    let c₅ = c .before .before .before .before .before in
     let h = c .before .before .before .word-at .result in
-    let m = c .before .before .before .before .before .word-count .result - (c .before .before .before .before .groups .at + 1) in
+    let m = c₅ .word-count .result - (c .before .before .before .before .groups .at + 1) in
     let two = or-false (eqb (field 15 2 h) 0) (ltb m (field 15 2 h)) (c .if2 .left) in
     (omega arith, omega (arith, c .before .before .before .before .groups .inv .1, ltb-false m (field 15 2 h) (two .1)), omega arith, refl)
 
 mul-t32 : tie.Need-mul-t32 Inv-loop μ-loop Inv-groups μ-groups
-mul-t32 c = omega (arith, small (c .before .before .before .before .before .before .before .before .before .before .before .before .before), c .before .before .before .before .before .before .before .loop .inv .1)
+mul-t32 c =
+    let c₇ = c .before .before .before .before .before .before .before in
+    let c₁₃ = c₇ .before .before .before .before .before .before in
+    omega (arith, small c₁₃, c₇ .loop .inv .1)
 
 add-at-2 : tie.Need-add-at-2 Inv-loop μ-loop Inv-groups μ-groups
-add-at-2 c = omega (arith, small (c .before .before .before .before .before .before .before .before .before .before .before .before), c .before .before .before .before .before .before .loop .inv .1)
+add-at-2 c =
+    let c₆ = c .before .before .before .before .before .before in
+    let c₁₂ = c₆ .before .before .before .before .before .before in
+    omega (arith, small c₁₂, c₆ .loop .inv .1)
 
 add-register : tie.Need-add-register Inv-loop μ-loop Inv-groups μ-groups
-add-register c = omega (arith, c .before .before .before .before .before .before .loop .inv .2)
+add-register c =
+    let c₆ = c .before .before .before .before .before .before in
+    omega (arith, c₆ .loop .inv .2)
 
 sub-left : tie.Need-sub-left Inv-loop μ-loop Inv-groups μ-groups
-sub-left c = omega (arith, c .before .before .before .before .before .loop-test .taken)
+sub-left c =
+    let c₅ = c .before .before .before .before .before in
+    omega (arith, c₅ .loop-test .taken)
 
 loop-less : tie.Need-loop-less Inv-loop μ-loop Inv-groups μ-groups
-loop-less c = omega (arith, c .before .before .before .before .before .loop-test .taken)
+loop-less c =
+    let c₅ = c .before .before .before .before .before in
+    omega (arith, c₅ .loop-test .taken)
 
 loop-again : tie.Need-loop-again Inv-loop μ-loop Inv-groups μ-groups
 loop-again c =
-    let s = c .before .before .before .before .before .before .before .before .before .before .before .before .before .before in
-    let l = c .before .before .before .before .before .before .loop in
+    let c₅ = c .before .before .before .before .before in
+    let s = c₅ .before .before .before .before .before .before .before .before .before in
+    let l = c₅ .before .loop in
     let w = c .before .before .before .before .word-at2 in
-    let n = c .before .before .before .before .before .before .before .before .before .before .before .before .word-count .ensures in
+    let n = c₅ .before .before .before .before .before .before .before .word-count .ensures in
     let e = sym (c .before .before .before .write .ensures) ∙ c .before .b .given .1 in (
       omega (arith, l .inv .0),
       omega (arith, l .inv .1),
       omega (arith, l .inv .2),
       l .inv .3
-          ∙ taken (s .args .bounds) (Ws s) (l .held) (l .at) (w .result) (omega (arith, n, l .inv .1)) (w .ensures) (l .left) (l .register) _ _ _ (c .before .before .before .before .before .loop-test .taken) e,
+          ∙ taken (s .args .bounds) (Ws s) (l .held) (l .at) (w .result) (omega (arith, n, l .inv .1)) (w .ensures) (l .left) (l .register) _ _ _ (c₅ .loop-test .taken) e,
     )
 
-mul-finish : tie.Need-mul-finish Inv-loop μ-loop Inv-groups μ-groups
-mul-finish c = omega (arith, small (c .before .before .before .before .before .before .before .before), c .before .before .before .before .before .before .before .groups .inv .1)
+mul-check-at-task-end : tie.Need-mul-check-at-task-end Inv-loop μ-loop Inv-groups μ-groups
+mul-check-at-task-end c =
+    let c₇ = c .before .before .before .before .before .before .before in
+    let c₈ = c₇ .before in
+    omega (arith, small c₈, c₇ .groups .inv .1)
 
 mul-t35 : tie.Need-mul-t35 Inv-loop μ-loop Inv-groups μ-groups
-mul-t35 c = omega (arith, small (c .before .before .before .before .before .before .before .before .before), c .before .before .before .before .before .before .before .before .groups .inv .1)
+mul-t35 c =
+    let c₈ = c .before .before .before .before .before .before .before .before in
+    let c₉ = c₈ .before in
+    omega (arith, small c₉, c₈ .groups .inv .1)
 
 groups-less : tie.Need-groups-less Inv-loop μ-loop Inv-groups μ-groups
 groups-less c = omega (arith, c .before .before .before .loop .inv .0, c .if4 .left)
 
 groups-again : tie.Need-groups-again Inv-loop μ-loop Inv-groups μ-groups
 groups-again c =
-    let s = c .before .before .before .before .before .before .before .before .before .before .before in
+    let c₈ = c .before .before .before .before .before .before .before .before in
+    let s = c₈ .before .before .before in
     let l = c .before .before .before .loop in
-    let n = c .before .before .before .before .before .before .before .before .before .word-count .ensures in
+    let n = c₈ .before .word-count .ensures in
     let z : l .left ≡ 0 = omega (arith, c .before .before .loop-test .left) in
     let h = c .before .before .before .before .before .before .before .word-at .result in
     let e : eqb (field 0 0 h) 1 ≡ false = ne-eqb (field 0 0 h) 1 (omega (arith, c .before .if3 .left)) in (
-      omega (arith, l .inv .0, c .before .before .before .before .before .before .before .before .groups .inv .0),
+      omega (arith, l .inv .0, c₈ .groups .inv .0),
       omega (arith, c .if4 .left),
       (rw (z, e) at (here (c .before .before .before))) ∙ next-group (s .args .bounds) (Ws s) (l .held) (l .at) _ _ (omega (arith, n, c .if4 .left)),
     )
@@ -161,13 +184,15 @@ returns-2 c =
 
 returns-3 : tie.Need-returns-3 Inv-loop μ-loop Inv-groups μ-groups
 returns-3 c =
-    let s = c .before .before .before .before .before .before .before .before .before .before .before .before .before .before .before in
-    let l = c .before .before .before .before .before .before .before .loop in
+    let c₆ = c .before .before .before .before .before .before in
+    let c₇ = c₆ .before in
+    let s = c₇ .before .before .before .before .before .before .before .before in
+    let l = c₇ .loop in
     let w = c .before .before .before .before .before .word-at2 in
-    let n = c .before .before .before .before .before .before .before .before .before .before .before .before .before .word-count .ensures in
+    let n = c₇ .before .before .before .before .before .before .word-count .ensures in
     let e = sym (c .before .before .before .before .write .ensures) ∙ c .before .before .f .given .1 in
-    sym (here (c .before .before .before .before .before .before .before)
-    ∙ refused (s .args .bounds) (Ws s) (l .held) (l .at) (w .result) (omega (arith, n, l .inv .1)) (w .ensures) (l .left) (l .register) _ _ _ (c .before .before .before .before .before .before .loop-test .taken) e
+    sym (here c₇
+    ∙ refused (s .args .bounds) (Ws s) (l .held) (l .at) (w .result) (omega (arith, n, l .inv .1)) (w .ensures) (l .left) (l .register) _ _ _ (c₆ .loop-test .taken) e
     ∙ ap (λ (f : Fault). Stop f (4 * l .at) (l .held)) (sym (c .of-write .ensures)))
 
 returns-4 : tie.Need-returns-4 Inv-loop μ-loop Inv-groups μ-groups
@@ -179,7 +204,7 @@ returns-4 c =
     let z : l .left ≡ 0 = omega (arith, c .before .before .loop-test .left) in
     let h = c .before .before .before .before .before .before .before .word-at .result in
     let e : eqb (field 0 0 h) 1 ≡ true = eq-eqb (field 0 0 h) 1 (omega (arith, c .before .if3 .taken)) in
-    c .finish .ensures ∙ sym ((rw (z, e) at (here (c .before .before .before))) ∙ ended (s .args .bounds) (Ws s) (l .held) (l .at) _ _)
+    c .check-at-task-end .ensures ∙ sym ((rw (z, e) at (here (c .before .before .before))) ∙ ended (s .args .bounds) (Ws s) (l .held) (l .at) _ _)
 
 returns-5 : tie.Need-returns-5 Inv-loop μ-loop Inv-groups μ-groups
 returns-5 c =
@@ -220,7 +245,7 @@ step-from-spec =
     sub-left
     loop-less
     loop-again
-    mul-finish
+    mul-check-at-task-end
     (λ c κs. search needs)
     mul-t35
     groups-less

@@ -1,6 +1,6 @@
 use mathlib.Core.Path.{sym, _∙_}
 use Rattle.ring.specs.Segment.{batchWords}
-use Rattle.batch.proofs.Ways.{word-read, word-past}
+use Rattle.batch.proofs.DecoderCases.{word-read, word-past}
 use borrow.Author.Needs.{needs}
 use Rattle.batch.proofs.walk.word_at.Statement.{statement}
 use Rattle.batch.proofs.walk.word_at.Tie as tie

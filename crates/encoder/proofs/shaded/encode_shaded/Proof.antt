@@ -40,12 +40,14 @@ registers-requires c κs =
 
 returns-3 : tie.Need-returns-3
 returns-3 c =
-    let e = c .before .before .before .before .before .before .before in
+    let c₅ = c .before .before .before .before .before in
+    let c₆ = c₅ .before in
+    let e = c₆ .before in
     let a = e .before .before .before .before .before .args in
     let done = fitting (secondForm (a .fields) (a .steps)) (a .buffer .now) (yes (e .before)) (e .if2 .left) in (
       done .0,
       c .before .before .write-le-words .ensures
-          ∙ ap (λ (l : List ℕ). spliced 0 (wordsBytes l) (a .buffer .now)) (c .before .before .before .before .before .shaded-words-of .ensures ∙ ap shadedWords (c .before .before .before .before .before .before .registers .ensures))
+          ∙ ap (λ (l : List ℕ). spliced 0 (wordsBytes l) (a .buffer .now)) (c₅ .shaded-words-of .ensures ∙ ap shadedWords (c₆ .registers .ensures))
           ∙ done .1,
     )
 

@@ -6,8 +6,10 @@ use Rattle.ppm.proofs.picture.header.Tie as tie
 
 returns : tie.Need-returns
 returns c =
-    let a = c .before .before .before .before .before .before .before .before .before .before .before .before .before .before .before .before .before .before .before .before .before .before .before .args in
-    cc (typed-header (lineOf (a .line .now) 0) (a .width) (a .height), c .before .before .before .before .before .before .before .before .before .before .before .before .before .before .before .decimal .ensures .0, c .before .before .before .before .before .before .before .decimal2 .ensures .0)
+    let c₇ = c .before .before .before .before .before .before .before in
+    let c₁₅ = c₇ .before .before .before .before .before .before .before .before in
+    let a = c₁₅ .before .before .before .before .before .before .before .before .args in
+    cc (typed-header (lineOf (a .line .now) 0) (a .width) (a .height), c₁₅ .decimal .ensures .0, c₇ .decimal2 .ensures .0)
 
 pub header-spec : {M : Type 1} → statement M
 header-spec =

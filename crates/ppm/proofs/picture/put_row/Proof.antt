@@ -37,7 +37,10 @@ load-requires : tie.Need-load-requires Inv-loop μ-loop
 load-requires c κs = fits c
 
 add-from : tie.Need-add-from Inv-loop μ-loop
-add-from c = omega (arith, fits (c .before .before .before .before .before), c .before .before .before .before .before .before .before .bytes .ensures)
+add-from c =
+    let c₅ = c .before .before .before .before .before in
+    let c₇ = c₅ .before .before in
+    omega (arith, fits c₅, c₇ .bytes .ensures)
 
 loop-again : tie.Need-loop-again Inv-loop μ-loop
 loop-again c =
@@ -55,8 +58,9 @@ loop-again c =
 
 returns : tie.Need-returns Inv-loop μ-loop
 returns c =
+    let c₅ = c .before .before .before .before .before in
     let l = c .before .loop in
-    let all : l .to ≡ 3 * c .before .before .before .before .before .args .width = omega arith in
+    let all : l .to ≡ 3 * c₅ .args .width = omega arith in
     rw all at (l .inv .3)
 
 pub put-row-spec : {M : Type 1} → statement M

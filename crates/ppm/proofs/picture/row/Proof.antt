@@ -45,8 +45,9 @@ put-row-requires c κs =
 
 returns-2 : tie.Need-returns-2
 returns-2 c =
-    let a = c .before .before .before .before .before .before .before .before .before .before .args in
-    (rw (has (c .before .before .before .before)), rw (c .before .before .before .before .before .before .row-start .ensures) at (c .before .before .put-row .ensures))
+    let c₆ = c .before .before .before .before .before .before in
+    let a = c₆ .before .before .before .before .args in
+    (rw (has (c .before .before .before .before)), rw (c₆ .row-start .ensures) at (c .before .before .put-row .ensures))
 
 pub row-spec : {M : Type 1} → statement M
 row-spec =

@@ -23,14 +23,14 @@ returns-2 : tie.Need-returns-2 Inv-loop μ-loop
 returns-2 c =
     let l = c .before .before .before .before .before .loop in
     let a = c .before .before .before .before .before .before .before .before .before .args in
-    let ne = word-differs (a .text .now) (a .word .now) (l .i) (c .before .before .before .before .loop-test .taken) (l .inv .1) (λ e. c .if2 .taken (c .before .before .small .ensures ∙ e)) in
+    let ne = word-differs (a .text .now) (a .word .now) (l .i) (c .before .before .before .before .loop-test .taken) (l .inv .1) (λ e. c .if2 .taken (c .before .before .to-lower .ensures ∙ e)) in
     sym (l .inv .2 ∙ ne)
 
 loop-again : tie.Need-loop-again Inv-loop μ-loop
 loop-again c =
     let l = c .before .before .before .before .before .loop in
     let a = c .before .before .before .before .before .before .before .before .before .args in
-    let on = word-goes-on (a .text .now) (a .word .now) (l .i) (c .before .before .before .before .loop-test .taken) (l .inv .1) (sym (c .before .before .small .ensures) ∙ c .if2 .left) in
+    let on = word-goes-on (a .text .now) (a .word .now) (l .i) (c .before .before .before .before .loop-test .taken) (l .inv .1) (sym (c .before .before .to-lower .ensures) ∙ c .if2 .left) in
     (search needs, search needs, l .inv .2 ∙ on)
 
 returns-3 : tie.Need-returns-3 Inv-loop μ-loop

@@ -14,11 +14,17 @@ returns-2 c = rw (sym (c .before .before .before .before .equals-ignoring-case .
 
 returns-3 : tie.Need-returns-3
 unfolding formatNamed
-returns-3 c = rw (sym (c .before .before .before .before .before .before .before .equals-ignoring-case .ensures) ∙ c .before .before .before .before .before .before .if1 .left, sym (c .before .before .before .before .equals-ignoring-case2 .ensures) ∙ c .before .before .before .if2 .left, sym (c .before .equals-ignoring-case3 .ensures) ∙ c .if3 .taken)
+returns-3 c =
+    let c₆ = c .before .before .before .before .before .before in
+    let c₇ = c₆ .before in
+    rw (sym (c₇ .equals-ignoring-case .ensures) ∙ c₆ .if1 .left, sym (c .before .before .before .before .equals-ignoring-case2 .ensures) ∙ c .before .before .before .if2 .left, sym (c .before .equals-ignoring-case3 .ensures) ∙ c .if3 .taken)
 
 returns-4 : tie.Need-returns-4
 unfolding formatNamed
-returns-4 c = rw (sym (c .before .before .before .before .before .before .before .equals-ignoring-case .ensures) ∙ c .before .before .before .before .before .before .if1 .left, sym (c .before .before .before .before .equals-ignoring-case2 .ensures) ∙ c .before .before .before .if2 .left, sym (c .before .equals-ignoring-case3 .ensures) ∙ c .if3 .left)
+returns-4 c =
+    let c₆ = c .before .before .before .before .before .before in
+    let c₇ = c₆ .before in
+    rw (sym (c₇ .equals-ignoring-case .ensures) ∙ c₆ .if1 .left, sym (c .before .before .before .before .equals-ignoring-case2 .ensures) ∙ c .before .before .before .if2 .left, sym (c .before .equals-ignoring-case3 .ensures) ∙ c .if3 .left)
 
 pub format-named-spec : {M : Type 1} → statement M
 format-named-spec =

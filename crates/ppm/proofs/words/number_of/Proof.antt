@@ -7,7 +7,7 @@ use lib.ListN.{length}
 use denote.Ref.{now}
 use borrow.Author.Tests.{ltb-true, eqb-true, not-true, not-false}
 use Rattle.word.proofs.Tests.{and-true}
-use Rattle.ppm.specs.declared.words.Number.the-variants.{Value}
+use Rattle.ppm.specs.declared.words.ParsedNumber.the-variants.{Value}
 use Rattle.ppm.specs.Words.{parseNumber}
 use Rattle.ppm.proofs.Texts.{number-whole, number-part}
 use borrow.Author.Needs.{needs}

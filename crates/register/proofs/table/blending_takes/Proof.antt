@@ -4,14 +4,16 @@ use Rattle.register.proofs.table.blending_takes.Tie as tie
 
 returns : tie.Need-returns
 returns c =
+    let c₅ = c .before .before .before .before .before in
+    let c₆ = c₅ .before in
     simp (
       c .bits5 .ensures,
       c .before .is-code2 .ensures,
       c .before .before .bits4 .ensures,
       c .before .before .before .is-code .ensures,
       c .before .before .before .before .bits3 .ensures,
-      c .before .before .before .before .before .bits2 .ensures,
-      c .before .before .before .before .before .before .bits .ensures,
+      c₅ .bits2 .ensures,
+      c₆ .bits .ensures,
     )
 
 pub blending-takes-spec : {M : Type 1} → statement M

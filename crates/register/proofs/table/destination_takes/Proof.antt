@@ -4,13 +4,14 @@ use Rattle.register.proofs.table.destination_takes.Tie as tie
 
 returns : tie.Need-returns
 returns c =
+    let c₅ = c .before .before .before .before .before in
     simp (
       c .bits4 .ensures,
       c .before .is-code2 .ensures,
       c .before .before .bits3 .ensures,
       c .before .before .before .bits2 .ensures,
       c .before .before .before .before .is-code .ensures,
-      c .before .before .before .before .before .bits .ensures,
+      c₅ .bits .ensures,
     )
 
 pub destination-takes-spec : {M : Type 1} → statement M

@@ -32,28 +32,42 @@ client-in-requires-3 : tie.Need-client-in-requires-3
 client-in-requires-3 c κs = search needs
 
 returns-2 : tie.Need-returns-2
-returns-2 c = rw (next-open (c .before .before .before .before .before .args .bytes .now) (omega arith) (c .before .match .keys1)) (c .open-in .ensures)
+returns-2 c =
+    let c₅ = c .before .before .before .before .before in
+    rw (next-open (c₅ .args .bytes .now) (omega arith) (c .before .match .keys1)) (c .open-in .ensures)
 
 returns-3 : tie.Need-returns-3
-returns-3 c = rw (next-submit (c .before .before .before .before .before .args .bytes .now) (omega arith) (c .before .match .keys2)) (c .bytes-in .ensures)
+returns-3 c =
+    let c₅ = c .before .before .before .before .before in
+    rw (next-submit (c₅ .args .bytes .now) (omega arith) (c .before .match .keys2)) (c .bytes-in .ensures)
 
 returns-4 : tie.Need-returns-4
 returns-4 c = rw (next-run (c .before .before .before .before .args .bytes .now) (omega arith) (c .match .keys3)) (run-read (c .before .before .before .before .args .bytes .now) (omega arith))
 
 returns-5 : tie.Need-returns-5
-returns-5 c = rw (next-pending (c .before .before .before .before .before .args .bytes .now) (omega arith) (c .before .match .keys4)) (c .client-in .ensures)
+returns-5 c =
+    let c₅ = c .before .before .before .before .before in
+    rw (next-pending (c₅ .args .bytes .now) (omega arith) (c .before .match .keys4)) (c .client-in .ensures)
 
 returns-6 : tie.Need-returns-6
-returns-6 c = rw (next-begin (c .before .before .before .before .before .args .bytes .now) (omega arith) (c .before .match .keys5)) (c .begin-in .ensures)
+returns-6 c =
+    let c₅ = c .before .before .before .before .before in
+    rw (next-begin (c₅ .args .bytes .now) (omega arith) (c .before .match .keys5)) (c .begin-in .ensures)
 
 returns-7 : tie.Need-returns-7
-returns-7 c = rw (next-piece (c .before .before .before .before .before .args .bytes .now) (omega arith) (c .before .match .keys6)) (c .bytes-in2 .ensures)
+returns-7 c =
+    let c₅ = c .before .before .before .before .before in
+    rw (next-piece (c₅ .args .bytes .now) (omega arith) (c .before .match .keys6)) (c .bytes-in2 .ensures)
 
 returns-8 : tie.Need-returns-8
-returns-8 c = rw (next-cancel (c .before .before .before .before .before .args .bytes .now) (omega arith) (c .before .match .keys7)) (c .client-in2 .ensures)
+returns-8 c =
+    let c₅ = c .before .before .before .before .before in
+    rw (next-cancel (c₅ .args .bytes .now) (omega arith) (c .before .match .keys7)) (c .client-in2 .ensures)
 
 returns-9 : tie.Need-returns-9
-returns-9 c = rw (next-close (c .before .before .before .before .before .args .bytes .now) (omega arith) (c .before .match .keys8)) (c .client-in3 .ensures)
+returns-9 c =
+    let c₅ = c .before .before .before .before .before in
+    rw (next-close (c₅ .args .bytes .now) (omega arith) (c .before .match .keys8)) (c .client-in3 .ensures)
 
 returns-10 : tie.Need-returns-10
 returns-10 c = next-unknown (c .before .before .before .before .args .bytes .now) (omega arith) (c .match .rest .0 .0 .0 .0 .0 .0 .0 .1) (c .match .rest .0 .0 .0 .0 .0 .0 .1) (c .match .rest .0 .0 .0 .0 .0 .1) (c .match .rest .0 .0 .0 .0 .1) (c .match .rest .0 .0 .0 .1) (c .match .rest .0 .0 .1) (c .match .rest .0 .1) (c .match .rest .1)

@@ -110,9 +110,10 @@ decimal-returns-2 : (t : ℕ) → decimal-lts.Need-returns-2 (
   decimal.Post,
 ) (decimal-at t) decimal.Post
 decimal-returns-2 t c =
-    let a = c .before .before .before .before .before .before .before .before .before .before .args in
+    let c₈ = c .before .before .before .before .before .before .before .before in
+    let a = c₈ .before .before .args in
     let d = c .before .before .before .before .before .before .decimal in
-    (c .before .before .push2 .ensures ∙ typed-more (lineOf (a .line .now) (a .n)) _ (a .value) (c .before .before .before .before .before .before .before .before .if1 .left) (d .ensures .0), decimal-size (a .value) (search needs))
+    (c .before .before .push2 .ensures ∙ typed-more (lineOf (a .line .now) (a .n)) _ (a .value) (c₈ .if1 .left) (d .ensures .0), decimal-size (a .value) (search needs))
 
 pub +decimal-spec : {M : Type 1} → statement M
 +decimal-spec = close μ-decimal λ t. decimal-lts.spec (

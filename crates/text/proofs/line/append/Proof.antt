@@ -19,9 +19,10 @@ loop-holds c = (search needs, refl, refl)
 
 loop-again : tie.Need-loop-again Inv-loop μ-loop
 loop-again c =
-    let l = c .before .before .before .before .before .before .loop in
-    let a = c .before .before .before .before .before .before .before .before .before .args in
-    let turn = typed-next (lineOf (l .line) (l .end)) (a .text .now) (l .i) (c .before .before .before .before .before .loop-test .taken) in
+    let c₅ = c .before .before .before .before .before in
+    let l = c₅ .before .loop in
+    let a = c₅ .before .before .before .before .args in
+    let turn = typed-next (lineOf (l .line) (l .end)) (a .text .now) (l .i) (c₅ .loop-test .taken) in
     (search needs, search needs, cc (turn, l .inv .2, c .before .before .push .ensures))
 
 returns : tie.Need-returns Inv-loop μ-loop

@@ -8,9 +8,10 @@ use Rattle.text.proofs.line.field.Tie as tie
 
 returns : tie.Need-returns
 returns c =
-    let a = c .before .before .before .before .before .before .before .before .before .args in
+    let c₆ = c .before .before .before .before .before .before in
+    let a = c₆ .before .before .before .args in
     let d = c .before .before .decimal .ensures in
-    (d .0 ∙ ap (λ (l : Line). appended l (decimal (a .value))) (c .before .before .before .before .before .before .push .ensures) ∙ sym (typed-cons (lineOf (a .line .now) (a .n)) 32 (decimal (a .value))), d .1)
+    (d .0 ∙ ap (λ (l : Line). appended l (decimal (a .value))) (c₆ .push .ensures) ∙ sym (typed-cons (lineOf (a .line .now) (a .n)) 32 (decimal (a .value))), d .1)
 
 pub field-spec : {M : Type 1} → statement M
 field-spec = tie.close (tie.spec

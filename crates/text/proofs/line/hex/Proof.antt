@@ -6,7 +6,10 @@ use Rattle.text.proofs.line.hex.Tie as tie
 
 returns : tie.Need-returns
 unfolding appended hexByte
-returns c = simp (c .before .before .push2 .ensures, c .before .before .before .digit2 .ensures, c .before .before .before .before .before .before .before .push .ensures, c .before .before .before .before .before .before .before .before .digit .ensures)
+returns c =
+    let c₇ = c .before .before .before .before .before .before .before in
+    let c₈ = c₇ .before in
+    simp (c .before .before .push2 .ensures, c .before .before .before .digit2 .ensures, c₇ .push .ensures, c₈ .digit .ensures)
 
 pub hex-spec : {M : Type 1} → statement M
 hex-spec =

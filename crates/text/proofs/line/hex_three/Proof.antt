@@ -4,7 +4,10 @@ use Rattle.text.proofs.line.hex_three.Statement.{statement}
 use Rattle.text.proofs.line.hex_three.Tie as tie
 
 returns : tie.Need-returns
-returns c = simp (typed-three, c .before .before .hex .ensures, c .before .before .before .before .before .before .push .ensures, c .before .before .before .before .before .before .before .digit .ensures)
+returns c =
+    let c₆ = c .before .before .before .before .before .before in
+    let c₇ = c₆ .before in
+    simp (typed-three, c .before .before .hex .ensures, c₆ .push .ensures, c₇ .digit .ensures)
 
 pub hex-three-spec : {M : Type 1} → statement M
 hex-three-spec =

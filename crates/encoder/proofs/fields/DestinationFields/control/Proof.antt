@@ -17,7 +17,9 @@ add-result : tie.Need-add-result
 add-result c = omega (arith, fits (c .before .before .before .before))
 
 add-result-2 : tie.Need-add-result-2
-add-result-2 c = omega (arith, fits (c .before .before .before .before .before))
+add-result-2 c =
+    let c₅ = c .before .before .before .before .before in
+    omega (arith, fits c₅)
 
 returns : tie.Need-returns
 unfolding destinationControl

@@ -8,7 +8,9 @@ held : (c : tie.Start) → Parts (c .args .self)
 held c = parts (c .args .self) (c .pre)
 
 control-requires : tie.Need-control-requires
-control-requires c κs = held (c .before .before .before .before .before .before) .source
+control-requires c κs =
+    let c₆ = c .before .before .before .before .before .before in
+    held c₆ .source
 
 registers-requires : tie.Need-registers-requires
 registers-requires c κs =
@@ -16,7 +18,9 @@ registers-requires c κs =
     source-parts (s .args .self .source) (held s .source) .surface
 
 control-requires-2 : tie.Need-control-requires-2
-control-requires-2 c κs = held (c .before .before .before .before .before .before .before .before) .destination
+control-requires-2 c κs =
+    let c₈ = c .before .before .before .before .before .before .before .before in
+    held c₈ .destination
 
 registers-requires-2 : tie.Need-registers-requires-2
 registers-requires-2 c κs =
@@ -30,15 +34,20 @@ mul-registers c =
 
 registers-requires-3 : tie.Need-registers-requires-3
 registers-requires-3 c κs =
-    held (c .before .before .before .before .before .before .before .before .before .before .before) .output
+    let c₁₁ = c .before .before .before .before .before .before .before .before .before .before .before in
+    held c₁₁ .output
 
 word-requires : tie.Need-word-requires
 word-requires c κs =
-    held (c .before .before .before .before .before .before .before .before .before .before .before .before) .blending
+    let c₁₂ = c .before .before .before .before .before .before .before .before .before .before .before .before in
+    held c₁₂ .blending
 
 returns : tie.Need-returns
 unfolding bankOf
-returns c = simp (c .word .ensures, c .before .registers3 .ensures, c .before .before .before .registers2 .ensures, c .before .before .before .before .control2 .ensures, c .before .before .before .before .before .registers .ensures, c .before .before .before .before .before .before .control .ensures)
+returns c =
+    let c₅ = c .before .before .before .before .before in
+    let c₆ = c₅ .before in
+    simp (c .word .ensures, c .before .registers3 .ensures, c .before .before .before .registers2 .ensures, c .before .before .before .before .control2 .ensures, c₅ .registers .ensures, c₆ .control .ensures)
 
 pub registers-spec : {M : Type 1} → statement M
 registers-spec =

@@ -7,8 +7,8 @@ use Rattle.pixel.proofs.blend.AlphaMode.alpha.Statement.{statement}
 use Rattle.pixel.proofs.blend.AlphaMode.alpha.Tie as tie
 
 -- a product of two bytes is divided exactly
-quotient : (c : tie.After-near) → c .near .result ≡ div255 (c .before .product .result)
-quotient c = c .near .ensures ∙ division .exact (c .before .product .result) (omega (arith, c .before .product .ensures .1))
+quotient : (c : tie.After-div-255) → c .div-255 .result ≡ div255 (c .before .product .result)
+quotient c = c .div-255 .ensures ∙ division .exact (c .before .product .result) (omega (arith, c .before .product .ensures .1))
 
 cast-result : tie.Need-cast-result
 unfolding div255

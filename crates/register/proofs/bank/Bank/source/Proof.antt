@@ -5,7 +5,10 @@ use Rattle.register.proofs.bank.Bank.source.Tie as tie
 
 returns : tie.Need-returns
 unfolding sourceOfBank
-returns c = simp (c .is-enabled .ensures, c .before .alpha .ensures, c .before .before .transform .ensures, c .before .before .before .unpack .ensures, c .before .before .before .before .from-code .ensures, c .before .before .before .before .before .bits .ensures, c .before .before .before .before .before .before .surface .ensures)
+returns c =
+    let c₅ = c .before .before .before .before .before in
+    let c₆ = c₅ .before in
+    simp (c .is-enabled .ensures, c .before .alpha .ensures, c .before .before .transform .ensures, c .before .before .before .unpack .ensures, c .before .before .before .before .from-code .ensures, c₅ .bits .ensures, c₆ .surface .ensures)
 
 pub source-spec : {M : Type 1} → statement M
 source-spec =

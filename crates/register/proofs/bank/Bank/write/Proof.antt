@@ -1,7 +1,7 @@
 use mathlib.Core.Path.{_≡_, ap, sym, _∙_}
 use mathlib.Core.Bool.{true, false}
-use Rattle.register.specs.declared.table.Kind.{Kind}
-use Rattle.register.specs.declared.bank.Write.the-variants.{Bank as Taken}
+use Rattle.register.specs.declared.table.RegisterKind.{RegisterKind}
+use Rattle.register.specs.declared.bank.WriteResult.the-variants.{Written}
 use Rattle.register.specs.Table.{registerKindOf, isWritable, acceptsWord}
 use Rattle.register.specs.Bank.{writeRegister}
 use borrow.Author.Needs.{needs}
@@ -13,15 +13,15 @@ unfolding writeRegister
 returns c =
     let s = c .before .before .before .before .before in
     let w : isWritable (registerKindOf (s .before .args .offset)) ≡ true = ap isWritable (sym (s .at .ensures)) ∙ sym (c .before .before .before .before .is-writable .ensures) ∙ c .before .before .before .if1 .taken in
-    let t : acceptsWord (registerKindOf (s .before .args .offset)) (s .before .args .word) ≡ true = ap (λ (k : Kind). acceptsWord k (s .before .args .word)) (sym (s .at .ensures)) ∙ sym (c .before .before .takes .ensures) ∙ c .before .if2 .taken in
-    rw (w, t) (ap Taken (c .store .ensures))
+    let t : acceptsWord (registerKindOf (s .before .args .offset)) (s .before .args .word) ≡ true = ap (λ (k : RegisterKind). acceptsWord k (s .before .args .word)) (sym (s .at .ensures)) ∙ sym (c .before .before .accepts .ensures) ∙ c .before .if2 .taken in
+    rw (w, t) (ap Written (c .store .ensures))
 
 returns-2 : tie.Need-returns-2
 unfolding writeRegister
 returns-2 c =
     let s = c .before .before .before .before in
     let w : isWritable (registerKindOf (s .before .args .offset)) ≡ true = ap isWritable (sym (s .at .ensures)) ∙ sym (c .before .before .before .is-writable .ensures) ∙ c .before .before .if1 .taken in
-    let t : acceptsWord (registerKindOf (s .before .args .offset)) (s .before .args .word) ≡ false = ap (λ (k : Kind). acceptsWord k (s .before .args .word)) (sym (s .at .ensures)) ∙ sym (c .before .takes .ensures) ∙ c .if2 .left in
+    let t : acceptsWord (registerKindOf (s .before .args .offset)) (s .before .args .word) ≡ false = ap (λ (k : RegisterKind). acceptsWord k (s .before .args .word)) (sym (s .at .ensures)) ∙ sym (c .before .accepts .ensures) ∙ c .if2 .left in
     rw (w, t)
 
 returns-3 : tie.Need-returns-3
