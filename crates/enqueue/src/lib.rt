@@ -59,7 +59,13 @@ pub fn write_offset(engine: EngineRecord, ready: usize) -> usize
 }
 
 // What submit and begin are refused with, 0 if they are not; `found` is what the check of the record found.
-pub fn submit_refusal(engine: EngineRecord, found: Checked, given: usize, client: u32, size: usize) -> u32
+pub fn submit_refusal(
+    engine: EngineRecord,
+    found: Checked,
+    given: usize,
+    client: u32,
+    size: usize,
+) -> u32
     requires { ⌜ (found ≡ checkedOf engine) × (readySlots engine ≤ 8) ⌝ }
     ensures { λ r. ⌜ r ≡ firstRefusal (submitTable engine given client size) ⌝ }
 {

@@ -4,9 +4,9 @@ pub mod colour;
 pub mod format;
 
 pub use blend::AlphaMode;
-pub use blend::Factor;
 pub use blend::BlendFactors;
 pub use blend::BlendMode;
+pub use blend::Factor;
 pub use colour::Colour;
 pub use format::Argb8888;
 pub use format::Format;

@@ -1,8 +1,8 @@
 // How a blending rule is computed for rows of ARGB8888 pixels, found once a task.
 ghost use mathlib.Core.Path.{_≡_};
 ghost use Rattle.plan.specs.Plan.{masksOf, factorBy, fullOf, emptyOf, ends, isConstant, planOf};
-use pixel::Factor;
 use pixel::BlendFactors;
+use pixel::Factor;
 
 // A factor without a branch: all or nothing of each alpha, and then as it is or taken from 255.
 pub struct Masks {

@@ -5,8 +5,8 @@ pub mod task;
 
 pub use bank::Bank;
 pub use bank::SurfaceRegisters;
-pub use bank::WriteResult;
 pub use bank::WriteFault;
+pub use bank::WriteResult;
 pub use table::RegisterKind;
 pub use task::Alpha;
 pub use task::Blending;

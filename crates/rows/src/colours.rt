@@ -33,7 +33,13 @@ pub fn blending_colour(blending: Blending, source: Alpha, s: Colour) -> Colour
 }
 
 // A source colour blended with a destination colour.
-pub fn composite(blending: Blending, source: Alpha, destination: Alpha, s: Colour, d: Colour) -> Colour
+pub fn composite(
+    blending: Blending,
+    source: Alpha,
+    destination: Alpha,
+    s: Colour,
+    d: Colour,
+) -> Colour
     ensures { λ r. ⌜ r ≡ composite blending source destination s d ⌝ }
 {
     let rule = blending.rule;

@@ -4,9 +4,9 @@ pub mod source;
 
 pub use colours::blending_colour;
 pub use colours::composite;
-pub use source::is_reversed;
 pub use source::is_identity_row;
+pub use source::is_reversed;
 pub use source::origin;
-pub use source::strided_address;
-pub use source::source_point;
 pub use source::pixel_stride;
+pub use source::source_point;
+pub use source::strided_address;

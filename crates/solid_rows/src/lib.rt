@@ -17,9 +17,9 @@ use pixel::Format;
 use range::Range;
 use register::Task;
 use rows::blending_colour;
+use solid::solid_row;
 use solid_colour::Solid;
 use solid_colour::solid_of;
-use solid::solid_row;
 use surface::Surface;
 
 // The colour that such a task lays over its output.

@@ -95,7 +95,13 @@ fn missing_bytes(staged: Staged) -> usize
     }
 }
 
-fn piece_refusal(engine: EngineRecord, found: Checked, given: usize, client: u32, size: usize) -> u32
+fn piece_refusal(
+    engine: EngineRecord,
+    found: Checked,
+    given: usize,
+    client: u32,
+    size: usize,
+) -> u32
     requires { ⌜ found ≡ checkedOf engine ⌝ }
     ensures { λ r. ⌜ r ≡ firstRefusal (pieceTable engine given client size) ⌝ }
 {
