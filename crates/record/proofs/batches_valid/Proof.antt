@@ -1,12 +1,13 @@
 use mathlib.Core.Path.{_≡_, refl, sym, _∙_}
 use mathlib.Core.Bool.{true}
-use Prim.Native.Nat.{_+_, _≤_, _<_}
+use Prim.Native.Nat.{ℕ, _+_, _-_, _≤_, _<_}
 use native.Mathlib.Omega.{arith}
 use borrow.Author.Needs.{needs}
 use borrow.Author.Tests.{not-true, not-false}
 use Rattle.record.proofs.Walk.{walk, walk-missing, walk-unfit, walk-next, walk-done, Fitting, fitting, fitsIn, walk-rules}
 use Rattle.record.specs.Clients.{isOpen}
 use Rattle.record.specs.Rules.{batchRules}
+use Rattle.ring.specs.Segment.{wrapOffset}
 use Rattle.ring.proofs.Wrapped.{wrapped-below}
 use Rattle.record.proofs.batches_valid.Statement.{statement}
 use Rattle.record.proofs.batches_valid.Tie as tie
@@ -24,14 +25,24 @@ decided : (c : tie.Start Inv-loop μ-loop) →
 decided c = rw (c .pre .2) (walk-rules (c .args .engine) _ _ _ _ _ _)
 
 -- what the test of a batch tells
-told : (c : tie.After-fits-in Inv-loop μ-loop) → c .fits-in .result ≡ fitsIn (c .before .before .before .before .before .before .before .before .before .before .args .engine .setup .ring) (isOpen (c .before .before .before .before .before .before .before .before .before .before .args .engine)) (c .before .before .before .before .before .before .before .loop .offset) (c .before .before .before .before .before .before .before .loop .room) (c .before .before .batch-of .result)
+told : (c : tie.After-fits-in Inv-loop μ-loop) → let c₇ = c .before .before .before .before .before .before .before in let engine = c₇ .before .before .before .args .engine in
+    c .fits-in .result ≡ fitsIn (engine .setup .ring) (isOpen engine) (c₇ .loop .offset) (c₇ .loop .room) (c .before .before .batch-of .result)
 told c = c .fits-in .ensures ∙ rw (c .before .is-open .ensures)
 
-fit : (c : tie.Else2 Inv-loop μ-loop) → fitsIn (c .before .before .before .before .before .before .before .before .before .before .before .args .engine .setup .ring) (isOpen (c .before .before .before .before .before .before .before .before .before .before .before .args .engine)) (c .before .before .before .before .before .before .before .before .loop .offset) (c .before .before .before .before .before .before .before .before .loop .room) (c .before .before .before .batch-of .result) ≡ true
+fit : (c : tie.Else2 Inv-loop μ-loop) → let c₈ = c .before .before .before .before .before .before .before .before in let engine = c₈ .before .before .before .args .engine in
+    fitsIn (engine .setup .ring) (isOpen engine) (c₈ .loop .offset) (c₈ .loop .room) (c .before .before .before .batch-of .result) ≡ true
 fit c = sym (told (c .before)) ∙ not-false _ (c .if2 .left)
 
-fits : (c : tie.Else2 Inv-loop μ-loop) → Fitting (c .before .before .before .before .before .before .before .before .before .before .before .args .engine .setup .ring) (isOpen (c .before .before .before .before .before .before .before .before .before .before .before .args .engine)) (c .before .before .before .before .before .before .before .before .loop .offset) (c .before .before .before .before .before .before .before .before .loop .room) (c .before .before .before .batch-of .result)
+fits : (c : tie.Else2 Inv-loop μ-loop) → let c₈ = c .before .before .before .before .before .before .before .before in let engine = c₈ .before .before .before .args .engine in
+    Fitting (engine .setup .ring) (isOpen engine) (c₈ .loop .offset) (c₈ .loop .room) (c .before .before .before .batch-of .result)
 fits c = fitting _ _ _ _ _ (fit c)
+
+-- past a batch that fits in the room, the next offset and the room that is left
+offset-below : (ring offset size room next : ℕ) → offset < ring → size ≤ room → room ≤ ring → next ≡ wrapOffset ring (offset + size) → next < ring
+offset-below ring offset size room next o f r e = rw e (wrapped-below ring (offset + size) (omega arith))
+
+room-most : (ring size room : ℕ) → room ≤ ring → room - size ≤ ring
+room-most ring size room r = omega arith
 
 loop-holds : tie.Need-loop-holds Inv-loop μ-loop
 loop-holds c = (c .before .before .pre .3, c .before .before .pre .1, omega arith, refl)
@@ -87,15 +98,17 @@ loop-less : tie.Need-loop-less Inv-loop μ-loop
 loop-less c = omega arith
 
 loop-again : tie.Need-loop-again Inv-loop μ-loop
-loop-again c = let l = c .before .before .before .before .before .before .before .before .before in
-    let p = c .before .before .before .before .before .before .before .slot-of-age in
-    let j = c .before .before .before .before .batch-of in
-    let f = fits (c .before) .within in
-    let small = c .before .before .before .before .before .before .before .before .before .before .before .before .pre in (
+loop-again c =
+    let c₆ = c .before .before .before .before .before .before in
+    let c₈ = c₆ .before .before in
+    let l = c₈ .before .loop in
+    let s = c₈ .before .before .before .before in
+    let p = c₆ .before .slot-of-age in
+    let j = c .before .before .before .before .batch-of in (
       omega arith,
-      rw (c .wrap-offset .ensures) (wrapped-below (c .before .before .before .before .before .before .before .before .before .before .before .before .args .engine .setup .ring) (l .loop .offset + j .result .length) (omega arith)),
-      omega arith,
-      walk-next _ _ _ _ _ _ _ (c .before .before .before .before .before .before .before .before .loop-test .taken) (p .result) (p .ensures) (omega (arith, c .before .before .before .before .before .before .before .before .before .before .before .before .pre .4)) (j .result) (j .ensures) (fit (c .before)) (c .wrap-offset .result) (c .wrap-offset .ensures) ∙ l .loop .inv .3,
+      offset-below _ (l .offset) (j .result .length) (l .room) _ (l .inv .1) (fits (c .before) .within) (l .inv .2) (c .wrap-offset .ensures),
+      room-most _ (j .result .length) (l .room) (l .inv .2),
+      walk-next _ _ _ _ _ _ _ (c₈ .loop-test .taken) (p .result) (p .ensures) (omega (arith, s .pre .4, c₆ .if1 .left)) (j .result) (j .ensures) (fit (c .before)) (c .wrap-offset .result) (c .wrap-offset .ensures) ∙ l .inv .3,
     )
 
 returns-3 : tie.Need-returns-3 Inv-loop μ-loop
