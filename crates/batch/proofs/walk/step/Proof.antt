@@ -18,8 +18,8 @@ use Rattle.batch.specs.declared.walk.WalkStep.the-variants.{Faulty as St
 use Rattle.batch.specs.Batch.{inside, reservedBits, groupOf}
 use Rattle.batch.specs.Walk.{stepFrom, stepAt}
 use Rattle.batch.proofs.DecoderCases.{words-fit, next-group, open-task, ended, reserved, bad-length, open-group, refused, taken}
-use Rattle.batch.proofs.walk.step_from.Statement.{statement}
-use Rattle.batch.proofs.walk.step_from.Tie as tie
+use Rattle.batch.proofs.walk.step.Statement.{statement}
+use Rattle.batch.proofs.walk.step.Tie as tie
 
 abbrev Inv-loop : tie.InvT-loop
 Inv-loop ring offset size bounds k n at₀ held₀ head h left₀ register₀ at held left register =
@@ -72,8 +72,8 @@ here c = group (c .before) ∙ c .loop .inv .3
 groups-holds : tie.Need-groups-holds Inv-loop μ-loop Inv-groups μ-groups
 groups-holds c = (omega arith, omega (arith, c .word-count .ensures), refl)
 
-mul-t19 : tie.Need-mul-t19 Inv-loop μ-loop Inv-groups μ-groups
-mul-t19 c = omega (arith, small (c .before .before .before .before), c .before .before .before .groups .inv .1)
+faulty-requires : tie.Need-faulty-requires Inv-loop μ-loop Inv-groups μ-groups
+faulty-requires c κs = omega (arith, small (c .before .before .before .before), c .before .before .before .groups .inv .1)
 
 add-at : tie.Need-add-at Inv-loop μ-loop Inv-groups μ-groups
 add-at c = omega (arith, small (c .before .before .before .before), c .before .before .before .groups .inv .1)
@@ -81,8 +81,8 @@ add-at c = omega (arith, small (c .before .before .before .before), c .before .b
 sub-if2 : tie.Need-sub-if2 Inv-loop μ-loop Inv-groups μ-groups
 sub-if2 c = omega (arith, c .before .before .before .groups .inv .1)
 
-mul-t27 : tie.Need-mul-t27 Inv-loop μ-loop Inv-groups μ-groups
-mul-t27 c =
+faulty-requires-2 : tie.Need-faulty-requires-2 Inv-loop μ-loop Inv-groups μ-groups
+faulty-requires-2 c κs =
     let c₅ = c .before .before .before .before .before in
     omega (arith, small c₅, c .before .before .before .before .groups .inv .1)
 
@@ -94,8 +94,8 @@ loop-holds c =
     let two = or-false (eqb (field 15 2 h) 0) (ltb m (field 15 2 h)) (c .if2 .left) in
     (omega arith, omega (arith, c .before .before .before .before .groups .inv .1, ltb-false m (field 15 2 h) (two .1)), omega arith, refl)
 
-mul-t32 : tie.Need-mul-t32 Inv-loop μ-loop Inv-groups μ-groups
-mul-t32 c =
+faulty-requires-3 : tie.Need-faulty-requires-3 Inv-loop μ-loop Inv-groups μ-groups
+faulty-requires-3 c κs =
     let c₇ = c .before .before .before .before .before .before .before in
     let c₁₃ = c₇ .before .before .before .before .before .before in
     omega (arith, small c₁₃, c₇ .loop .inv .1)
@@ -142,8 +142,8 @@ mul-check-at-task-end c =
     let c₈ = c₇ .before in
     omega (arith, small c₈, c₇ .groups .inv .1)
 
-mul-t35 : tie.Need-mul-t35 Inv-loop μ-loop Inv-groups μ-groups
-mul-t35 c =
+faulty-requires-4 : tie.Need-faulty-requires-4 Inv-loop μ-loop Inv-groups μ-groups
+faulty-requires-4 c κs =
     let c₈ = c .before .before .before .before .before .before .before .before in
     let c₉ = c₈ .before in
     omega (arith, small c₉, c₈ .groups .inv .1)
@@ -167,33 +167,39 @@ groups-again c =
 
 returns : tie.Need-returns Inv-loop μ-loop Inv-groups μ-groups
 returns c =
-    let s = c .before .before .before .before .before .before in
-    let g = c .before .before .before .groups in
-    let w = c .before .before .word-at in
-    let n = c .before .before .before .before .word-count .ensures in
-    sym (g .inv .2 ∙ reserved (s .args .bounds) (Ws s) (g .held) (g .at) (w .result) (omega (arith, n, g .inv .1)) (w .ensures) (sym (c .before .reserved-bits .ensures) ∙ c .if1 .taken))
+    let c₅ = c .before .before .before .before .before in
+    let s = c₅ .before .before in
+    let g = c .before .before .before .before .groups in
+    let w = c .before .before .before .word-at in
+    let n = c₅ .word-count .ensures in
+    c .faulty .ensures
+    ∙ sym (g .inv .2 ∙ reserved (s .args .bounds) (Ws s) (g .held) (g .at) (w .result) (omega (arith, n, g .inv .1)) (w .ensures) (sym (c .before .before .reserved-bits .ensures) ∙ c .before .if1 .taken))
 
 returns-2 : tie.Need-returns-2 Inv-loop μ-loop Inv-groups μ-groups
 returns-2 c =
-    let s = c .before .before .before .before .before .before .before in
-    let g = c .before .before .before .before .groups in
-    let w = c .before .before .before .word-at in
-    let n = c .before .before .before .before .before .word-count .ensures in
-    let ok : reservedBits (w .result) ≡ false = sym (c .before .before .reserved-bits .ensures) ∙ c .before .if1 .left in
-    sym (g .inv .2 ∙ bad-length (s .args .bounds) (Ws s) (g .held) (g .at) (w .result) (omega (arith, n, g .inv .1)) (w .ensures) ok (rw (← n) (c .if2 .taken)))
+    let c₅ = c .before .before .before .before .before in
+    let c₆ = c₅ .before in
+    let s = c₆ .before .before in
+    let g = c₅ .groups in
+    let w = c .before .before .before .before .word-at in
+    let n = c₆ .word-count .ensures in
+    let ok : reservedBits (w .result) ≡ false = sym (c .before .before .before .reserved-bits .ensures) ∙ c .before .before .if1 .left in
+    c .faulty2 .ensures
+    ∙ sym (g .inv .2 ∙ bad-length (s .args .bounds) (Ws s) (g .held) (g .at) (w .result) (omega (arith, n, g .inv .1)) (w .ensures) ok (rw (← n) (c .before .if2 .taken)))
 
 returns-3 : tie.Need-returns-3 Inv-loop μ-loop Inv-groups μ-groups
 returns-3 c =
-    let c₆ = c .before .before .before .before .before .before in
-    let c₇ = c₆ .before in
-    let s = c₇ .before .before .before .before .before .before .before .before in
-    let l = c₇ .loop in
-    let w = c .before .before .before .before .before .word-at2 in
-    let n = c₇ .before .before .before .before .before .before .word-count .ensures in
-    let e = sym (c .before .before .before .before .write .ensures) ∙ c .before .before .f .given .1 in
-    sym (here c₇
-    ∙ refused (s .args .bounds) (Ws s) (l .held) (l .at) (w .result) (omega (arith, n, l .inv .1)) (w .ensures) (l .left) (l .register) _ _ _ (c₆ .loop-test .taken) e
-    ∙ ap (λ (f : Fault). Stop f (4 * l .at) (l .held)) (sym (c .of-write .ensures)))
+    let c₇ = c .before .before .before .before .before .before .before in
+    let c₈ = c₇ .before in
+    let s = c₈ .before .before .before .before .before .before .before .before in
+    let l = c₈ .loop in
+    let w = c .before .before .before .before .before .before .word-at2 in
+    let n = c₈ .before .before .before .before .before .before .word-count .ensures in
+    let e = sym (c .before .before .before .before .before .write .ensures) ∙ c .before .before .before .f .given .1 in
+    c .faulty3 .ensures
+    ∙ sym (here c₈
+    ∙ refused (s .args .bounds) (Ws s) (l .held) (l .at) (w .result) (omega (arith, n, l .inv .1)) (w .ensures) (l .left) (l .register) _ _ _ (c₇ .loop-test .taken) e
+    ∙ ap (λ (f : Fault). Stop f (4 * l .at) (l .held)) (sym (c .before .of-write .ensures)))
 
 returns-4 : tie.Need-returns-4 Inv-loop μ-loop Inv-groups μ-groups
 returns-4 c =
@@ -208,16 +214,19 @@ returns-4 c =
 
 returns-5 : tie.Need-returns-5 Inv-loop μ-loop Inv-groups μ-groups
 returns-5 c =
-    let s = c .before .before .before .before .before .before .before .before .before .before .before in
-    let l = c .before .before .before .loop in
-    let n = c .before .before .before .before .before .before .before .before .before .word-count .ensures in
-    let z : l .left ≡ 0 = omega (arith, c .before .before .loop-test .left) in
-    let h = c .before .before .before .before .before .before .before .word-at .result in
-    let e : eqb (field 0 0 h) 1 ≡ false = ne-eqb (field 0 0 h) 1 (omega (arith, c .before .if3 .left)) in
-    sym ((rw (z, e) at (here (c .before .before .before))) ∙ open-task (s .args .bounds) (Ws s) (l .held) (l .at) _ _ (omega (arith, n, c .if4 .taken)))
+    let c₈ = c .before .before .before .before .before .before .before .before in
+    let c₁₀ = c₈ .before .before in
+    let s = c₁₀ .before .before in
+    let l = c .before .before .before .before .loop in
+    let n = c₁₀ .word-count .ensures in
+    let z : l .left ≡ 0 = omega (arith, c .before .before .before .loop-test .left) in
+    let h = c₈ .word-at .result in
+    let e : eqb (field 0 0 h) 1 ≡ false = ne-eqb (field 0 0 h) 1 (omega (arith, c .before .before .if3 .left)) in
+    c .faulty4 .ensures
+    ∙ sym ((rw (z, e) at (here (c .before .before .before .before))) ∙ open-task (s .args .bounds) (Ws s) (l .held) (l .at) _ _ (omega (arith, n, c .before .if4 .taken)))
 
-pub step-from-spec : {M : Type 1} → statement M
-step-from-spec =
+pub step-spec : {M : Type 1} → statement M
+step-spec =
     tie.close
     (tie.spec
     Inv-loop
@@ -228,18 +237,18 @@ step-from-spec =
     groups-holds
     (λ c κs. search needs)
     (λ c κs. search needs)
-    mul-t19
+    faulty-requires
     add-at
     (λ c. search needs)
     sub-if2
-    mul-t27
+    faulty-requires-2
     loop-holds
     (λ c κs. search needs)
     (λ c κs. search needs)
     (λ c. search needs)
     (λ c. search needs)
     (λ c κs. search needs)
-    mul-t32
+    faulty-requires-3
     add-at-2
     add-register
     sub-left
@@ -247,7 +256,7 @@ step-from-spec =
     loop-again
     mul-check-at-task-end
     (λ c κs. search needs)
-    mul-t35
+    faulty-requires-4
     groups-less
     groups-again
     returns
