@@ -24,7 +24,7 @@ use Rattle.model.specs.Model.{answers, after, modelAfterAll}
 use Rattle.claims.specs.ModelProperties.{batchSemantics}
 use Rattle.claims.specs.Engine.{State, mkState, answersOf, stateAfter, initialState}
 use Rattle.claims.proofs.Theorem.{promise}
-use Rattle.session.specs.Script.{decode}
+use Rattle.script.specs.Script.{decode}
 use Rattle.answers.specs.Answers.{shortAnswer}
 use Rattle.session.specs.Answers.{answerBytes}
 use Rattle.session.specs.Contracts.{CallsMatch}

@@ -15,7 +15,7 @@ use Rattle.model.specs.State.{initialModel}
 use Rattle.model.specs.Model.{answers, modelAfterAll}
 use Rattle.claims.specs.ModelProperties.{batchSemantics}
 use Rattle.claims.specs.Engine.{stateAfter, initialState}
-use Rattle.session.specs.Script.{decode}
+use Rattle.script.specs.Script.{decode}
 use Rattle.session.specs.Answers.{answerBytes}
 
 -- what set up is refused with, 0 if it is accepted
