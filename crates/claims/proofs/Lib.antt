@@ -12,6 +12,7 @@ pub mod SimulationSteps
 pub mod Pieces
 pub mod Runs
 pub mod Simulation
+pub mod Ring
 pub mod InTime
 pub mod Cutting
 pub mod Faulted

@@ -2,6 +2,7 @@
 pub mod BatchSemantics
 pub mod ModelProperties
 pub mod Engine
+pub mod Ring
 pub mod Demand1
 pub mod Demand2
 pub mod Demand3

@@ -79,7 +79,7 @@ pub fn oldest_slot(engine: EngineRecord, ready: usize) -> usize
     ensures { λ r. ⌜ r ≡ slotOfTicket (oldestTicket engine) (engine .slots) ⌝ }
 {
     let slots = engine.slots;
-    record::slot_of_age(slots, engine.next, ready)
+    slots::slot_of_age(slots, engine.next, ready)
 }
 
 // The slots with one of them free.

@@ -80,7 +80,7 @@ pub fn submit_refusal(
     let no7 = queue::first_refusal(8 <= taken, 7, no8);
     let no6 = queue::first_refusal(record::bad_length(ring, size), 6, no7);
     let no13 = queue::first_refusal(!(staged.total == 0), 13, no6);
-    let no5 = queue::first_refusal(!record::is_open(engine, client), 5, no13);
+    let no5 = queue::first_refusal(!windows::is_open(engine, client), 5, no13);
     queue::first_refusal(!(given == ring), 10, no5)
 }
 

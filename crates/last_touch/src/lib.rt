@@ -9,7 +9,7 @@ ghost use Rattle.provenance.specs.declared.Touched.the-variants.{By};
 ghost use Rattle.provenance.specs.Drawn.{numbered};
 ghost use Rattle.provenance.specs.Touched.{holds, modeNumber, touchOf, lastFrom};
 use batch::WalkStep;
-use batch::next_task;
+use decoder::next_task;
 use provenance::Touch;
 use provenance::Touched;
 use register::Bank;

@@ -156,9 +156,6 @@ closed-most (c ∷ cs) = go (c .opened) (closed-most cs)
     go true h = omega arith
     go false h = omega arith
 
-pub closed-most-places : (cs : List Client) → lowestClosed cs ≤ length cs
-closed-most-places cs = omega (arith, closed-most cs, windows-most cs)
-
 pub closed-is : (cs : List Client) → getD cs (lowestClosed cs) noClient .opened ≡ false
 unfolding lowestClosed
 closed-is [] = refl

@@ -12,7 +12,7 @@ pub fn run_by(engine: EngineRecord, ring: &[u8], memory: &mut [u8], slow: bool) 
     ensures { λ r. ⌜ (r ≡ runResult engine (now (ring .entry)) (now (memory .entry)))
         × (now (memory .exit) ≡ runMemory engine (now (ring .entry)) (now (memory .entry))) ⌝ }
 {
-    let found = record::check(engine);
+    let found = validity::check(engine);
     let number = dequeue::run_refusal(engine, found, ring.len(), memory.len());
     if number != 0 {
         return RunResult {

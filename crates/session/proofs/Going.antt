@@ -11,11 +11,11 @@ use Rattle.word.proofs.Splice.{take-spliced, drop-spliced}
 use Rattle.word.proofs.Written.{length-bytes}
 use Rattle.model.specs.Calls.{Call, opens, submit, run, pending, begin, piece, cancel, close, Answer, opened, accepted, completed, ready, missing, done, refused}
 use Rattle.claims.specs.Engine.{State, performCall, answersOf, stateAfter}
-use Rattle.session.specs.declared.script.ParsedCall.{ParsedCall}
-use Rattle.session.specs.declared.script.ParseResult.{ParseResult}
-use Rattle.session.specs.declared.script.ParseResult.the-variants.{End, Call as Begins}
-use Rattle.session.specs.Script.{parsed, parseCall, decode}
-use Rattle.session.specs.Parsing.{callOf, ParsesAs}
+use Rattle.script.specs.declared.ParsedCall.{ParsedCall}
+use Rattle.script.specs.declared.ParseResult.{ParseResult}
+use Rattle.script.specs.declared.ParseResult.the-variants.{End, Call as Begins}
+use Rattle.script.specs.Script.{parsed, parseCall, decode}
+use Rattle.script.specs.Parsing.{callOf, ParsesAs}
 use Rattle.session.specs.Answers.{plainWords, pieceWords, answerWords, answerBytes}
 use Rattle.session.specs.Contracts.{CallMatches, CallsMatch}
 

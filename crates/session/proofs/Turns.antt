@@ -16,9 +16,9 @@ use Rattle.engine.specs.Close.{closeMemory}
 use Rattle.answers.specs.Answers.{shortAnswer, pieceWords as twoWords, outcomeWords}
 use Rattle.model.specs.Calls.{opens, submit, run, pending, begin, piece, cancel, close, opened, accepted, ready}
 use Rattle.claims.specs.Engine.{mkState, performCall}
-use Rattle.session.specs.declared.script.Request.{Request}
-use Rattle.session.specs.declared.script.Request.the-variants.{Submit, Piece}
-use Rattle.session.specs.Parsing.{BatchInBounds}
+use Rattle.script.specs.declared.Request.{Request}
+use Rattle.script.specs.declared.Request.the-variants.{Submit, Piece}
+use Rattle.script.specs.Parsing.{BatchInBounds}
 use Rattle.session.specs.Answers.{plainWords}
 use Rattle.session.specs.Contracts.{CallMatches}
 use Rattle.session.proofs.Numbers.{told-words, silent-words, two-words, run-words}

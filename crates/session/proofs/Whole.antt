@@ -1,4 +1,4 @@
--- Set up and the calls after it, in one buffer: the engine's answers are the model's by the promise of crate claims.
+-- Set up and the calls after it, in one buffer: the engine's answers are the model's by the promise of crate claims, and so is its ring.
 use mathlib.Core.Path.{_≡_, refl, ap, sym, _∙_}
 use mathlib.Core.List.{List, [], _++_, append-nil, append-assoc}
 use mathlib.Core.Bool.{Bool, true, false, cond}
@@ -19,12 +19,17 @@ use Rattle.queue.specs.declared.Reply.{Reply}
 use Rattle.queue.specs.Answers.{refusalNumberOf, valueOf, answerUnlessRefused}
 use Rattle.queue.specs.Calls.{setUpResult}
 use Rattle.queue.specs.Refusals.{firstRefusal, setUpTable}
+use Rattle.queue.proofs.Preservation.{set-up-number}
 use Rattle.model.specs.Calls.{Setup, Call}
+use Rattle.model.specs.State.{initialModel}
 use Rattle.model.specs.Model.{answers, after, modelAfterAll}
 use Rattle.claims.specs.ModelProperties.{batchSemantics}
-use Rattle.claims.specs.Engine.{State, mkState, answersOf, stateAfter, initialState}
+use Rattle.claims.specs.Engine.{State, mkState, answersOf, SetUpAccepted, initialState}
+use Rattle.claims.specs.Ring.{ringAfterCalls}
+use Rattle.claims.proofs.SimulationRelation.{numbersIn}
+use Rattle.claims.proofs.Ring.{ring-after}
 use Rattle.claims.proofs.Theorem.{promise}
-use Rattle.session.specs.Script.{decode}
+use Rattle.script.specs.Script.{decode}
 use Rattle.answers.specs.Answers.{shortAnswer}
 use Rattle.session.specs.Answers.{answerBytes}
 use Rattle.session.specs.Contracts.{CallsMatch}
@@ -44,7 +49,7 @@ set-up-value ring memory common reset = value-set (firstRefusal (setUpTable (rec
 
 pub set-up-words : (setup : Setup) (r : Reply) (words : List ℕ) → r ≡ setUpResult (setup .ring) (setup .memory) (setup .common) (setup .reset) →
     words ≡ shortAnswer (refusalNumberOf (r .answer)) (valueOf (r .answer)) → words ≡ shortAnswer (setUpNumber setup) 0
-set-up-words setup r words e w = w ∙ rw (e, set-up-value (setup .ring) (setup .memory) (setup .common) (setup .reset))
+set-up-words setup r words e w = w ∙ rw (e, set-up-value (setup .ring) (setup .memory) (setup .common) (setup .reset), set-up-number (numbersIn setup))
 
 -- ---- no call is played
 
@@ -54,12 +59,12 @@ module _ (setup : Setup) (ring memory script buffer : List ℕ) where
   unfolding memoryAfter
   memory-is cs e = ap (λ (played : List Call). modelAfterAll (batchSemantics setup) setup (length ring) played memory .memory) e
 
-  ring-is : (cs : List Call) → playedCalls setup (length buffer) script ≡ cs → ringAfter setup ring memory script buffer ≡ stateAfter cs (initialState setup ring memory) .ring
+  ring-is : (cs : List Call) → playedCalls setup (length buffer) script ≡ cs → ringAfter setup ring memory script buffer ≡ ringAfterCalls setup (length ring) 0 cs (initialModel memory) ring
   unfolding ringAfter
-  ring-is cs e = ap (λ (played : List Call). stateAfter played (initialState setup ring memory) .ring) e
+  ring-is cs e = ap (λ (played : List Call). ringAfterCalls setup (length ring) 0 played (initialModel memory) ring) e
 
   nothing : playedCalls setup (length buffer) script ≡ [] → (memory ≡ memoryAfter setup ring memory script buffer) × (ring ≡ ringAfter setup ring memory script buffer)
-  unfolding after stateAfter
+  unfolding after ringAfterCalls
   nothing e = (sym (memory-is [] e), sym (ring-is [] e))
 
   none-short : length buffer < 24 → playedCalls setup (length buffer) script ≡ []
@@ -99,6 +104,9 @@ module _ (setup : Setup) (ring memory script buffer : List ℕ) where
 -- ---- the calls are played
 
 module _ (setup : Setup) (ring memory script buffer : List ℕ) (room : 24 ≤ length buffer) (ok : setUpNumber setup ≡ 0) where
+  accepted : SetUpAccepted setup
+  accepted = set-up-number (numbersIn setup) ∙ ok
+
   played-are : playedCalls setup (length buffer) script ≡ decode (length (drop 24 buffer) / 24) script
   unfolding playedCalls
   played-are =
@@ -109,7 +117,7 @@ module _ (setup : Setup) (ring memory script buffer : List ℕ) (room : 24 ≤ l
   told : answerOutput setup ring memory script buffer ≡ wordsBytes (shortAnswer 0 0) ++ answerBytes (decode (length (drop 24 buffer) / 24) script) (answersOf (decode (length (drop 24 buffer) / 24) script) (initialState setup ring memory))
   unfolding answerOutput
   told =
-      let like = promise setup ring ok .like-model (decode (length (drop 24 buffer) / 24) script) memory in
+      let like = promise setup ring accepted .like-model (decode (length (drop 24 buffer) / 24) script) memory in
       rw (le-ltb (length buffer) 24 room, played-are, ok, like .every-answer)
 
   pub played-on : (count : ℕ) (ring′ memory′ rest′ : List ℕ) →
@@ -117,7 +125,7 @@ module _ (setup : Setup) (ring memory script buffer : List ℕ) (room : 24 ≤ l
       ScriptResult setup ring memory script buffer (24 + count) ring′ memory′ (wordsBytes (shortAnswer 0 0) ++ rest′)
   played-on count ring′ memory′ rest′ P =
       let cs : List Call = decode (length (drop 24 buffer) / 24) script in
-      let like = promise setup ring ok .like-model cs memory in
+      let like = promise setup ring accepted .like-model cs memory in
       let said : List ℕ = answerBytes cs (answersOf cs (initialState setup ring memory)) in
       let long : length (wordsBytes (shortAnswer 0 0)) ≡ 24 = length-bytes (shortAnswer 0 0) in
       let size : length (wordsBytes (shortAnswer 0 0) ++ said) ≡ 24 + count = length-append (wordsBytes (shortAnswer 0 0)) said ∙ rw (long, P .returned) in
@@ -125,7 +133,7 @@ module _ (setup : Setup) (ring memory script buffer : List ℕ) (room : 24 ≤ l
         returned = rw told (sym size);
         bytes = rw (told, size, P .bytes, ← drop-drop count 24 buffer) (sym (append-assoc (wordsBytes (shortAnswer 0 0)) said (drop count (drop 24 buffer))));
         memory-end = P .memory-end ∙ like .every-byte ∙ sym (memory-is setup ring memory script buffer cs played-are);
-        ring-end = P .ring-end ∙ sym (ring-is setup ring memory script buffer cs played-are);
+        ring-end = P .ring-end ∙ ring-after setup ring memory accepted cs ∙ sym (ring-is setup ring memory script buffer cs played-are);
       }
 
   -- the same in the code's values: the buffer `answered` after set up's answer, and the part of it after that, which is lent

@@ -1,5 +1,5 @@
--- What playing a script answers and leaves, for every script, ring, memory and answer buffer. The answers and memory are the reference
--- model's (crate model) at the real definitions of reading, judging and drawing (crate claims); the ring's bytes are the engine's.
+-- What playing a script answers and leaves, for every script, ring, memory and answer buffer. The answers, memory and the ring are the reference
+-- model's (crate model) at the real definitions of reading, judging and drawing (crate claims). No engine record is asked.
 use mathlib.Core.Path.{_≡_}
 use mathlib.Core.List.{List, [], _++_}
 use mathlib.Core.Bool.{cond}
@@ -7,20 +7,19 @@ use Prim.Native.Nat.{ℕ, _-_, _/_}
 use lib.ListN.{length, drop}
 use lib.Dec.{ltb, eqb}
 use Rattle.word.specs.Word.{wordsBytes}
-use Rattle.queue.specs.Answers.{refusalNumberOf}
-use Rattle.queue.specs.Calls.{setUpResult}
+use Rattle.queue.specs.Refusals.{firstRefusal, setUpTable}
 use Rattle.answers.specs.Answers.{shortAnswer}
 use Rattle.model.specs.Calls.{Setup, Call}
 use Rattle.model.specs.State.{initialModel}
 use Rattle.model.specs.Model.{answers, modelAfterAll}
 use Rattle.claims.specs.ModelProperties.{batchSemantics}
-use Rattle.claims.specs.Engine.{stateAfter, initialState}
-use Rattle.session.specs.Script.{decode}
+use Rattle.claims.specs.Ring.{ringAfterCalls}
+use Rattle.script.specs.Script.{decode}
 use Rattle.session.specs.Answers.{answerBytes}
 
 -- what set up is refused with, 0 if it is accepted
 abbrev pub setUpNumber : Setup → ℕ
-setUpNumber setup = refusalNumberOf (setUpResult (setup .ring) (setup .memory) (setup .common) (setup .reset) .answer)
+setUpNumber setup = firstRefusal (setUpTable (record { ring = setup .ring; memory = setup .memory; common = setup .common; reset = setup .reset }))
 
 -- The calls that are played, in a buffer of `room` bytes. An answer has 24 bytes; of n + 1 answers that fit, the first is set up's own, and
 -- n are left for calls. A call whose answer would not fit is not played. If set up is refused, no call is.
@@ -41,9 +40,9 @@ module _ (setup : Setup) (ring memory script buffer : List ℕ) where
   unfoldable pub memoryAfter : List ℕ
   memoryAfter = modelAfterAll (batchSemantics setup) setup (length ring) played memory .memory
 
-  -- the ring after it: batches are copied in by submit and by pieces alone
+  -- the ring after it: batches are copied in by submit and by pieces alone, one after the other from byte 0 on
   unfoldable pub ringAfter : List ℕ
-  ringAfter = stateAfter played (initialState setup ring memory) .ring
+  ringAfter = ringAfterCalls setup (length ring) 0 played (initialModel memory) ring
 
   -- what play returns, and ring, memory and buffer after it; bytes of the buffer past those that are written stay
   pub record ScriptResult (count : ℕ) (ringNow memoryNow bufferNow : List ℕ) : Type 0 where

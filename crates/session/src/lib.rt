@@ -1,6 +1,5 @@
 // A list of calls, given as bytes, played on the engine; the answers are written as bytes.
 mod answer;
-mod script;
 
 ghost use mathlib.Core.Path.{_≡_};
 ghost use Prim.Native.Nat.{_/_};
@@ -8,16 +7,16 @@ ghost use lib.ListN.{length};
 ghost use Rattle.queue.specs.Answers.{refusalNumberOf, valueOf};
 ghost use Rattle.answers.specs.Answers.{shortAnswer, pieceWords, outcomeWords, Small};
 ghost use Rattle.claims.specs.Engine.{mkState};
-ghost use Rattle.session.specs.Script.{decode};
-ghost use Rattle.session.specs.Parsing.{callOf, BatchInBounds};
+ghost use Rattle.script.specs.Script.{decode};
+ghost use Rattle.script.specs.Parsing.{callOf, BatchInBounds};
 ghost use Rattle.session.specs.Contracts.{CallMatches, CallsMatch};
 ghost use Rattle.session.specs.Played.{ScriptResult};
-use crate::script::ParseResult;
-use crate::script::Request;
 use engine::RunResult;
 use queue::Reply;
 use record::EngineRecord;
 use reset::ResetRule;
+use script::ParseResult;
+use script::Request;
 
 // An answer's words, and the record after the call.
 struct CallOutput {

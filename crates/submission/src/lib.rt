@@ -21,7 +21,7 @@ pub fn submit(engine: EngineRecord, ring: &mut [u8], client: u32, batch: &[u8]) 
         × (now (ring .exit) ≡ submitRing engine (now (ring .entry)) client (now (batch .entry))) ⌝ }
 {
     let size = batch.len();
-    let found = record::check(engine);
+    let found = validity::check(engine);
     let refusal = enqueue::submit_refusal(engine, found, ring.len(), client, size);
     if refusal != 0 {
         return Reply {
@@ -39,7 +39,7 @@ pub fn submit(engine: EngineRecord, ring: &mut [u8], client: u32, batch: &[u8]) 
         length: size,
     };
     let slots = engine.slots;
-    let at = record::lowest_free(slots);
+    let at = slots::lowest_free(slots);
     let after = enqueue::with_batch(engine, at, added);
     Reply {
         answer: Answer::Accepted(next),
@@ -60,7 +60,7 @@ fn with_staged(engine: EngineRecord, staged: Staged) -> EngineRecord
 pub fn begin(engine: EngineRecord, ring: &[u8], client: u32, total: usize) -> Reply
     ensures { λ r. ⌜ r ≡ beginResult engine (length (now (ring .entry))) client total ⌝ }
 {
-    let found = record::check(engine);
+    let found = validity::check(engine);
     let number = enqueue::submit_refusal(engine, found, ring.len(), client, total);
     if number != 0 {
         return Reply {
@@ -69,7 +69,7 @@ pub fn begin(engine: EngineRecord, ring: &[u8], client: u32, total: usize) -> Re
         };
     }
     let slots = engine.slots;
-    let at = record::lowest_free(slots);
+    let at = slots::lowest_free(slots);
     let staged = Staged {
         client: client,
         slot: at,
@@ -110,7 +110,7 @@ fn piece_refusal(
     let own = queue::staged_by(staged, client);
     let left = missing_bytes(staged);
     let no14 = queue::first_refusal(!own | (left < size), 14, 0);
-    let no5 = queue::first_refusal(!record::is_open(engine, client), 5, no14);
+    let no5 = queue::first_refusal(!windows::is_open(engine, client), 5, no14);
     let no10 = queue::first_refusal(!(given == setup.ring), 10, no5);
     queue::first_refusal(!found.valid, 11, no10)
 }
@@ -145,7 +145,7 @@ pub fn piece(engine: EngineRecord, ring: &mut [u8], client: u32, piece: &[u8]) -
         × (now (ring .exit) ≡ pieceRing engine (now (ring .entry)) client (now (piece .entry))) ⌝ }
 {
     let size = piece.len();
-    let found = record::check(engine);
+    let found = validity::check(engine);
     let number = piece_refusal(engine, found, ring.len(), client, size);
     if number != 0 {
         return Reply {
@@ -179,8 +179,8 @@ fn cancel_refusal(engine: EngineRecord, client: u32) -> u32
 {
     let staged = engine.staged;
     let no14 = queue::first_refusal(!queue::staged_by(staged, client), 14, 0);
-    let no5 = queue::first_refusal(!record::is_open(engine, client), 5, no14);
-    queue::first_refusal(!record::is_valid(engine), 11, no5)
+    let no5 = queue::first_refusal(!windows::is_open(engine, client), 5, no14);
+    queue::first_refusal(!validity::is_valid(engine), 11, no5)
 }
 
 // Drops the staged batch. Bytes that were copied stay in the ring.

@@ -16,7 +16,7 @@ use Rattle.pixel.specs.Colours.{packed, unpacked}
 use Rattle.pixel.specs.declared.colour.Colour.{Colour}
 use Rattle.pixel.specs.declared.format.Format.{Format}
 use Rattle.pixel.specs.declared.format.Format.the-variants.{Argb8888, Rgb888, Rgb565}
-use Rattle.pixel.proofs.Stored.{Bytes, kept, narrow, packed-again, unpacked-packed}
+use Rattle.pixel.proofs.Stored.{packed-again}
 use Rattle.surface.specs.declared.Surface.{Surface}
 use Rattle.surface.specs.Surface.{rowLength, pixelStart, span}
 use Rattle.surface.specs.Memory.{mapi, overwriteRange, littleEndian, pixelAt}
@@ -126,10 +126,6 @@ module _ (f : Format) (memory : List ℕ) (i : ℕ) (c : Colour) where
   -- loaded again it has the colour that the format keeps
   pub loaded-stored : i + bytesPerPixel f ≤ length memory → loadPixel f (storePixel f memory i c) i ≡ unpacked (layoutOf f) (packed (layoutOf f) c)
   loaded-stored l = loaded-bytes f (storePixel f memory i c) i c (omega (arith, length-stored)) (stored-byte l)
-
-  -- the same, channel by channel
-  pub loaded-kept : Bytes c → i + bytesPerPixel f ≤ length memory → loadPixel f (storePixel f memory i c) i ≡ kept (layoutOf f) c
-  loaded-kept h l = loaded-stored l ∙ unpacked-packed (layoutOf f) (narrow f) c h
 
   -- and other pixels, of any format, are as they were
   pub loaded-else : (g : Format) (k : ℕ) → (k + bytesPerPixel g ≤ i) ⊎ (i + bytesPerPixel f ≤ k) → loadPixel g (storePixel f memory i c) k ≡ loadPixel g memory k

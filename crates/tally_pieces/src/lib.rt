@@ -16,7 +16,7 @@ ghost use Rattle.tally.specs.Running.{plus, taskPlus, ranPlus, unscoredPlus, su
 ghost use Rattle.tally.specs.Tally.{fedBy, heldBy, Stands, Feeds};
 use acceptance::Submitted;
 use batch::WalkStep;
-use batch::next_task;
+use decoder::next_task;
 use records::Edition;
 use records::Found;
 use register::Bank;

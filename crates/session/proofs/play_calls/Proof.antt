@@ -5,8 +5,8 @@ use native.Mathlib.Omega.{arith}
 use lib.ListN.{length, take, drop}
 use borrow.Author.Needs.{needs}
 use Rattle.claims.specs.Engine.{mkState}
-use Rattle.session.specs.Script.{parsed, parseCall}
-use Rattle.session.specs.Parsing.{callOf}
+use Rattle.script.specs.Script.{parsed, parseCall}
+use Rattle.script.specs.Parsing.{callOf}
 use Rattle.session.proofs.Going.{Going, going-start, going-next, going-end, rest-is, decode-end, decode-none, found-next}
 use Rattle.session.proofs.play_calls.Statement.{statement}
 use Rattle.session.proofs.play_calls.Tie as tie

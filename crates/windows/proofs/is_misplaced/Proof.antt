@@ -1,0 +1,39 @@
+use lib.ListN.{getD}
+use borrow.Author.Needs.{needs}
+use borrow.Author.Tests.{not-true, not-false}
+use Rattle.record.specs.Clients.{noClient}
+use Rattle.windows.proofs.is_misplaced.Statement.{statement}
+use Rattle.windows.proofs.is_misplaced.Tie as tie
+
+mul-client : tie.Need-mul-client
+mul-client c = search needs
+
+array-copy-out-client : tie.Need-array-copy-out-client
+array-copy-out-client c = search needs
+
+returns : tie.Need-returns
+returns c =
+    let st = c .before .before .before in
+    rw (not-true (getD (st .args .t2) (st .args .place) noClient .opened) (c .if1 .taken))
+
+add-bad-window : tie.Need-add-bad-window
+add-bad-window c = search needs
+
+bad-window-requires : tie.Need-bad-window-requires
+bad-window-requires c κs = search needs
+
+returns-2 : tie.Need-returns-2
+returns-2 c =
+    let st = c .before .before .before .before in
+    rw (c .bad-window .ensures, not-false (getD (st .args .t2) (st .args .place) noClient .opened) (c .before .if1 .left))
+
+pub is-misplaced-spec : {M : Type 1} → statement M
+is-misplaced-spec =
+    tie.close
+    (tie.spec
+    mul-client
+    array-copy-out-client
+    returns
+    add-bad-window
+    bad-window-requires
+    returns-2)
