@@ -23,7 +23,7 @@ decided : (c : tie.Start Inv-loop μ-loop) →
     ≡ batchRules (c .args .engine)
 decided c = rw (c .pre .2) (walk-rules (c .args .engine) _ _ _ _ _ _)
 
--- what the test of a batch tells
+-- what the test of a batch gives
 told : (c : tie.After-fits-in Inv-loop μ-loop) → c .fits-in .result ≡ fitsIn (c .before .before .before .before .before .before .before .before .before .before .args .engine .setup .ring) (isOpen (c .before .before .before .before .before .before .before .before .before .before .args .engine)) (c .before .before .before .before .before .before .before .loop .offset) (c .before .before .before .before .before .before .before .loop .room) (c .before .before .batch-of .result)
 told c = c .fits-in .ensures ∙ rw (c .before .is-open .ensures)
 
