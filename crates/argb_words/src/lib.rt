@@ -1,4 +1,4 @@
-// ARGB8888 pixels as words. Such a pixel is stored as the very word that stands for its colour.
+// ARGB8888 pixels as words. The four bytes of such a pixel, low byte first, are the word of its colour, so no conversion is needed.
 ghost use mathlib.Core.Path.{_≡_};
 ghost use Prim.Native.Nat.{_+_, _≤_};
 ghost use lib.ListN.{length};

@@ -22,7 +22,7 @@ use Rattle.record_bytes.specs.Written.{bytesOf, written}
 use Rattle.record_bytes.proofs.Cases.{valid-record, record-size, written-whole}
 use Rattle.calls.specs.Calls.{SetsUp, Told, Opens, Submits, Done, Begins, ToldTwo, HandsOver, Cancels, Closes, Pends}
 
--- ---- what tell does
+-- ---- what the words of an answer mean, refused or not
 
 module _ (before after : List ℕ) where
   pub unless-not : (n : ℕ) → (n ≡ 0 → ⊥) → unlessRefused n before after ≡ before

@@ -1,5 +1,5 @@
 -- The reference model at the real definitions of reading, judging and drawing: what holds of it over any list of calls. The words are those
--- of crate model, specs/Properties. No premise is left over.
+-- of crate model, specs/Properties. There is no hypothesis.
 use mathlib.Core.List.{List}
 use Prim.Native.Nat.{ℕ}
 use Rattle.register.specs.Bank.{resetBank}

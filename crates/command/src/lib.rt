@@ -33,8 +33,8 @@ pub fn complain(what: &[u8], why: &[u8]) -> Printed
     }
 }
 
-// The number that an argument's text spells; that it spells none is reported, with the argument's name. One that was too long for its buffer is an empty
-// text (`os::arg`), and so none.
+// The number that an argument's text is; that it is none is reported, with the argument's name. An argument that was too long for its buffer is an empty
+// text (`os::arg`), and so no number.
 pub fn number_in(text: &[u8], name: &[u8]) -> ParsedNumber
     ensures { λ r. ⌜ r ≡ parseNumber (now (text .entry)) ⌝ }
 {

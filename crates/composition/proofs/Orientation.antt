@@ -35,7 +35,7 @@ equal a b h = record {
       (λ x y u v. ap (colourAt s memory) (h .source (sizeOf s) (record { x = x; y = y }) (rw (f .size) (record { across = u; down = v }))));
 }
 
--- ---- another orientation: a picture of 2 by 2 that tells
+-- ---- another orientation: a picture of 2 by 2 that shows the difference
 
 -- the pixels 1, 2, 3 and 4, and room for them
 memory : List ℕ

@@ -1,6 +1,6 @@
 // A replay file read for its answers, and the answers written to standard output. No contract can say which bytes the system reads,
-// or what it does with those that it is to write; that the inquiry stands for some bytes is proved, and that what is handed over to be
-// written is the line of the answer.
+// or what it does with those that it is to write; that the inquiry stands for some bytes is proved, that the lent line holds the text of the
+// answer, and that as many bytes are handed over to be written.
 ghost use Rattle.answer_lines.specs.Lines.{touchedLine, faultLine, Types};
 ghost use Rattle.inquiry_io.specs.Reached.{Reached, Reads};
 use command::Printed;

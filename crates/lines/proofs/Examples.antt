@@ -70,7 +70,7 @@ pub cut-body : records First (1 ∷ 0 ∷ 0 ∷ 0 ∷ 2 ∷ 3 ∷ []) ≡ fileEn
 unfolding records recordsFrom be32At
 cut-body = refl
 
--- a length of 0, and one of 32,770, answered before the body is missed; 32,769 is allowed
+-- a length of 0, and one of 32,770: an invalid length is reported even if the body is missing; 32,769 is allowed
 pub no-length : records First (1 ∷ 0 ∷ 0 ∷ 0 ∷ 0 ∷ []) ≡ fileEnds badRecord
 unfolding records recordsFrom be32At
 no-length = refl

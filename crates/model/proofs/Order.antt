@@ -57,7 +57,7 @@ spared setup ps G i =
     (λ (n : (k : ℕ) → ¬ (WindowStable ps k i)). (0, λ j _. n j))
     (holder ps i)
 
--- ---- events replayed, for one client: what it leaves, and what it is told of its batches
+-- ---- events replayed, for one client: what it leaves, and what is answered of its batches
 
 module _ (way : BatchSemantics) (common : ℕ) where
   abbrev drawn : ℕ → List ℕ → Model → Model
@@ -98,7 +98,7 @@ module _ (way : BatchSemantics) (L : Confined way) (setup : Setup) (ring : ℕ) 
     size : length m ≡ length (world .memory)
     bytes : (i : ℕ) → Spared ps k i → byte m i ≡ byte (world .memory) i
 
-  -- what it replays to, and is told, of these events; told and final are of the calls
+  -- what it replays to, and is answered, of these events; told and final are of the calls
   abbrev Follows : List Event → List Answer → (finalModel world : Model) → Type 0
   Follows es same-answers finalModel world =
       Shadow (finalModel .places) (finalModel .memory) (play way (setup .common) (seenBy k es) world) × (verdictsOf k same-answers ≡ judged way (setup .common) (seenBy k es) world)

@@ -72,7 +72,7 @@ numeral-whole largest value at (byte ∷ digits) rest d h s =
 
 -- ---- all of a text
 
--- it is digits that spell this number, and that is not too large
+-- it is digits that stand for this number, and that is not too large
 pub record Whole (largest high : ℕ) (text : List ℕ) (value : ℕ) : Type 0 where
   pub digits : allDigits text ≡ true
   pub spelt : value ≡ decimalValue high text

@@ -59,7 +59,7 @@ pub itself : (t : Transform) → SameOrientation (orientation t) t
 unfolding orientation opposite
 itself t = split (orientation t) t (each (λ (t : Transform). either-one (orientation t) t) tt t)
 
--- a number that no two settings of different orientation share tells them apart
+-- a number that no two settings of different orientation share distinguishes them
 pub tells : (seen : Transform → ℕ) → T (every (λ (a : Transform). every (λ (b : Transform). either-one a b || not (eqb (seen a) (seen b))))) →
     (a b : Transform) → seen a ≡ seen b → SameOrientation a b
 tells seen all a b e =

@@ -77,7 +77,7 @@ turned a b m = record { y = m .v; v = m .y; first = m .second; second = m .first
 pub rows-turned : (a b : Surface) → rowsOverlap a b ≡ rowsOverlap b a
 rows-turned a b = exactly b a (rowsOverlap a b) (λ e. turned a b (meeting a b e)) (λ m. meeting-true a b (turned b a m))
 
--- ---- b begins no earlier, and both have the same stride: row r of a and the first of b tell
+-- ---- b begins no earlier, and both have the same stride: row r of a and the first of b decide
 
 module _ (a b : Surface) (o : StartsNoLater a b) where
   -- row r is the first that ends past b's first byte, or all rows of a lie at one place

@@ -1,4 +1,4 @@
-// Batches in the ring: one read as an unbroken run of words, one copied in.
+// Batches in the ring: one read as a sequence of words, whether or not it wraps, one copied in.
 ghost use mathlib.Core.Path.{_≡_};
 ghost use Prim.Native.Nat.{_+_, _≤_, _<_};
 ghost use mathlib.Core.Bool.{_&&_};
@@ -70,7 +70,7 @@ fn word_at(ring: &[u8], offset: usize, size: usize, k: usize) -> Read
     ))
 }
 
-// One batch in the ring, shown as an unbroken run of words.
+// One batch in the ring, shown as a sequence of words, whether or not it wraps.
 pub struct Reader<'a> {
     pub ring: &'a [u8],
     pub offset: usize,

@@ -24,7 +24,7 @@ use Rattle.lanes.specs.Lanes.{Done}
 use Rattle.row_copy.specs.Held.{HoldsPixels}
 use Rattle.byte_rows.specs.Apart.{movedByte}
 
--- ---- the number that bytes spell
+-- ---- the number that bytes hold
 
 abbrev AreBytes : List ℕ → Type 0
 AreBytes xs = (k : ℕ) → k < length xs → getD xs k 0 < 256

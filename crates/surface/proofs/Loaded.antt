@@ -29,7 +29,7 @@ use Rattle.surface.proofs.Rows.{turn-rows}
 use Rattle.surface.proofs.Pixels.{pixel-same, pixel-shift}
 use Rattle.surface.proofs.Outside.{pixel-in-row, pixel-in-span, inside-row, length-drawnOn}
 
--- ---- what the low bytes of a number spell
+-- ---- the number that the low bytes of a number hold
 
 -- byte k + 1 of a number is byte k of what is left without its lowest
 pub byte-next : (n k : ℕ) → byteOf n (suc k) ≡ byteOf (n / 256) k

@@ -1,4 +1,4 @@
--- Laws of stored pixels: the number that bytes spell, pixels that are as they were, pixels of a part, and the bytes of a row.
+-- Laws of stored pixels: the number that bytes hold, pixels that are as they were, pixels of a part, and the bytes of a row.
 use mathlib.Core.Path.{_≡_, sym, ap, _∙_}
 use mathlib.Core.List.{List}
 use Prim.Native.Nat.{ℕ, zero, suc, _+_, _-_, _*_, _/_, _%_, _≤_, _<_}
@@ -14,7 +14,7 @@ use Rattle.surface.proofs.Mapi.{mapi-ext}
 use Rattle.surface.proofs.Parts.{Side, before, inside, past, side, within-before, within-in, within-past, all-within}
 use Rattle.surface.proofs.Rows.{rows-before, rows-hit, rows-later}
 
--- ---- the number that bytes spell
+-- ---- the number that bytes hold
 
 -- one byte more, from the highest down
 pub number-step : (xs : List ℕ) (k : ℕ) → 0 < k → k ≤ length xs → littleEndian (drop (k - 1) xs) ≡ getD xs (k - 1) 0 + 256 * littleEndian (drop k xs)
@@ -23,7 +23,7 @@ number-step xs (suc j) z h =
     let e : suc j - 1 ≡ j = omega arith in
     rw e (ap littleEndian (drop-cons xs j 0 h))
 
--- the part that was lent to read a pixel spells that pixel
+-- the part that was lent to read a pixel holds that pixel
 pub pixel-part : (b k i j : ℕ) (xs : List ℕ) → k ≡ b → i ≡ j → littleEndian (midOf i k xs) ≡ pixelAt b xs j
 unfolding pixelAt
 pixel-part b k i j xs e q = rw (e, q)

@@ -9,7 +9,7 @@ use Rattle.overlap.proofs.Overlap.{First, near, flat, far-off, first-do
 use Rattle.overlap.proofs.shares_rows.Statement.{statement}
 use Rattle.overlap.proofs.shares_rows.Tie as tie
 
--- y is the row that tells
+-- y is the row that decides
 first : (c : tie.After-row-known) → First (c .before .before .before .before .before .before .before .args .first) (c .before .before .before .before .before .before .before .args .later) (c .before .before .before .before .before .before .before .pre) (c .before .if1 .y)
 first c =
     let s = c .before .before .before .before .before .before .before in

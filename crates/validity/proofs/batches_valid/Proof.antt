@@ -24,7 +24,7 @@ decided : (c : tie.Start Inv-loop μ-loop) →
     ≡ batchRules (c .args .engine)
 decided c = rw (c .pre .2) (walk-rules (c .args .engine) _ _ _ _ _ _)
 
--- what the test of a batch tells
+-- what the test of a batch gives
 told : (c : tie.After-fits-in Inv-loop μ-loop) → let c₇ = c .before .before .before .before .before .before .before in let engine = c₇ .before .before .before .args .engine in
     c .fits-in .result ≡ fitsIn (engine .setup .ring) (isOpen engine) (c₇ .loop .offset) (c₇ .loop .room) (c .before .before .batch-of .result)
 told c = c .fits-in .ensures ∙ rw (c .before .is-open .ensures)

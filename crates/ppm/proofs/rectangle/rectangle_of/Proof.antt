@@ -33,7 +33,7 @@ good c =
 fits : (c : tie.Else1) → (c .before .before .before .args .width ≤ 4096) × (c .before .before .before .args .height ≤ 4096) × (c .before .before .before .args .stride < 65536)
 fits c = sized _ _ _ (good c)
 
--- the run of bytes that the surface is held to is all of the memory
+-- the range of bytes that the surface must lie in is all of the memory
 lies : (c : tie.After-is-inside) →
     let a = c .before .before .before .before .before .args in
     containedIn (span (surfaceOf (a .address) (a .stride) (a .width) (a .height) (a .format))) (rangeOf 0 65536) ≡ c .is-inside .result
