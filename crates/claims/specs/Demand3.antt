@@ -66,7 +66,7 @@ module _ (setup : Setup) (ring : List ℕ) where
       pub every-answer : answersOf calls (initialState setup ring memory) ≡ answers (batchSemantics setup) setup (length ring) calls (initialModel memory)
       pub every-byte : finalState .memory ≡ finalModel .memory
 
-    -- d, what is promised of a batch that the call makes ready: its completion is among the first eight that the later calls answer
+    -- d, what is promised of a batch that the call makes ready (01, "Engine, desks, queue"): its completion is among the first eight that later calls answer
     pub record Completed (later : List Call) (call : Call) (ticket : ℕ) : Type 0 where
       pub client : ℕ
       pub own : HandsIn call client

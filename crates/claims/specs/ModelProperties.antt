@@ -17,7 +17,7 @@ use Rattle.claims.specs.BatchSemantics.{semanticsFrom}
 abbrev pub batchSemantics : Setup → BatchSemantics
 batchSemantics setup = semanticsFrom (resetBank (setup .reset))
 
--- the model of this set up as a machine; ring: the length of the lent ring
+-- the model of this set up as a machine that answers calls (01, "The book of demand 3"); ring: the length of the lent ring
 abbrev pub setUpModel : Setup → (ring : ℕ) → Machine
 setUpModel setup ring = modelMachine (batchSemantics setup) setup ring
 

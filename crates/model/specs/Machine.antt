@@ -68,10 +68,11 @@ module _ (machine : Machine) where
         ≡ machine .perform (submit client (flatten pieces ++ last)) s
 
   module _ (before : List Call) (w : Window) (start : machine .State) where
-    -- The state as the opening after `before` leaves it, and as the calls `during` leave that.
+    -- The state as the opening after `before` leaves it: the start of a tenancy (02, 11).
     abbrev pub enteredState : machine .State
     enteredState = machine .next (machine .perform (opens w) (machine .after before start))
 
+    -- And as the calls `during` leave that.
     abbrev pub leftState : (during : List Call) → machine .State
     leftState during = machine .after during enteredState
 
@@ -88,13 +89,15 @@ module _ (machine : Machine) where
 
 -- way, setup and ring: how batches are judged and drawn, the set up, and the length of the lent ring; memory: the lent memory at the start.
 module _ (way : BatchSemantics) (setup : Setup) (ring : ℕ) (calls : List Call) (memory : List ℕ) where
-  -- Short for the model after the calls, for a client's tenancy at the end, and for what calls from the start on closed.
+  -- Short for the model after the calls (01, "The book of demand 3").
   abbrev pub finalModel : Model
   finalModel = modelAfterAll way setup ring calls memory
 
+  -- Short for a client's tenancy at the end (02, 11).
   abbrev pub CurrentTenancy : (client : ℕ) → Type 0
   CurrentTenancy client = Current way setup ring (initialModel memory) calls client
 
+  -- Short for the windows that calls from the start on closed (02, 11).
   abbrev pub closedBefore : List Call → List Window
   closedBefore before = closed way setup ring before (initialModel memory)
 
