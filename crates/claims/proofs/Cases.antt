@@ -27,7 +27,8 @@ use Rattle.model.specs.Windows.{Window}
 use Rattle.model.specs.Calls.{Call, opens, submit, run, pending, begin, piece, cancel, close, opened, accepted, completed, ready, done as silent, refused}
 use Rattle.claims.specs.BatchSemantics.{completionStatusOf}
 use Rattle.claims.specs.Engine.{State, mkState, CallResult, answerOrRefusal, completion, pieceTold, performCall}
-use Rattle.claims.specs.Demand1.{refusalTableOf, RefusalNoOp}
+use Rattle.model.specs.Machine.{RefusalNoOp}
+use Rattle.claims.specs.Demand1.{refusalTableOf}
 use Rattle.claims.specs.Demand2.{executed}
 
 -- the window as the record holds it
@@ -166,5 +167,5 @@ answers (piece client bytes) s k e = go (isLast (s .engine .staged) (length byte
 answers (cancel client) s k e = let z : _≡_ {A = ℕ} 0 1 = cc in omega arith
 answers (close client) s k e = let z : _≡_ {A = ℕ} 0 1 = cc in omega arith
 
-pub harmless : (c : Call) (s : State) → RefusalNoOp c s
+pub harmless : (c : Call) (s : State) → RefusalNoOp (performCall c s .answer) s (performCall c s .after)
 harmless c s = rw (by-number c s) (quiet (number c s) s (done c s) (answers c s))

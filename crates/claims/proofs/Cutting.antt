@@ -25,8 +25,9 @@ use Rattle.queue.proofs.Validity.{Sized, few-taken, staged-valid}
 use Rattle.queue.proofs.Submitted.{submit-addable}
 use Rattle.model.specs.Calls.{Setup, Call, submit, begin, piece, accepted, missing}
 use Rattle.claims.specs.Engine.{State, mkState, CallResult, pieceTold, performCall, stateAfter, SetUpAccepted}
+use Rattle.model.specs.Machine.{Cutting}
 use Rattle.claims.specs.Demand1.{refusalTableOf}
-use Rattle.claims.specs.Demand3.{finalState, Cutting}
+use Rattle.claims.specs.Demand3.{engineMachine, finalState}
 use Rattle.claims.proofs.Cases.{number, done, either, by-number}
 use Rattle.claims.proofs.Simulation.{at-end}
 
@@ -128,7 +129,7 @@ module _ (s : State) (sized : Sized (s .engine)) (client n : ℕ) (z : number (b
       ∙ ap (λ (q : List ℕ). mkState (upTo 0) q (s .memory)) (sym (copied-same (s .ring) (writeOffset e) 0 starts (omega arith)))
 
 pub cutting : (setup : Setup) (ring : List ℕ) (A : SetUpAccepted setup) (calls : List Call) (memory : List ℕ) (client : ℕ) (pieces : List (List ℕ)) (last : List ℕ) →
-    Cutting setup ring calls memory client pieces last
+    Cutting engineMachine client pieces last (finalState setup ring calls memory)
 unfolding stateAfter
 cutting setup ring A calls memory client pieces last =
     let s : State = finalState setup ring calls memory in

@@ -1,5 +1,5 @@
 -- An accepted batch is completed in time: the completions name the executed batches, in order.
-use mathlib.Core.Path.{_≡_, refl, ap, sym, _∙_}
+use mathlib.Core.Path.{_≡_, ap, sym, _∙_}
 use mathlib.Core.List.{List, [], _∷_, _++_, List·Memᴰ, List·Memᴰ·head, List·Memᴰ·tail, List·Memᴰ·not-nil, List·Memᴰ·cases-cons}
 use mathlib.Core.Logic.{_⊎_, inl, inr}
 use Prim.Native.Nat.{ℕ, zero, suc}
@@ -15,7 +15,8 @@ use Rattle.model.proofs.Tests.{cond-cases}
 use lib.Dec.{eqb}
 use Rattle.claims.specs.ModelProperties.{batchSemantics}
 use Rattle.claims.specs.Engine.{performCall, SetUpAccepted}
-use Rattle.claims.specs.Demand3.{completedOf, finalState, CompletedSoon, BoundedWaiting}
+use Rattle.model.specs.Machine.{BoundedWaiting}
+use Rattle.claims.specs.Demand3.{engineMachine, completedOf, finalState, HandsIn, submitted, last-piece, Completed}
 use Rattle.claims.proofs.ModelProperties.{of-model}
 use Rattle.claims.proofs.Simulation.{step-simulates, calls-simulate, at-end}
 
@@ -74,15 +75,15 @@ module _ (way : BatchSemantics) (setup : Setup) (ring : ℕ) where
 
 -- ---- and the engine answers as the model does
 
--- the batch that a call hands in is of the client that the call names
-submit-own : (model : Model) (client : ℕ) (bytes : List ℕ) (b : Batch) → HandedIn model (submit client bytes) b → b .client ≡ client
-submit-own model client bytes b (whole c t x) = refl
+-- what makes a batch ready in the model hands it in for the client that the call names
+own : (model : Model) (call : Call) (b : Batch) → HandedIn model call b → HandsIn call (b .client)
+own model call b (whole client ticket bytes) = submitted client bytes
+own model call b (pieces client ticket total before bytes e) = last-piece client bytes
 
-piece-own : (model : Model) (client : ℕ) (bytes : List ℕ) (b : Batch) → HandedIn model (piece client bytes) b → b .client ≡ client
-piece-own model client bytes b (pieces c t total before x e) = refl
-
-of-client : (b : Batch) (client ticket : ℕ) (told : List Answer) → b .client ≡ client → b .ticket ≡ ticket → Told b told → (v : CompletionStatus) × List·Memᴰ (completed client ticket v) told
-of-client b client ticket told c t x = rw (← c, ← t) x
+-- with the batch's ticket and the answers given otherwise
+among-answers : (b : Batch) (ticket : ℕ) (v : CompletionStatus) (told told′ : List Answer) → b .ticket ≡ ticket → told′ ≡ told →
+    List·Memᴰ (completed (b .client) (b .ticket) v) (take 8 (completedOf told)) → List·Memᴰ (completed (b .client) ticket v) (take 8 (completedOf told′))
+among-answers b ticket v told told′ t same m = rw (same, ← t) m
 
 module _ (setup : Setup) (ring : List ℕ) (A : SetUpAccepted setup) (calls later : List Call) (memory : List ℕ) where
   abbrev n : ℕ
@@ -91,17 +92,16 @@ module _ (setup : Setup) (ring : List ℕ) (A : SetUpAccepted setup) (calls late
   abbrev model : Model
   model = modelAfterAll (batchSemantics setup) setup n calls memory
 
-  soon : (call : Call) (client : ℕ) → ((b : Batch) → HandedIn model call b → b .client ≡ client) → CompletedSoon setup ring calls memory call client later
-  soon call client own ticket a h =
+  pub in-time : BoundedWaiting engineMachine (finalState setup ring calls memory) later (Completed setup ring calls memory later)
+  in-time call ticket a h =
       let first : Step = step (batchSemantics setup) setup n call model in
       let q = step-simulates setup n call model (finalState setup ring calls memory) (at-end setup ring A calls memory) in
       let same = calls-simulate setup n later (first .after) (performCall call (finalState setup ring calls memory) .after) (q .1) .0 in
       let among = of-model setup n .in-time calls later memory call ticket (sym (q .0) ∙ a) (rw same at h) in
       let t = named 8 (among .batch) (all-named (batchSemantics setup) setup n later (first .after)) (among .soon) in
-      rw same (of-client (among .batch) client ticket _ (own (among .batch) (among .own)) (among .numbered) t)
-
-  pub in-time : BoundedWaiting setup ring calls memory later
-  in-time = record {
-    submitted = λ client bytes. soon (submit client bytes) client (submit-own model client bytes);
-    last-piece = λ client bytes. soon (piece client bytes) client (piece-own model client bytes);
-  }
+      record {
+        client = among .batch .client;
+        own = own model call (among .batch) (among .own);
+        status = t .0;
+        soon = among-answers (among .batch) ticket (t .0) _ _ (among .numbered) same (t .1);
+      }

@@ -20,5 +20,6 @@ pub mod Theorem
 pub mod Freed
 pub mod ClosedPlaces
 pub mod Queue
+pub mod EitherEngine
 pub mod Order
 pub mod WorkedExamples

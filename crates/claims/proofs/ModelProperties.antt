@@ -17,5 +17,6 @@ of-model setup ring =
       in-order = c .in-order;
       in-time = c .in-time;
       harmless = c .harmless;
+      quiet = c .quiet;
       cutting = c .cutting;
     }

@@ -20,6 +20,7 @@ use Rattle.queue.specs.Refusals.{RefusalRow, _when_, firstRefusal, setUpTable, 
 use Rattle.queue.specs.Calls.{setUpResult}
 use Rattle.engine.specs.Run.{runTable, oldest, boundsOfClient, oldestWords, resetOf, oldestVerdict, withoutOldest}
 use Rattle.model.specs.Calls.{Call, opens, submit, run, pending, begin, piece, cancel, close, completed, refused}
+use Rattle.model.specs.Machine.{RefusalNoOp}
 use Rattle.claims.specs.Engine.{State, mkState, performCall}
 
 -- the rows of the paper's table that a call can be refused by, in its order
@@ -44,17 +45,13 @@ encoderTable form size =
 abbrev pub standing : State → List Task
 standing s = tasksDrawn (decodeBatch (boundsOfClient (s .engine) (oldest (s .engine) .client)) (resetOf (s .engine)) (oldestWords (s .engine) (s .ring)))
 
--- a refused call leaves record, ring and memory as they were, whatever they are
-abbrev pub RefusalNoOp : Call → State → Type 0
-RefusalNoOp call s = (number : ℕ) → performCall call s .answer ≡ refused number → performCall call s .after ≡ s
-
 -- the eight calls on a record
 pub record OfCalls (s : State) : Type 0 where
   -- "A refusal comes exactly under its listed condition, in the listed order": it is the first row whose condition holds; without one there is none
   pub listed : (call : Call) (n : ℕ) → ¬ (n ≡ 0) → firstRefusal (refusalTableOf call s) ≡ n → performCall call s .answer ≡ refused n
   pub only : (call : Call) (n : ℕ) → performCall call s .answer ≡ refused n → (firstRefusal (refusalTableOf call s) ≡ n) × ¬ (n ≡ 0)
-  -- "and changes nothing"
-  pub harmless : (call : Call) → RefusalNoOp call s
+  -- "and changes nothing": a refused call leaves record, ring and memory as they were, whatever they are
+  pub harmless : (call : Call) → RefusalNoOp (performCall call s .answer) s (performCall call s .after)
   -- a faulty batch "leaves with fault number, place, status", and "tasks before the faulty one stand, and the status word carries their number in the upper
   -- half, finish bit clear" (02, 5): a run that is not refused, and finds a fault. Memory after is memory with these tasks drawn, and they are that many
   pub faulty : (tasks : ℕ) (fault : Fault) (place : ℕ) → firstRefusal (refusalTableOf run s) ≡ 0 → oldestVerdict (s .engine) (s .ring) ≡ Faulty tasks fault place →

@@ -48,6 +48,13 @@ pieceTold (Ready count) = ready count
 pieceTold Done = done
 pieceTold (Refused number) = refused number
 
+-- a run that gave this result and left this memory (01, "Engine, desks, queue": run)
+abbrev pub runCall : State → RunResult → (memory : List ℕ) → CallResult
+runCall s r memory = record {
+  answer = answerOrRefusal (refusalOf (r .outcome)) (completion (valuesOf (r .outcome)));
+  after = mkState (r .engine) (s .ring) memory;
+}
+
 unfoldable pub performCall : Call → State → CallResult
 performCall (opens w) s =
     let r : Reply = openResult (s .engine) (record { start = w .start; length = w .length }) in
@@ -58,12 +65,7 @@ performCall (submit client bytes) s =
       answer = answerOrRefusal (refusalNumberOf (r .answer)) (accepted (valueOf (r .answer)));
       after = mkState (r .engine) (submitRing (s .engine) (s .ring) client bytes) (s .memory);
     }
-performCall run s =
-    let r : RunResult = runResult (s .engine) (s .ring) (s .memory) in
-    record {
-      answer = answerOrRefusal (refusalOf (r .outcome)) (completion (valuesOf (r .outcome)));
-      after = mkState (r .engine) (s .ring) (runMemory (s .engine) (s .ring) (s .memory));
-    }
+performCall run s = runCall s (runResult (s .engine) (s .ring) (s .memory)) (runMemory (s .engine) (s .ring) (s .memory))
 performCall (pending client) s =
     let a : Told = pendingAnswer (s .engine) client in
     record { answer = answerOrRefusal (refusalNumberOf a) (ready (valueOf a)); after = s }

@@ -1,8 +1,9 @@
 -- Run (01, "Engine, desks, queue": "Run takes the oldest batch", judges it and draws it, "frees its slot and ring bytes, and answers desk,
 -- ticket, status, fault and place"), for every record, ring and memory. Of a faulty batch "tasks before the faulty one stand" (02, 5). A refusal
 -- leaves record and memory as they were. The ring is lent to be read: "Run changes no ring byte."
+use mathlib.Core.Path.{_≡_}
 use mathlib.Core.List.{List, [], _∷_}
-use mathlib.Core.Bool.{_||_, not}
+use mathlib.Core.Bool.{Bool, _||_, not}
 use Prim.Native.Nat.{ℕ, zero, suc, _+_, _-_}
 use lib.ListN.{length, getD, set}
 use lib.Dec.{eqb}
@@ -97,3 +98,7 @@ runResult engine ring memory =
 unfoldable pub runMemory : EngineRecord → (ring memory : List ℕ) → List ℕ
 runMemory engine ring memory =
     unlessRefused (runNumber engine ring memory) memory (drawBatch (boundsOfClient engine (oldest engine .client)) (resetOf engine) (oldestWords engine ring) memory)
+
+-- what a run gives and the memory that it leaves, by the slow engine or by the fast one (02, request 13): the same is promised of both
+abbrev pub RunBy : (slow : Bool) → EngineRecord → (ring memory : List ℕ) → RunResult → (left : List ℕ) → Type 0
+RunBy slow engine ring memory result left = (result ≡ runResult engine ring memory) × (left ≡ runMemory engine ring memory)

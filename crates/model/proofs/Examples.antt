@@ -20,7 +20,7 @@ use Rattle.model.specs.Model.{refuseOr, effect, step, answers, memories,
 use Rattle.model.specs.Tenancy.{batchesOf, entered}
 use Rattle.model.specs.Order.{Event, opening, closing, job, jobs, seenBy, Reordered, changes, submissions, AllRun, SameOutcome, Exchanged, ByHand}
 use Rattle.model.specs.Noninterference.{none, more, same, rewritten, repieced, LowEquivalent}
-use Rattle.model.specs.Properties.{Noninterference}
+use Rattle.model.specs.Machine.{modelMachine, Noninterference}
 use Rattle.model.proofs.Locality.{local-if, local-window}
 use Rattle.model.proofs.Theorems.{claims}
 
@@ -233,7 +233,7 @@ twins = record {
   bytes = other-bytes;
 }
 
-unmoved-so : Noninterference toy setup 128 0 earlier (window 12 10) later later′ memory memory′
+unmoved-so : Noninterference (modelMachine toy setup 128) 0 earlier (window 12 10) later later′ (initialModel memory) (initialModel memory′)
 unmoved-so = claims toy setup 128 .noninterference toy-confined 0 earlier (window 12 10) later later′ memory memory′ twins
 
 -- the tenancy's closing is accepted, so that from there on every answer and all of memory agree, though the two drew different bytes

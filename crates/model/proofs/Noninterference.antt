@@ -16,7 +16,7 @@ use Rattle.model.specs.Refusals.{refusalTable, refusal}
 use Rattle.model.specs.Model.{Step, closeStep, effect, step, answers, memories, after, closed, modelAfterAll}
 use Rattle.model.specs.Tenancy.{OpenThroughout, entered}
 use Rattle.model.specs.Noninterference.{Pointwise, none, more, LowEqualCall, same, rewritten, repieced, LowEqualAnswer, equal, verdicts, LowEquivalent}
-use Rattle.model.specs.Properties.{Noninterference}
+use Rattle.model.specs.Machine.{modelMachine, Noninterference}
 use Rattle.model.proofs.Tests.{by-eq, neither, contains-in, contains-append, apart-of}
 use Rattle.model.proofs.Refusals.{unless-both, OpenAllowed, CloseAllowed, close-allowed}
 use Rattle.model.proofs.Clients.{open-apart, next-in, stays-owned, kept-place}
@@ -253,7 +253,7 @@ module _ (way : BatchSemantics) (L : Confined way) (setup : Setup) (ring : ℕ) 
       (λ e. closed-level (close-allowed setup ring left d e))
       (λ k a. let z : _≡_ {A = ℕ} 0 1 = cc in absurd (omega arith))
 
-  pub noninterference : Noninterference way setup ring d before w during during′ m m′
+  pub noninterference : Noninterference (modelMachine way setup ring) d before w during during′ (initialModel m) (initialModel m′)
   unfolding answers memories after
   noninterference = record {
     answers-before =

@@ -25,5 +25,6 @@ claims way setup ring = record {
   in-order = queue.in-order way setup ring;
   in-time = queue.in-time way setup ring;
   harmless = refusals.harmless way setup ring;
+  quiet = refusals.quiet-refusal way setup ring;
   cutting = pieces.cutting way setup ring;
 }
