@@ -10,23 +10,8 @@ use Rattle.answers.proofs.outcome_words.Tie as tie
 small : (c : tie.After-offset) → (statusWordOf (c .before .before .outcome2 .given .0 .0 .verdict) ≤ 4294967295) × (faultOffsetOf (c .before .before .outcome2 .given .0 .0 .verdict) ≤ 4294967295)
 small c = completed-small _ _ (c .before .before .outcome2 .given .1) (c .before .before .before .before .pre)
 
-enum-known-outcome : tie.Need-enum-known-outcome
-enum-known-outcome c = search needs
-
-enum-known-outcome-2 : tie.Need-enum-known-outcome-2
-enum-known-outcome-2 c = search needs
-
-offset-requires : tie.Need-offset-requires
-offset-requires c κs = search needs
-
 cast-offset : tie.Need-cast-offset
 cast-offset c = omega (arith, c .offset .ensures, small c .1)
-
-status-requires : tie.Need-status-requires
-status-requires c κs = search needs
-
-number-requires : tie.Need-number-requires
-number-requires c κs = search needs
 
 returns : tie.Need-returns
 returns c = rw (c .before .outcome .given .1)
@@ -38,11 +23,11 @@ pub outcome-words-spec : {M : Type 1} → statement M
 outcome-words-spec =
     tie.close
     (tie.spec
-    enum-known-outcome
-    enum-known-outcome-2
-    offset-requires
+    (λ c. search needs)
+    (λ c. search needs)
+    (λ c κs. search needs)
     cast-offset
-    status-requires
-    number-requires
+    (λ c κs. search needs)
+    (λ c κs. search needs)
     returns
     returns-2)

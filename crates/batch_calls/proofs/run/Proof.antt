@@ -3,20 +3,8 @@ use borrow.Author.Needs.{needs}
 use Rattle.batch_calls.proofs.run.Statement.{statement}
 use Rattle.batch_calls.proofs.run.Tie as tie
 
-decode-requires : tie.Need-decode-requires
-decode-requires c κs = search needs
-
-run-requires : tie.Need-run-requires
-run-requires c κs = search needs
-
 write-completion-requires : tie.Need-write-completion-requires
 write-completion-requires c κs = ran-small _ _ _ _ (c .before .before .before .before .run .ensures .0)
-
-same-length : tie.Need-same-length
-same-length c = search needs
-
-same-length-2 : tie.Need-same-length-2
-same-length-2 c = search needs
 
 returns : tie.Need-returns
 returns c =
@@ -27,4 +15,10 @@ returns c =
 pub run-spec : {M : Type 1} → statement M
 run-spec =
     tie.close
-    (tie.spec decode-requires run-requires write-completion-requires same-length same-length-2 returns)
+    (tie.spec
+    (λ c κs. search needs)
+    (λ c κs. search needs)
+    write-completion-requires
+    (λ c. search needs)
+    (λ c. search needs)
+    returns)

@@ -19,9 +19,6 @@ fetch-along-requires c κs =
     let p = c .before .before .before .before .before .pre in
     record { inside = p .inside (ap isBuffer (c .before .enum-told .given .1)); across = p .across; down = p .down; room = p .room }
 
-same-length : tie.Need-same-length
-same-length c = search needs
-
 returns : tie.Need-returns
 unfolding sourceColour
 returns c =
@@ -30,15 +27,6 @@ returns c =
     λ x z.
     c .before .before .fetch-along .ensures x z
     ∙ sym (ap (λ (m : SourceMode). sourceModeColour m (a .source) (now (a .memory)) (sourcePixelOf (a .source .surface) (a .source .transform) x (a .y))) (t .enum-told .given .1))
-
-enum-told-2 : tie.Need-enum-told-2
-enum-told-2 c = search needs
-
-spread-requires : tie.Need-spread-requires
-spread-requires c κs = search needs
-
-same-length-2 : tie.Need-same-length-2
-same-length-2 c = search needs
 
 returns-2 : tie.Need-returns-2
 returns-2 c =
@@ -50,16 +38,10 @@ returns-2 c =
     ∙ (sym (ap (λ (m : SourceMode). uniformColour m (a .source) (a .y)) (t .enum-told2 .given .1))
     ∙ source-uniform (a .source) (now (a .memory)) x (a .y) (ap isUniform (t .enum-told2 .given .1)) (s .pre .upright))
 
-enum-told-3 : tie.Need-enum-told-3
-enum-told-3 c = search needs
-
 fetch-gradient-requires : tie.Need-fetch-gradient-requires
 fetch-gradient-requires c κs =
     let s = c .before .before .before .before .before in
     (s .pre .room, upright-across (s .args .source) (s .pre .upright (ap isBuffer (c .before .enum-told3 .given .1))) (s .args .width) (s .pre .across))
-
-same-length-3 : tie.Need-same-length-3
-same-length-3 c = search needs
 
 returns-3 : tie.Need-returns-3
 returns-3 c =
@@ -71,19 +53,10 @@ returns-3 c =
     c .before .before .fetch-gradient .ensures x z
     ∙ source-across (a .source) (now (a .memory)) x (a .y) is (s .pre .upright (ap isBuffer is))
 
-enum-told-4 : tie.Need-enum-told-4
-enum-told-4 c = search needs
-
 shaded-colour-requires : tie.Need-shaded-colour-requires
 shaded-colour-requires c κs =
     let s = c .before .before .before .before .before in
     upright-down (s .args .source) (s .pre .upright (ap isBuffer (c .before .enum-told4 .given .1))) (s .args .y) (s .pre .down)
-
-spread-requires-2 : tie.Need-spread-requires-2
-spread-requires-2 c κs = search needs
-
-same-length-4 : tie.Need-same-length-4
-same-length-4 c = search needs
 
 returns-4 : tie.Need-returns-4
 returns-4 c =
@@ -102,18 +75,18 @@ fetch-source-spec =
     (tie.spec
     enum-told
     fetch-along-requires
-    same-length
+    (λ c. search needs)
     returns
-    enum-told-2
-    spread-requires
-    same-length-2
+    (λ c. search needs)
+    (λ c κs. search needs)
+    (λ c. search needs)
     returns-2
-    enum-told-3
+    (λ c. search needs)
     fetch-gradient-requires
-    same-length-3
+    (λ c. search needs)
     returns-3
-    enum-told-4
+    (λ c. search needs)
     shaded-colour-requires
-    spread-requires-2
-    same-length-4
+    (λ c κs. search needs)
+    (λ c. search needs)
     returns-4)

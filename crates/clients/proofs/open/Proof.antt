@@ -11,14 +11,8 @@ use Rattle.clients.proofs.open.Tie as tie
 allowed : (c : tie.Else1) → OpenAllowed (c .before .before .args .engine) (record { start = c .before .before .args .start; length = c .before .before .args .length })
 allowed c = open-allowed (c .before .before .args .engine) (record { start = c .before .before .args .start; length = c .before .before .args .length }) (sym (c .before .open-refusal .ensures) ∙ c .if1 .left)
 
-open-refusal-requires : tie.Need-open-refusal-requires
-open-refusal-requires c κs = search needs
-
 returns : tie.Need-returns
 returns c = open-refused (c .before .before .args .engine) (record { start = c .before .before .args .start; length = c .before .before .args .length }) (c .before .open-refusal .result) (c .before .open-refusal .ensures) (c .if1 .taken)
-
-lowest-closed-requires : tie.Need-lowest-closed-requires
-lowest-closed-requires c κs = search needs
 
 -- the id is one of the four
 id-small : (c : tie.After-lowest-closed) → c .lowest-closed .result < 4
@@ -39,4 +33,10 @@ returns-2 c =
 
 pub open-spec : {M : Type 1} → statement M
 open-spec =
-    tie.close (tie.spec open-refusal-requires returns lowest-closed-requires cast-t10 with-client-requires returns-2)
+    tie.close (tie.spec
+    (λ c κs. search needs)
+    returns
+    (λ c κs. search needs)
+    cast-t10
+    with-client-requires
+    returns-2)

@@ -22,9 +22,6 @@ add-wrap-offset c =
     let s = c .before .before .before .before .before .before .before in
     rw (s .pre .5) (omega (arith, facts s .offset))
 
-wrap-offset-requires : tie.Need-wrap-offset-requires
-wrap-offset-requires c κs = search needs
-
 returns : tie.Need-returns
 returns c =
     let s = c .before .before .before .before .before .before .before .before in
@@ -34,4 +31,9 @@ returns c =
 
 pub without-oldest-spec : {M : Type 1} → statement M
 without-oldest-spec =
-    tie.close (tie.spec lower-requires freed-requires add-wrap-offset wrap-offset-requires returns)
+    tie.close (tie.spec
+    lower-requires
+    freed-requires
+    add-wrap-offset
+    (λ c κs. search needs)
+    returns)

@@ -11,18 +11,12 @@ use Rattle.fetch_rows.proofs.fetch_straight.Tie as tie
 returns : tie.Need-returns
 returns c = λ x z. absurd (not-suc-le-zero (rw (c .if1 .taken) at z))
 
-origin-requires : tie.Need-origin-requires
-origin-requires c κs = search needs
-
 fetch-row-requires : tie.Need-fetch-row-requires
 fetch-row-requires c κs =
     let s = c .before .before .before .before .before in
     let a = s .args in
     let p = s .pre .0 in
     (rw (c .origin .ensures) (side-by-side-in (a .s) (a .transform) (s .pre .1) (s .pre .2) (a .y) (a .width) _ (rw (s .pre .1) at (p .down)) (rw (s .pre .1) at (p .across)) (p .inside)), p .room)
-
-same-length : tie.Need-same-length
-same-length c = search needs
 
 returns-2 : tie.Need-returns-2
 unfolding colourAt
@@ -36,4 +30,9 @@ returns-2 c =
 
 pub fetch-straight-spec : {M : Type 1} → statement M
 fetch-straight-spec =
-    tie.close (tie.spec returns origin-requires fetch-row-requires same-length returns-2)
+    tie.close (tie.spec
+    returns
+    (λ c κs. search needs)
+    fetch-row-requires
+    (λ c. search needs)
+    returns-2)

@@ -15,15 +15,6 @@ use Rattle.fetch_rows.proofs.fetch_turned.Tie as tie
 returns : tie.Need-returns
 returns c = λ x z. absurd (not-suc-le-zero (rw (c .if1 .taken) at z))
 
-origin-requires : tie.Need-origin-requires
-origin-requires c κs = search needs
-
-pixel-stride-requires : tie.Need-pixel-stride-requires
-pixel-stride-requires c κs = search needs
-
-is-reversed-requires : tie.Need-is-reversed-requires
-is-reversed-requires c κs = search needs
-
 -- output pixel (x, y) is one of the rotated picture
 drawn : (c : tie.After-origin) (x : ℕ) → x < c .before .before .before .before .args .width →
     InPicture (rotatedSize (c .before .before .before .before .args .transform .rotation) (sizeOf (c .before .before .before .before .args .s)))
@@ -46,9 +37,6 @@ fetch-steps-requires c κs =
       room = s .pre .room;
     })
 
-same-length : tie.Need-same-length
-same-length c = search needs
-
 returns-2 : tie.Need-returns-2
 unfolding colourAt
 returns-2 c =
@@ -67,9 +55,9 @@ fetch-turned-spec =
     tie.close
     (tie.spec
     returns
-    origin-requires
-    pixel-stride-requires
-    is-reversed-requires
+    (λ c κs. search needs)
+    (λ c κs. search needs)
+    (λ c κs. search needs)
     fetch-steps-requires
-    same-length
+    (λ c. search needs)
     returns-2)

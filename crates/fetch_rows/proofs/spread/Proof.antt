@@ -12,27 +12,6 @@ use borrow.Author.Needs.{needs}
 use Rattle.fetch_rows.proofs.spread.Statement.{statement}
 use Rattle.fetch_rows.proofs.spread.Tie as tie
 
-mul-n : tie.Need-mul-n
-mul-n c = search needs
-
-sub-fill-words : tie.Need-sub-fill-words
-sub-fill-words c = search needs
-
-part-fill-words-start : tie.Need-part-fill-words-start
-part-fill-words-start c = search needs
-
-part-fill-words-end : tie.Need-part-fill-words-end
-part-fill-words-end c = search needs
-
-word-of-requires : tie.Need-word-of-requires
-word-of-requires c κs = search needs
-
-fill-words-requires : tie.Need-fill-words-requires
-fill-words-requires c κs = search needs
-
-same-length : tie.Need-same-length
-same-length c = search needs
-
 returns : tie.Need-returns
 returns c =
     let f = c .before .before .fill-words in
@@ -49,11 +28,11 @@ pub spread-spec : {M : Type 1} → statement M
 spread-spec =
     tie.close
     (tie.spec
-    mul-n
-    sub-fill-words
-    part-fill-words-start
-    part-fill-words-end
-    word-of-requires
-    fill-words-requires
-    same-length
+    (λ c. search needs)
+    (λ c. search needs)
+    (λ c. search needs)
+    (λ c. search needs)
+    (λ c κs. search needs)
+    (λ c κs. search needs)
+    (λ c. search needs)
     returns)

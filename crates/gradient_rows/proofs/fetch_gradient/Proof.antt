@@ -22,12 +22,6 @@ abbrev μ-loop : tie.MeasureT-loop
 loop-holds : tie.Need-loop-holds Inv-loop μ-loop
 loop-holds c = (search needs, below-none _, refl)
 
-mirror-requires : tie.Need-mirror-requires Inv-loop μ-loop
-mirror-requires c κs = search needs
-
-mul-store-word : tie.Need-mul-store-word Inv-loop μ-loop
-mul-store-word c = search needs
-
 -- the place is one of the row's
 below : (c : tie.After-mirror Inv-loop μ-loop) → c .mirror .result < c .before .before .before .before .args .n
 below c =
@@ -38,21 +32,6 @@ below c =
 
 cast-colour-at : tie.Need-cast-colour-at Inv-loop μ-loop
 cast-colour-at c = omega (arith, below (c .before))
-
-colour-at-requires : tie.Need-colour-at-requires Inv-loop μ-loop
-colour-at-requires c κs = search needs
-
-word-of-requires : tie.Need-word-of-requires Inv-loop μ-loop
-word-of-requires c κs = search needs
-
-store-word-requires : tie.Need-store-word-requires Inv-loop μ-loop
-store-word-requires c κs = search needs
-
-add-x : tie.Need-add-x Inv-loop μ-loop
-add-x c = search needs
-
-loop-less : tie.Need-loop-less Inv-loop μ-loop
-loop-less c = search needs
 
 loop-again : tie.Need-loop-again Inv-loop μ-loop
 loop-again c =
@@ -69,9 +48,6 @@ loop-again c =
       d .store-word .kept .0 ∙ l .inv .2,
     )
 
-same-length : tie.Need-same-length Inv-loop μ-loop
-same-length c = search needs
-
 returns : tie.Need-returns Inv-loop μ-loop
 returns c = λ x z. c .before .loop .inv .1 x (omega arith)
 
@@ -82,14 +58,14 @@ fetch-gradient-spec =
     Inv-loop
     μ-loop
     loop-holds
-    mirror-requires
-    mul-store-word
+    (λ c κs. search needs)
+    (λ c. search needs)
     cast-colour-at
-    colour-at-requires
-    word-of-requires
-    store-word-requires
-    add-x
-    loop-less
+    (λ c κs. search needs)
+    (λ c κs. search needs)
+    (λ c κs. search needs)
+    (λ c. search needs)
+    (λ c. search needs)
     loop-again
-    same-length
+    (λ c. search needs)
     returns)

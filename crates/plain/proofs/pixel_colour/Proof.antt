@@ -16,9 +16,6 @@ destination-colour-requires c κs =
     let a = s .args in
     destination-pixel (now (a .memory)) (a .task) (a .x) (a .y) (s .pre) (c .if1 .taken)
 
-composite-requires : tie.Need-composite-requires
-composite-requires c κs = search needs
-
 returns : tie.Need-returns
 returns c =
     let t = c .before .before in
@@ -34,4 +31,9 @@ returns-2 c =
 
 pub pixel-colour-spec : {M : Type 1} → statement M
 pixel-colour-spec =
-    tie.close (tie.spec source-colour-requires destination-colour-requires composite-requires returns returns-2)
+    tie.close (tie.spec
+    source-colour-requires
+    destination-colour-requires
+    (λ c κs. search needs)
+    returns
+    returns-2)

@@ -6,33 +6,15 @@ use borrow.Author.Needs.{needs}
 use Rattle.records.proofs.bytes_missing.Statement.{statement}
 use Rattle.records.proofs.bytes_missing.Tie as tie
 
-sub-result : tie.Need-sub-result
-sub-result c = search needs
-
 returns : tie.Need-returns
 returns c =
     let a = c .before .before .args in
     (have-short (a .edition) (a .held .now) (a .have) (omega arith) (c .if1 .taken), omega (arith, room-between (a .edition)))
 
-read-be32-requires : tie.Need-read-be32-requires
-read-be32-requires c κs = search needs
-
-cast-size : tie.Need-cast-size
-cast-size c = search needs
-
-bad-size-requires : tie.Need-bad-size-requires
-bad-size-requires c κs = search needs
-
 returns-2 : tie.Need-returns-2
 returns-2 c =
     let a = c .before .before .before .before .before .args in
     (have-bad (a .edition) (a .held .now) (a .have) (omega arith) (c .before .before .read-be32 .result) (c .before .before .read-be32 .ensures) (c .before .before .before .if1 .left) (sym (c .before .bad-size .ensures) ∙ c .if2 .taken), search needs)
-
-add-end : tie.Need-add-end
-add-end c = search needs
-
-sub-result-2 : tie.Need-sub-result-2
-sub-result-2 c = search needs
 
 returns-3 : tie.Need-returns-3
 returns-3 c =
@@ -53,13 +35,13 @@ pub bytes-missing-spec : {M : Type 1} → statement M
 bytes-missing-spec =
     tie.close
     (tie.spec
-    sub-result
+    (λ c. search needs)
     returns
-    read-be32-requires
-    cast-size
-    bad-size-requires
+    (λ c κs. search needs)
+    (λ c. search needs)
+    (λ c κs. search needs)
     returns-2
-    add-end
-    sub-result-2
+    (λ c. search needs)
+    (λ c. search needs)
     returns-3
     returns-4)

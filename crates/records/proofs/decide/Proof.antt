@@ -11,34 +11,16 @@ use Rattle.records.proofs.bad_size.Reads as bad-size-reads
 use Rattle.records.proofs.partly.Reads as partly-reads
 use Rattle.word.proofs.read_be32.Reads as read-be32-reads
 
-partly-requires : tie.Need-partly-requires
-partly-requires c κs = search needs
-
 returns : tie.Need-returns
 returns c =
     let s = c .before .before .before in
     (c .partly .ensures ∙ decides-short (s .args .edition) (s .args .held .now) (s .args .have) (omega arith) (s .args .used) (c .before .if1 .taken), rw (c .partly .ensures) tt, ap (λ (t : Taken). t .used) (c .partly .ensures))
-
-read-be32-requires : tie.Need-read-be32-requires
-read-be32-requires c κs = search needs
-
-cast-size : tie.Need-cast-size
-cast-size c = search needs
-
-bad-size-requires : tie.Need-bad-size-requires
-bad-size-requires c κs = search needs
 
 returns-2 : tie.Need-returns-2
 returns-2 c =
     let s = c .before .before .before .before .before in
     let bad = sym (c .before .bad-size .ensures) ∙ c .if2 .taken in
     (decides-bad (s .args .edition) (s .args .held .now) (s .args .have) (omega arith) _ (c .before .before .read-be32 .ensures) (c .before .before .before .if1 .left) (s .args .used) bad, tt, refl)
-
-add-end : tie.Need-add-end
-add-end c = search needs
-
-partly-requires-2 : tie.Need-partly-requires-2
-partly-requires-2 c κs = search needs
 
 returns-3 : tie.Need-returns-3
 returns-3 c =
@@ -58,13 +40,13 @@ pub decide-spec : {M : Type 1} → statement M
 decide-spec =
     tie.close
     (tie.spec
-    partly-requires
+    (λ c κs. search needs)
     returns
-    read-be32-requires
-    cast-size
-    bad-size-requires
+    (λ c κs. search needs)
+    (λ c. search needs)
+    (λ c κs. search needs)
     returns-2
-    add-end
-    partly-requires-2
+    (λ c. search needs)
+    (λ c κs. search needs)
     returns-3
     returns-4)

@@ -7,9 +7,6 @@ use Rattle.records.proofs.judge_version.Tie as tie
 use Rattle.records.proofs.judge_version.Reads as reads
 use Rattle.records.proofs.judge_version.Lts as lts
 
-version-requires : tie.Need-version-requires
-version-requires c κs = search needs
-
 returns : tie.Need-returns
 returns c = rw (eq-eqb (c .before .before .args .version) (versionOf (c .before .before .args .edition)) (c .if1 .taken ∙ c .before .version .ensures))
 
@@ -17,4 +14,7 @@ returns-2 : tie.Need-returns-2
 returns-2 c = rw (ne-eqb (c .before .before .args .version) (versionOf (c .before .before .args .edition)) (λ e. c .if1 .left (e ∙ sym (c .before .version .ensures))))
 
 pub judge-version-spec : {M : Type 1} → statement M
-judge-version-spec = tie.close (tie.spec version-requires returns returns-2)
+judge-version-spec = tie.close (tie.spec
+    (λ c κs. search needs)
+    returns
+    returns-2)

@@ -14,12 +14,6 @@ use Rattle.records.proofs.judge_version.Reads as judge-version-reads
 use Rattle.records.proofs.passed.Reads as passed-reads
 use Rattle.records.proofs.take_record.Reads as take-record-reads
 
-room-requires : tie.Need-room-requires
-room-requires c κs = search needs
-
-passed-requires : tie.Need-passed-requires
-passed-requires c κs = search needs
-
 returns : tie.Need-returns
 returns c =
     let a = c .before .before .before .before .before .args in
@@ -34,9 +28,6 @@ returns c =
 enum-told : tie.Need-enum-told
 enum-told c = search needs
 
-passed-requires-2 : tie.Need-passed-requires-2
-passed-requires-2 c κs = search needs
-
 returns-2 : tie.Need-returns-2
 returns-2 c =
     let c₅ = c .before .before .before .before .before in
@@ -49,25 +40,10 @@ returns-2 c =
       exactly .1,
     )
 
-shared-slice-read-judge-version : tie.Need-shared-slice-read-judge-version
-shared-slice-read-judge-version c = search needs
-
-judge-version-requires : tie.Need-judge-version-requires
-judge-version-requires c κs = search needs
-
-enum-told-2 : tie.Need-enum-told-2
-enum-told-2 c = search needs
-
 take-record-requires : tie.Need-take-record-requires
 take-record-requires c κs =
     let a = c .before .before .before .before .before .before .before .args in
     enough-both (a .edition) (a .reader) (a .held .now) (suffices-by (a .edition) (a .reader) (a .held .now) _ (c .before .before .before .before .room .ensures) _ (not-false _ (c .before .before .before .if1 .left)))
-
-enum-told-3 : tie.Need-enum-told-3
-enum-told-3 c = search needs
-
-passed-requires-3 : tie.Need-passed-requires-3
-passed-requires-3 c κs = search needs
 
 returns-3 : tie.Need-returns-3
 returns-3 c =
@@ -82,9 +58,6 @@ returns-3 c =
       exactly .0,
       exactly .1,
     )
-
-same-length : tie.Need-same-length
-same-length c = search needs
 
 returns-4 : tie.Need-returns-4
 returns-4 c =
@@ -110,19 +83,19 @@ pub take-spec : {M : Type 1} → statement M
 take-spec =
     tie.close
     (tie.spec
-    room-requires
-    passed-requires
+    (λ c κs. search needs)
+    (λ c κs. search needs)
     returns
     enum-told
-    passed-requires-2
+    (λ c κs. search needs)
     returns-2
-    shared-slice-read-judge-version
-    judge-version-requires
-    enum-told-2
+    (λ c. search needs)
+    (λ c κs. search needs)
+    (λ c. search needs)
     take-record-requires
-    enum-told-3
-    passed-requires-3
+    (λ c. search needs)
+    (λ c κs. search needs)
     returns-3
-    same-length
+    (λ c. search needs)
     returns-4
     returns-5)

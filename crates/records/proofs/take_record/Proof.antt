@@ -14,12 +14,6 @@ use Rattle.records.proofs.bytes_missing.Reads as bytes-missing-reads
 use Rattle.records.proofs.decide.Reads as decide-reads
 use Rattle.ring.proofs.copy_in.Reads as copy-in-reads
 
-bytes-missing-requires : tie.Need-bytes-missing-requires
-bytes-missing-requires c κs = search needs
-
-min-usize-requires : tie.Need-min-usize-requires
-min-usize-requires c κs = search needs
-
 slice-aggregate-copy-in : tie.Need-slice-aggregate-copy-in
 slice-aggregate-copy-in c =
     let c₇ = c .before .before .before .before .before .before .before in
@@ -30,15 +24,6 @@ copy-in-requires c κs =
     let c₇ = c .before .before .before .before .before .before .before in
     let size = length-take-le (c .before .before .min-usize .result) (c₇ .args .input .now) (omega arith) in
     record { starts = omega arith; fits = omega arith }
-
-add-decide : tie.Need-add-decide
-add-decide c = search needs
-
-decide-requires : tie.Need-decide-requires
-decide-requires c κs = search needs
-
-same-length : tie.Need-same-length
-same-length c = search needs
 
 returns : tie.Need-returns
 returns c =
@@ -58,11 +43,11 @@ pub take-record-spec : {M : Type 1} → statement M
 take-record-spec =
     tie.close
     (tie.spec
-    bytes-missing-requires
-    min-usize-requires
+    (λ c κs. search needs)
+    (λ c κs. search needs)
     slice-aggregate-copy-in
     copy-in-requires
-    add-decide
-    decide-requires
-    same-length
+    (λ c. search needs)
+    (λ c κs. search needs)
+    (λ c. search needs)
     returns)

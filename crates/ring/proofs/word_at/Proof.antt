@@ -30,9 +30,6 @@ answer c word e =
     let a = c .before .before .before .args in
     ap Word e ∙ sym (read-batch (a .ring .now) (a .offset) (a .size) (a .k) (inside c) (short c))
 
-word-count-requires : tie.Need-word-count-requires
-word-count-requires c κs = search needs
-
 returns : tie.Need-returns
 returns c =
     let a = c .before .before .before .args in
@@ -97,9 +94,6 @@ byte-at-requires-4 c κs =
     let c₅ = c .before .before .before .before .before in
     (inside c₅ .starts, omega (arith, inside c₅, short c₅))
 
-join-le32-requires : tie.Need-join-le32-requires
-join-le32-requires c κs = search needs
-
 returns-4 : tie.Need-returns-4
 unfolding le32At
 returns-4 c =
@@ -111,7 +105,7 @@ pub word-at-spec : {M : Type 1} → statement M
 word-at-spec =
     tie.close
     (tie.spec
-    word-count-requires
+    (λ c κs. search needs)
     returns
     mul-i
     sub-tail
@@ -128,5 +122,5 @@ word-at-spec =
     byte-at-requires-3
     add-byte-at-3
     byte-at-requires-4
-    join-le32-requires
+    (λ c κs. search needs)
     returns-4)

@@ -13,18 +13,6 @@ use borrow.Author.Needs.{needs}
 use Rattle.scanline.proofs.blend_row.Statement.{statement}
 use Rattle.scanline.proofs.blend_row.Tie as tie
 
-mul-n : tie.Need-mul-n
-mul-n c = search needs
-
-sub-mix-row : tie.Need-sub-mix-row
-sub-mix-row c = search needs
-
-part-mix-row-start : tie.Need-part-mix-row-start
-part-mix-row-start c = search needs
-
-part-mix-row-end : tie.Need-part-mix-row-end
-part-mix-row-end c = search needs
-
 mix-row-requires : tie.Need-mix-row-requires
 mix-row-requires c κs =
     let s = c .before .before .before .before in
@@ -37,12 +25,6 @@ mix-row-requires c κs =
       planned = p .0;
       rule = p .1;
     }
-
-same-length : tie.Need-same-length
-same-length c = search needs
-
-same-length-2 : tie.Need-same-length-2
-same-length-2 c = search needs
 
 returns : tie.Need-returns
 returns c =
@@ -60,11 +42,11 @@ pub blend-row-spec : {M : Type 1} → statement M
 blend-row-spec =
     tie.close
     (tie.spec
-    mul-n
-    sub-mix-row
-    part-mix-row-start
-    part-mix-row-end
+    (λ c. search needs)
+    (λ c. search needs)
+    (λ c. search needs)
+    (λ c. search needs)
     mix-row-requires
-    same-length
-    same-length-2
+    (λ c. search needs)
+    (λ c. search needs)
     returns)

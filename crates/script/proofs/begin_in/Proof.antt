@@ -8,15 +8,6 @@ use Rattle.script.proofs.begin_in.Tie as tie
 returns : tie.Need-returns
 returns c = begin-short _ (c .if1 .taken)
 
-read-le32-requires : tie.Need-read-le32-requires
-read-le32-requires c κs = search needs
-
-cast-total : tie.Need-cast-total
-cast-total c = search needs
-
-shared-slice-read-client : tie.Need-shared-slice-read-client
-shared-slice-read-client c = search needs
-
 cast-client : tie.Need-cast-client
 cast-client c = omega (arith, c .shared-slice-known2 .given 1)
 
@@ -26,4 +17,10 @@ returns-2 c = begin-read _ _ _ (omega arith) refl (c .before .read-le32 .ensures
 pub begin-in-spec : {M : Type 1} → statement M
 begin-in-spec =
     tie.close
-    (tie.spec returns read-le32-requires cast-total shared-slice-read-client cast-client returns-2)
+    (tie.spec
+    returns
+    (λ c κs. search needs)
+    (λ c. search needs)
+    (λ c. search needs)
+    cast-client
+    returns-2)

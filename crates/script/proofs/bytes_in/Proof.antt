@@ -10,26 +10,11 @@ use Rattle.script.proofs.bytes_in.Tie as tie
 returns : tie.Need-returns
 returns c = bytes-short (c .before .before .args .bytes .now) (cond (c .before .before .args .whole) submit piece) (omega (arith, c .if1 .taken))
 
-read-le32-requires : tie.Need-read-le32-requires
-read-le32-requires c κs = search needs
-
-cast-size : tie.Need-cast-size
-cast-size c = search needs
-
-sub-if2 : tie.Need-sub-if2
-sub-if2 c = search needs
-
 returns-2 : tie.Need-returns-2
 returns-2 c = bytes-short (c .before .before .before .before .args .bytes .now) (cond (c .before .before .before .before .args .whole) submit piece) (omega (arith, c .before .read-le32 .ensures))
 
-shared-slice-read-client : tie.Need-shared-slice-read-client
-shared-slice-read-client c = search needs
-
 cast-client : tie.Need-cast-client
 cast-client c = omega (arith, c .shared-slice-known2 .given 1)
-
-add-end : tie.Need-add-end
-add-end c = search needs
 
 returns-3 : tie.Need-returns-3
 returns-3 c = rw (c .if3 .taken) (bytes-read _ true _ _ (omega arith) refl (c .before .before .before .read-le32 .ensures))
@@ -42,12 +27,12 @@ bytes-in-spec =
     tie.close
     (tie.spec
     returns
-    read-le32-requires
-    cast-size
-    sub-if2
+    (λ c κs. search needs)
+    (λ c. search needs)
+    (λ c. search needs)
     returns-2
-    shared-slice-read-client
+    (λ c. search needs)
     cast-client
-    add-end
+    (λ c. search needs)
     returns-3
     returns-4)

@@ -9,14 +9,8 @@ use Rattle.script.proofs.client_in.Tie as tie
 returns : tie.Need-returns
 returns c = client-short (c .before .before .args .bytes .now) (clientCall (c .before .before .args .kind)) (c .if1 .taken)
 
-shared-slice-read-request-of : tie.Need-shared-slice-read-request-of
-shared-slice-read-request-of c = search needs
-
 cast-request-of : tie.Need-cast-request-of
 cast-request-of c = omega (arith, c .shared-slice-known2 .given 1)
-
-request-of-requires : tie.Need-request-of-requires
-request-of-requires c κs = search needs
 
 returns-2 : tie.Need-returns-2
 returns-2 c =
@@ -26,4 +20,9 @@ returns-2 c =
 pub client-in-spec : {M : Type 1} → statement M
 client-in-spec =
     tie.close
-    (tie.spec returns shared-slice-read-request-of cast-request-of request-of-requires returns-2)
+    (tie.spec
+    returns
+    (λ c. search needs)
+    cast-request-of
+    (λ c κs. search needs)
+    returns-2)

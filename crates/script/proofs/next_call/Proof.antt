@@ -7,30 +7,6 @@ use Rattle.script.proofs.next_call.Tie as tie
 returns : tie.Need-returns
 returns c = next-none _ (c .if1 .taken)
 
-shared-slice-read-match : tie.Need-shared-slice-read-match
-shared-slice-read-match c = search needs
-
-open-in-requires : tie.Need-open-in-requires
-open-in-requires c κs = search needs
-
-bytes-in-requires : tie.Need-bytes-in-requires
-bytes-in-requires c κs = search needs
-
-client-in-requires : tie.Need-client-in-requires
-client-in-requires c κs = search needs
-
-begin-in-requires : tie.Need-begin-in-requires
-begin-in-requires c κs = search needs
-
-bytes-in-requires-2 : tie.Need-bytes-in-requires-2
-bytes-in-requires-2 c κs = search needs
-
-client-in-requires-2 : tie.Need-client-in-requires-2
-client-in-requires-2 c κs = search needs
-
-client-in-requires-3 : tie.Need-client-in-requires-3
-client-in-requires-3 c κs = search needs
-
 returns-2 : tie.Need-returns-2
 returns-2 c =
     let c₅ = c .before .before .before .before .before in
@@ -77,14 +53,14 @@ next-call-spec =
     tie.close
     (tie.spec
     returns
-    shared-slice-read-match
-    open-in-requires
-    bytes-in-requires
-    client-in-requires
-    begin-in-requires
-    bytes-in-requires-2
-    client-in-requires-2
-    client-in-requires-3
+    (λ c. search needs)
+    (λ c κs. search needs)
+    (λ c κs. search needs)
+    (λ c κs. search needs)
+    (λ c κs. search needs)
+    (λ c κs. search needs)
+    (λ c κs. search needs)
+    (λ c κs. search needs)
     returns-2
     returns-3
     returns-4

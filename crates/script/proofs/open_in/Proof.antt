@@ -6,14 +6,12 @@ use Rattle.script.proofs.open_in.Tie as tie
 returns : tie.Need-returns
 returns c = open-short _ (c .if1 .taken)
 
-read-le32-requires : tie.Need-read-le32-requires
-read-le32-requires c κs = search needs
-
-read-le32-requires-2 : tie.Need-read-le32-requires-2
-read-le32-requires-2 c κs = search needs
-
 returns-2 : tie.Need-returns-2
 returns-2 c = open-read _ _ _ (c .before .before .if1 .left) (c .before .read-le32 .ensures) (c .read-le322 .ensures)
 
 pub open-in-spec : {M : Type 1} → statement M
-open-in-spec = tie.close (tie.spec returns read-le32-requires read-le32-requires-2 returns-2)
+open-in-spec = tie.close (tie.spec
+    returns
+    (λ c κs. search needs)
+    (λ c κs. search needs)
+    returns-2)

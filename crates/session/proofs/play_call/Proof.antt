@@ -17,18 +17,6 @@ handed c =
     let c₇ = c .before .before .before .before .before .before .before in
     piece-lies _ _ _ _ _ (c .before .before .request5 .given .1) (c₇ .pre)
 
-enum-known-request : tie.Need-enum-known-request
-enum-known-request c = search needs
-
-open-requires : tie.Need-open-requires
-open-requires c κs = search needs
-
-step-of-requires : tie.Need-step-of-requires
-step-of-requires c κs = search needs
-
-enum-known-request-2 : tie.Need-enum-known-request-2
-enum-known-request-2 c = search needs
-
 sub-submit : tie.Need-sub-submit
 sub-submit c = lies c .0
 
@@ -38,41 +26,8 @@ part-submit-start c = let l = lies c in omega arith
 part-submit-end : tie.Need-part-submit-end
 part-submit-end c = let l = lies c in omega arith
 
-submit-requires : tie.Need-submit-requires
-submit-requires c κs = search needs
-
-step-of-requires-2 : tie.Need-step-of-requires-2
-step-of-requires-2 c κs = search needs
-
-enum-told : tie.Need-enum-told
-enum-told c = search needs
-
-run-requires : tie.Need-run-requires
-run-requires c κs = search needs
-
 step-of-run-requires : tie.Need-step-of-run-requires
 step-of-run-requires c κs = rw (c .before .before .run .ensures .0) (run-small _ _ _)
-
-enum-known-request-3 : tie.Need-enum-known-request-3
-enum-known-request-3 c = search needs
-
-pending-requires : tie.Need-pending-requires
-pending-requires c κs = search needs
-
-answer-words-requires : tie.Need-answer-words-requires
-answer-words-requires c κs = search needs
-
-enum-known-request-4 : tie.Need-enum-known-request-4
-enum-known-request-4 c = search needs
-
-begin-requires : tie.Need-begin-requires
-begin-requires c κs = search needs
-
-step-of-requires-3 : tie.Need-step-of-requires-3
-step-of-requires-3 c κs = search needs
-
-enum-known-request-5 : tie.Need-enum-known-request-5
-enum-known-request-5 c = search needs
 
 sub-piece : tie.Need-sub-piece
 sub-piece c = handed c .0
@@ -83,46 +38,13 @@ part-piece-start c = let l = handed c in omega arith
 part-piece-end : tie.Need-part-piece-end
 part-piece-end c = let l = handed c in omega arith
 
-piece-requires : tie.Need-piece-requires
-piece-requires c κs = search needs
-
-step-of-piece-requires : tie.Need-step-of-piece-requires
-step-of-piece-requires c κs = search needs
-
-enum-known-request-6 : tie.Need-enum-known-request-6
-enum-known-request-6 c = search needs
-
-cancel-requires : tie.Need-cancel-requires
-cancel-requires c κs = search needs
-
-step-of-requires-4 : tie.Need-step-of-requires-4
-step-of-requires-4 c κs = search needs
-
-enum-known-request-7 : tie.Need-enum-known-request-7
-enum-known-request-7 c = search needs
-
-close-requires : tie.Need-close-requires
-close-requires c κs = search needs
-
-step-of-requires-5 : tie.Need-step-of-requires-5
-step-of-requires-5 c κs = search needs
-
 returns : tie.Need-returns
 returns c = rw (c .before .before .before .request .given .1) (open-plays _ _ _ _ _ _ _ _ (c .before .open .ensures) (c .step-of .ensures .0) (c .step-of .ensures .1))
-
-same-length : tie.Need-same-length
-same-length c = search needs
 
 returns-2 : tie.Need-returns-2
 returns-2 c =
     let c₇ = c .before .before .before .before .before .before .before in
     rw (c₇ .request2 .given .1) (submit-plays _ _ _ _ _ _ _ _ _ (c .before .before .before .submit .ensures .0) (c .before .before .before .submit .ensures .1) (c .step-of2 .ensures .0) (c .step-of2 .ensures .1))
-
-same-length-2 : tie.Need-same-length-2
-same-length-2 c = search needs
-
-same-length-3 : tie.Need-same-length-3
-same-length-3 c = search needs
 
 returns-3 : tie.Need-returns-3
 returns-3 c =
@@ -132,14 +54,8 @@ returns-3 c =
 returns-4 : tie.Need-returns-4
 returns-4 c = rw (c .before .before .before .request3 .given .1) (pending-plays _ _ _ _ _ _ (c .before .pending .ensures) (c .answer-words .ensures))
 
-same-length-4 : tie.Need-same-length-4
-same-length-4 c = search needs
-
 returns-5 : tie.Need-returns-5
 returns-5 c = rw (c .before .before .before .before .request4 .given .1) (begin-plays _ _ _ _ _ _ _ _ (c .before .begin .ensures) (c .step-of3 .ensures .0) (c .step-of3 .ensures .1))
-
-same-length-5 : tie.Need-same-length-5
-same-length-5 c = search needs
 
 returns-6 : tie.Need-returns-6
 returns-6 c =
@@ -148,9 +64,6 @@ returns-6 c =
 
 returns-7 : tie.Need-returns-7
 returns-7 c = rw (c .before .before .before .request6 .given .1) (cancel-plays _ _ _ _ _ _ _ (c .before .cancel .ensures) (c .step-of4 .ensures .0) (c .step-of4 .ensures .1))
-
-same-length-6 : tie.Need-same-length-6
-same-length-6 c = search needs
 
 returns-8 : tie.Need-returns-8
 returns-8 c =
@@ -161,47 +74,47 @@ pub play-call-spec : {M : Type 1} → statement M
 play-call-spec =
     tie.close
     (tie.spec
-    enum-known-request
-    open-requires
-    step-of-requires
-    enum-known-request-2
+    (λ c. search needs)
+    (λ c κs. search needs)
+    (λ c κs. search needs)
+    (λ c. search needs)
     sub-submit
     part-submit-start
     part-submit-end
-    submit-requires
-    step-of-requires-2
-    enum-told
-    run-requires
+    (λ c κs. search needs)
+    (λ c κs. search needs)
+    (λ c. search needs)
+    (λ c κs. search needs)
     step-of-run-requires
-    enum-known-request-3
-    pending-requires
-    answer-words-requires
-    enum-known-request-4
-    begin-requires
-    step-of-requires-3
-    enum-known-request-5
+    (λ c. search needs)
+    (λ c κs. search needs)
+    (λ c κs. search needs)
+    (λ c. search needs)
+    (λ c κs. search needs)
+    (λ c κs. search needs)
+    (λ c. search needs)
     sub-piece
     part-piece-start
     part-piece-end
-    piece-requires
-    step-of-piece-requires
-    enum-known-request-6
-    cancel-requires
-    step-of-requires-4
-    enum-known-request-7
-    close-requires
-    step-of-requires-5
+    (λ c κs. search needs)
+    (λ c κs. search needs)
+    (λ c. search needs)
+    (λ c κs. search needs)
+    (λ c κs. search needs)
+    (λ c. search needs)
+    (λ c κs. search needs)
+    (λ c κs. search needs)
     returns
-    same-length
+    (λ c. search needs)
     returns-2
-    same-length-2
-    same-length-3
+    (λ c. search needs)
+    (λ c. search needs)
     returns-3
     returns-4
-    same-length-4
+    (λ c. search needs)
     returns-5
-    same-length-5
+    (λ c. search needs)
     returns-6
     returns-7
-    same-length-6
+    (λ c. search needs)
     returns-8)

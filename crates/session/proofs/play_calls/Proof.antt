@@ -40,12 +40,6 @@ part-bytes-start c = omega arith
 part-bytes-end : tie.Need-part-bytes-end Inv-loop μ-loop
 part-bytes-end c = omega arith
 
-next-call-requires : tie.Need-next-call-requires Inv-loop μ-loop
-next-call-requires c κs = search needs
-
-enum-told : tie.Need-enum-told Inv-loop μ-loop
-enum-told c = search needs
-
 same-length : tie.Need-same-length Inv-loop μ-loop
 same-length c =
     let c₅ = c .before .before .before .before .before in
@@ -66,9 +60,6 @@ returns c =
     let l = c .before .before .before .before .before .loop in
     going-end _ _ _ _ (l .at) (l .count) (l .left) _ _ (l .inv .5) (omega (arith, l .inv .1, l .inv .2))
     (rw (← rest-is _ _ (l .inv .0)) (decode-end (l .left) _ _ (c .before .before .next-call .ensures) (c .enum-told .given .1)))
-
-enum-known-found : tie.Need-enum-known-found Inv-loop μ-loop
-enum-known-found c = search needs
 
 play-call-requires : tie.Need-play-call-requires Inv-loop μ-loop
 play-call-requires c κs =
@@ -145,13 +136,13 @@ play-calls-spec =
     sub-bytes
     part-bytes-start
     part-bytes-end
-    next-call-requires
-    enum-told
+    (λ c κs. search needs)
+    (λ c. search needs)
     same-length
     same-length-2
     same-length-3
     returns
-    enum-known-found
+    (λ c. search needs)
     play-call-requires
     write-answer-requires
     add-at

@@ -4,15 +4,6 @@ use borrow.Author.Needs.{needs}
 use Rattle.slots.proofs.amount_in_slot.Statement.{statement}
 use Rattle.slots.proofs.amount_in_slot.Tie as tie
 
-enum-told : tie.Need-enum-told
-enum-told c = search needs
-
-enum-known-state : tie.Need-enum-known-state
-enum-known-state c = search needs
-
-amount-of-requires : tie.Need-amount-of-requires
-amount-of-requires c κs = search needs
-
 returns : tie.Need-returns
 unfolding sumOver
 returns c = rw (c .enum-told .given .1)
@@ -23,4 +14,9 @@ returns-2 c = rw (c .before .before .state .given .1) (omega (arith, c .amount-o
 
 pub amount-in-slot-spec : {M : Type 1} → statement M
 amount-in-slot-spec =
-    tie.close (tie.spec enum-told enum-known-state amount-of-requires returns returns-2)
+    tie.close (tie.spec
+    (λ c. search needs)
+    (λ c. search needs)
+    (λ c κs. search needs)
+    returns
+    returns-2)

@@ -9,8 +9,7 @@ sum-over-requires : tie.Need-sum-over-requires
 sum-over-requires c κs =
     omega (arith, count-most (λ b. eqb (b .client) (c .args .client)) (c .args .slots), c .good .0 .1 .0 .1)
 
-returns : tie.Need-returns
-returns c = search needs
-
 pub count-of-spec : {M : Type 1} → statement M
-count-of-spec = tie.close (tie.spec sum-over-requires returns)
+count-of-spec = tie.close (tie.spec
+    sum-over-requires
+    (λ c. search needs))

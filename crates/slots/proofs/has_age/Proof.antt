@@ -4,21 +4,6 @@ use borrow.Author.Needs.{needs}
 use Rattle.slots.proofs.has_age.Statement.{statement}
 use Rattle.slots.proofs.has_age.Tie as tie
 
-enum-told : tie.Need-enum-told
-enum-told c = search needs
-
-enum-known-state : tie.Need-enum-known-state
-enum-known-state c = search needs
-
-age-requires : tie.Need-age-requires
-age-requires c κs = search needs
-
-cast-result : tie.Need-cast-result
-cast-result c = search needs
-
-returns : tie.Need-returns
-returns c = search needs
-
 returns-2 : tie.Need-returns-2
 returns-2 c = let st = c .before .before .before .before in
     let b = c .before .before .state .given .0 .0 in
@@ -27,4 +12,10 @@ returns-2 c = let st = c .before .before .before .before in
 
 pub has-age-spec : {M : Type 1} → statement M
 has-age-spec =
-    tie.close (tie.spec enum-told enum-known-state age-requires cast-result returns returns-2)
+    tie.close (tie.spec
+    (λ c. search needs)
+    (λ c. search needs)
+    (λ c κs. search needs)
+    (λ c. search needs)
+    (λ c. search needs)
+    returns-2)

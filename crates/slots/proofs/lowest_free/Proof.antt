@@ -23,9 +23,6 @@ mul-is-free c = omega arith
 array-copy-out-is-free : tie.Need-array-copy-out-is-free Inv-loop μ-loop
 array-copy-out-is-free c = omega arith
 
-is-free-requires : tie.Need-is-free-requires Inv-loop μ-loop
-is-free-requires c κs = search needs
-
 returns : tie.Need-returns Inv-loop μ-loop
 returns c =
     let st = c .before .before .before .before .before in
@@ -61,7 +58,7 @@ lowest-free-spec =
     loop-holds
     mul-is-free
     array-copy-out-is-free
-    is-free-requires
+    (λ c κs. search needs)
     returns
     add-lowest
     loop-less

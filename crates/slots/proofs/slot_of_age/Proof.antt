@@ -23,9 +23,6 @@ mul-has-age c = omega arith
 array-copy-out-has-age : tie.Need-array-copy-out-has-age Inv-loop μ-loop
 array-copy-out-has-age c = omega arith
 
-has-age-requires : tie.Need-has-age-requires Inv-loop μ-loop
-has-age-requires c κs = search needs
-
 returns : tie.Need-returns Inv-loop μ-loop
 returns c =
     let st = c .before .before .before .before .before in
@@ -61,7 +58,7 @@ slot-of-age-spec =
     loop-holds
     mul-has-age
     array-copy-out-has-age
-    has-age-requires
+    (λ c κs. search needs)
     returns
     add-i
     loop-less

@@ -24,9 +24,6 @@ mul-amount-in-slot c = omega arith
 array-copy-out-amount-in-slot : tie.Need-array-copy-out-amount-in-slot Inv-loop μ-loop
 array-copy-out-amount-in-slot c = omega arith
 
-amount-in-slot-requires : tie.Need-amount-in-slot-requires Inv-loop μ-loop
-amount-in-slot-requires c κs = search needs
-
 add-n : tie.Need-add-n Inv-loop μ-loop
 add-n c = let st = c .before .before .before .before in
     let i : ℕ = c .before .before .before .loop .i in
@@ -59,7 +56,7 @@ sum-over-spec =
     loop-holds
     mul-amount-in-slot
     array-copy-out-amount-in-slot
-    amount-in-slot-requires
+    (λ c κs. search needs)
     add-n
     add-i
     loop-less

@@ -11,9 +11,6 @@ Inv-loop memory₀ window task solid rows y₀ memory y = Upto task memory₀ me
 abbrev μ-loop : tie.MeasureT-loop
 μ-loop memory₀ window task solid rows y₀ memory y = rows - y
 
-colour-of-requires : tie.Need-colour-of-requires Inv-loop μ-loop
-colour-of-requires c κs = search needs
-
 loop-holds : tie.Need-loop-holds Inv-loop μ-loop
 loop-holds c = upto-none _ _
 
@@ -30,9 +27,6 @@ add-y : tie.Need-add-y Inv-loop μ-loop
 add-y c =
     let t = c .before .before .before .before in
     omega (arith, t .loop-test .taken, t .before .before .before .before .before .pre .0 .clear .output .low)
-
-loop-less : tie.Need-loop-less Inv-loop μ-loop
-loop-less c = search needs
 
 loop-again : tie.Need-loop-again Inv-loop μ-loop
 loop-again c =
@@ -54,11 +48,11 @@ draw-solid-spec =
     (tie.spec
     Inv-loop
     μ-loop
-    colour-of-requires
+    (λ c κs. search needs)
     loop-holds
     covered-row-requires
     add-y
-    loop-less
+    (λ c. search needs)
     loop-again
     same-length
     returns)

@@ -22,9 +22,6 @@ abbrev μ-loop : tie.MeasureT-loop
 loop-holds : tie.Need-loop-holds Inv-loop μ-loop
 loop-holds c = (search needs, below-none _, refl)
 
-mul-store-word : tie.Need-mul-store-word Inv-loop μ-loop
-mul-store-word c = search needs
-
 strided-address-requires : tie.Need-strided-address-requires Inv-loop μ-loop
 strided-address-requires c κs =
     let t = c .before in
@@ -42,12 +39,6 @@ store-word-requires c κs =
     let t = c .before .before .before in
     omega (arith, t .loop-test .taken, t .before .loop .inv .2, t .before .before .before .before .pre .room)
 
-add-x : tie.Need-add-x Inv-loop μ-loop
-add-x c = search needs
-
-loop-less : tie.Need-loop-less Inv-loop μ-loop
-loop-less c = search needs
-
 loop-again : tie.Need-loop-again Inv-loop μ-loop
 loop-again c =
     let d = c .before .before in
@@ -62,9 +53,6 @@ loop-again c =
       d .store-word .kept .0 ∙ l .inv .2,
     )
 
-same-length : tie.Need-same-length Inv-loop μ-loop
-same-length c = search needs
-
 returns : tie.Need-returns Inv-loop μ-loop
 returns c = λ x z. c .before .loop .inv .1 x (omega arith)
 
@@ -75,12 +63,12 @@ fetch-each-spec =
     Inv-loop
     μ-loop
     loop-holds
-    mul-store-word
+    (λ c. search needs)
     strided-address-requires
     load-as-word-requires
     store-word-requires
-    add-x
-    loop-less
+    (λ c. search needs)
+    (λ c. search needs)
     loop-again
-    same-length
+    (λ c. search needs)
     returns)

@@ -17,9 +17,6 @@ allowed c =
     let c₅ = c .before .before .before .before .before in
     piece-allowed (c₅ .args .engine) (length (c₅ .args .ring .now)) (c₅ .args .client) (length (c₅ .args .piece .now)) (sym (c .before .piece-refusal .ensures) ∙ c .if1 .left)
 
-check-requires : tie.Need-check-requires
-check-requires c κs = search needs
-
 piece-refusal-requires : tie.Need-piece-refusal-requires
 piece-refusal-requires c κs = c .check .ensures .0
 
@@ -43,9 +40,6 @@ add-wrap-offset c = let w = c .before .write-offset .ensures in
     let e = c .before .before .before .before .before .before .before .before .before .args in
     omega (arith, w, piece-offset-small (e .engine) (length (e .ring .now)) (e .client) (length (e .piece .now)) (few (c .before .before .before .before)) (allowed (c .before .before .before .before)))
 
-wrap-offset-requires : tie.Need-wrap-offset-requires
-wrap-offset-requires c κs = search needs
-
 copy-in-requires : tie.Need-copy-in-requires
 copy-in-requires c κs =
     let c₆ = c .before .before .before .before .before .before in
@@ -66,9 +60,6 @@ finished-requires c κs =
     let e = c₁₁ .before .before .before .before .before .args .engine in
     let u = a .own .unfinished in
     (c₈ .write-offset .ensures, client-small e (a .own .ok) (e .staged .client) (u .owner), omega (arith, pending-small e (a .own .ok) (e .staged .client) (u .owner), few c₁₁), u .slot)
-
-same-length : tie.Need-same-length
-same-length c = search needs
 
 returns-2 : tie.Need-returns-2
 returns-2 c =
@@ -96,12 +87,6 @@ cast-missing c =
     let c₁₆ = c₁₁ .before .before .before .before .before in
     omega (arith, piece-small (c₁₆ .args .engine) (length (c₁₆ .args .ring .now)) (c₁₆ .args .client) (length (c₁₆ .args .piece .now)) (allowed c₁₁) .1)
 
-continued-requires : tie.Need-continued-requires
-continued-requires c κs = search needs
-
-same-length-2 : tie.Need-same-length-2
-same-length-2 c = search needs
-
 returns-3 : tie.Need-returns-3
 returns-3 c =
     let c₅ = c .before .before .before .before .before in
@@ -121,19 +106,19 @@ pub piece-spec : {M : Type 1} → statement M
 piece-spec =
     tie.close
     (tie.spec
-    check-requires
+    (λ c κs. search needs)
     piece-refusal-requires
     returns
     write-offset-requires
     add-wrap-offset
-    wrap-offset-requires
+    (λ c κs. search needs)
     copy-in-requires
     add-received
     finished-requires
-    same-length
+    (λ c. search needs)
     returns-2
     sub-left
     cast-missing
-    continued-requires
-    same-length-2
+    (λ c κs. search needs)
+    (λ c. search needs)
     returns-3)

@@ -16,9 +16,6 @@ allowed c =
     let c₅ = c .before .before .before .before .before in
     submit-allowed (c₅ .args .engine) (length (c₅ .args .ring .now)) (c₅ .args .client) (length (c₅ .args .batch .now)) (sym (c .before .submit-refusal .ensures) ∙ c .if1 .left)
 
-check-requires : tie.Need-check-requires
-check-requires c κs = search needs
-
 submit-refusal-requires : tie.Need-submit-refusal-requires
 submit-refusal-requires c κs = (c .check .ensures .0, c .check .ensures .1)
 
@@ -38,9 +35,6 @@ copy-in-requires c κs =
     let c₇ = c .before .before .before .before .before .before .before in
     rw (c .before .write-offset .ensures) (submit-lies (c₇ .args .engine) (c₇ .args .ring .now) (c₇ .args .client) (length (c₇ .args .batch .now)) (allowed (c .before .before)))
 
-lowest-free-requires : tie.Need-lowest-free-requires
-lowest-free-requires c κs = search needs
-
 -- the slot is one of the eight
 below : (c : tie.After-lowest-free) → c .lowest-free .result < 8
 below c =
@@ -58,9 +52,6 @@ with-batch-requires c κs =
     let d = c₁₂ .args .client in
     (client-small e (a .ok) d (a .owner), omega (arith, pending-small e (a .ok) d (a .owner), a .slot), below c)
 
-same-length : tie.Need-same-length
-same-length c = search needs
-
 returns-2 : tie.Need-returns-2
 returns-2 c =
     let c₅ = c .before .before .before .before .before in
@@ -76,12 +67,12 @@ pub submit-spec : {M : Type 1} → statement M
 submit-spec =
     tie.close
     (tie.spec
-    check-requires
+    (λ c κs. search needs)
     submit-refusal-requires
     returns
     write-offset-requires
     copy-in-requires
-    lowest-free-requires
+    (λ c κs. search needs)
     with-batch-requires
-    same-length
+    (λ c. search needs)
     returns-2)

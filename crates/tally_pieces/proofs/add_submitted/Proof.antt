@@ -8,21 +8,6 @@ use Rattle.acceptance.proofs.accept.Reads as accept-reads
 use Rattle.editions.proofs.reset_of.Reads as reset-of-reads
 use Rattle.tally_pieces.proofs.add_batch.Reads as add-batch-reads
 
-accept-requires : tie.Need-accept-requires
-accept-requires c κs = search needs
-
-enum-told : tie.Need-enum-told
-enum-told c = search needs
-
-enum-known-submitted : tie.Need-enum-known-submitted
-enum-known-submitted c = search needs
-
-reset-of-requires : tie.Need-reset-of-requires
-reset-of-requires c κs = search needs
-
-add-batch-requires : tie.Need-add-batch-requires
-add-batch-requires c κs = search needs
-
 returns : tie.Need-returns
 returns c =
     let a = c .before .before .before .before .args in
@@ -38,10 +23,10 @@ pub add-submitted-spec : {M : Type 1} → statement M
 add-submitted-spec =
     tie.close
     (tie.spec
-    accept-requires
-    enum-told
-    enum-known-submitted
-    reset-of-requires
-    add-batch-requires
+    (λ c κs. search needs)
+    (λ c. search needs)
+    (λ c. search needs)
+    (λ c κs. search needs)
+    (λ c κs. search needs)
     returns
     returns-2)

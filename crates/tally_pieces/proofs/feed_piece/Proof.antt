@@ -36,25 +36,10 @@ loop-holds c =
     let a = c .before .before .args in
     (search needs, search needs, λ totals seen S. piece-none totals seen (a .piece .now) (a .tally) (a .held .now) S)
 
-sub-feed : tie.Need-sub-feed Inv-loop μ-loop
-sub-feed c = search needs
-
-part-feed-start : tie.Need-part-feed-start Inv-loop μ-loop
-part-feed-start c = search needs
-
-part-feed-end : tie.Need-part-feed-end Inv-loop μ-loop
-part-feed-end c = search needs
-
-feed-requires : tie.Need-feed-requires Inv-loop μ-loop
-feed-requires c κs = search needs
-
 add-used : tie.Need-add-used Inv-loop μ-loop
 add-used c =
     let c₁₀ = c .before .before .before .before .before .before .before .before .before .before in
     omega (arith, within (c .before .before .before), c₁₀ .good .1 .1 .0 .0)
-
-same-length : tie.Need-same-length Inv-loop μ-loop
-same-length c = search needs
 
 returns : tie.Need-returns Inv-loop μ-loop
 returns c =
@@ -76,9 +61,6 @@ loop-again c =
       λ totals seen S. piece-again totals seen (a .piece .now) (l .used) (d .feed .result) _ (d .feed .ensures .3 totals (seen ++ take (l .used) (a .piece .now)) (l .inv .2 totals seen S)),
     )
 
-same-length-2 : tie.Need-same-length-2 Inv-loop μ-loop
-same-length-2 c = search needs
-
 returns-2 : tie.Need-returns-2 Inv-loop μ-loop
 returns-2 c =
     let l = c .before .loop in
@@ -92,14 +74,14 @@ feed-piece-spec =
     Inv-loop
     μ-loop
     loop-holds
-    sub-feed
-    part-feed-start
-    part-feed-end
-    feed-requires
+    (λ c. search needs)
+    (λ c. search needs)
+    (λ c. search needs)
+    (λ c κs. search needs)
     add-used
-    same-length
+    (λ c. search needs)
     returns
     loop-less
     loop-again
-    same-length-2
+    (λ c. search needs)
     returns-2)

@@ -26,9 +26,6 @@ add-y c =
     let t = c .before .before .before .before in
     omega (arith, t .loop-test .taken, t .before .before .before .before .pre .0 .clear .output .low)
 
-loop-less : tie.Need-loop-less Inv-loop μ-loop
-loop-less c = search needs
-
 loop-again : tie.Need-loop-again Inv-loop μ-loop
 loop-again c =
     let d = c .before .before in
@@ -52,7 +49,7 @@ draw-moved-spec =
     loop-holds
     moved-row-requires
     add-y
-    loop-less
+    (λ c. search needs)
     loop-again
     same-length
     returns)

@@ -63,15 +63,6 @@ mul-batch-of c = omega arith
 array-copy-out-batch-of : tie.Need-array-copy-out-batch-of Inv-loop μ-loop
 array-copy-out-batch-of c = omega arith
 
-batch-of-requires : tie.Need-batch-of-requires Inv-loop μ-loop
-batch-of-requires c κs = search needs
-
-is-open-requires : tie.Need-is-open-requires Inv-loop μ-loop
-is-open-requires c κs = search needs
-
-fits-in-requires : tie.Need-fits-in-requires Inv-loop μ-loop
-fits-in-requires c κs = search needs
-
 returns-2 : tie.Need-returns-2 Inv-loop μ-loop
 returns-2 c =
     let c₇ = c .before .before .before .before .before .before .before in
@@ -84,9 +75,6 @@ returns-2 c =
 
 add-wrap-offset : tie.Need-add-wrap-offset Inv-loop μ-loop
 add-wrap-offset c = let f = fits c .within in omega arith
-
-wrap-offset-requires : tie.Need-wrap-offset-requires Inv-loop μ-loop
-wrap-offset-requires c κs = search needs
 
 sub-room : tie.Need-sub-room Inv-loop μ-loop
 sub-room c = fits (c .before) .within
@@ -125,12 +113,12 @@ batches-valid-spec =
     returns
     mul-batch-of
     array-copy-out-batch-of
-    batch-of-requires
-    is-open-requires
-    fits-in-requires
+    (λ c κs. search needs)
+    (λ c κs. search needs)
+    (λ c κs. search needs)
     returns-2
     add-wrap-offset
-    wrap-offset-requires
+    (λ c κs. search needs)
     sub-room
     sub-k
     loop-less

@@ -17,9 +17,6 @@ few c = rw (c .ready-slots .ensures .0) at (c .ready-slots .ensures .1)
 kept : (c : tie.Else1) → valid (c .before .before .before .before .args .engine) ≡ true
 kept c = sym (c .before .rules-kept .ensures) ∙ not-false _ (c .if1 .left)
 
-ready-slots-requires : tie.Need-ready-slots-requires
-ready-slots-requires c κs = search needs
-
 rules-kept-requires : tie.Need-rules-kept-requires
 rules-kept-requires c κs = c .ready-slots .ensures
 
@@ -41,4 +38,9 @@ returns-2 c =
 pub check-spec : {M : Type 1} → statement M
 check-spec =
     tie.close
-    (tie.spec ready-slots-requires rules-kept-requires returns ready-bytes-requires returns-2)
+    (tie.spec
+    (λ c κs. search needs)
+    rules-kept-requires
+    returns
+    ready-bytes-requires
+    returns-2)

@@ -2,17 +2,12 @@ use borrow.Author.Needs.{needs}
 use Rattle.validity.proofs.count_matches.Statement.{statement}
 use Rattle.validity.proofs.count_matches.Tie as tie
 
-returns : tie.Need-returns
-returns c = search needs
-
-cast-result : tie.Need-cast-result
-cast-result c = search needs
-
-count-of-requires : tie.Need-count-of-requires
-count-of-requires c κs = search needs
-
 returns-2 : tie.Need-returns-2
 returns-2 c = rw (c .count-of .ensures, c .before .before .if1 .left)
 
 pub count-matches-spec : {M : Type 1} → statement M
-count-matches-spec = tie.close (tie.spec returns cast-result count-of-requires returns-2)
+count-matches-spec = tie.close (tie.spec
+    (λ c. search needs)
+    (λ c. search needs)
+    (λ c κs. search needs)
+    returns-2)

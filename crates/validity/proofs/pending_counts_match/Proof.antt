@@ -27,9 +27,6 @@ array-copy-out-count-matches c = omega arith
 cast-count-matches : tie.Need-cast-count-matches Inv-loop μ-loop
 cast-count-matches c = omega arith
 
-count-matches-requires : tie.Need-count-matches-requires Inv-loop μ-loop
-count-matches-requires c κs = search needs
-
 returns : tie.Need-returns Inv-loop μ-loop
 returns c =
     let m = c .before in
@@ -66,7 +63,7 @@ pending-counts-match-spec =
     mul-count-matches
     array-copy-out-count-matches
     cast-count-matches
-    count-matches-requires
+    (λ c κs. search needs)
     returns
     add-k
     loop-less

@@ -12,14 +12,8 @@ use Rattle.validity.proofs.rules_kept.Tie as tie
 right : (c : tie.Else1) → numberRules (c .before .before .args .engine) ≡ true
 right c = sym (c .before .numbers-valid .ensures) ∙ not-false _ (c .if1 .left)
 
-numbers-valid-requires : tie.Need-numbers-valid-requires
-numbers-valid-requires c κs = search needs
-
 returns : tie.Need-returns
 returns c = valid-not (c .before .before .args .engine) (sym (c .before .numbers-valid .ensures) ∙ not-true _ (c .if1 .taken))
-
-windows-valid-requires : tie.Need-windows-valid-requires
-windows-valid-requires c κs = search needs
 
 batches-valid-requires : tie.Need-batches-valid-requires
 batches-valid-requires c κs =
@@ -27,9 +21,6 @@ batches-valid-requires c κs =
     let n = numbers (c₆ .args .engine) (right (c .before .before .before .before)) in
     let p = c₆ .pre in
     (n .ring .small, n .below, p .0, p .1, p .2)
-
-pending-counts-match-requires : tie.Need-pending-counts-match-requires
-pending-counts-match-requires c κs = search needs
 
 -- the tests together
 tested : (c : tie.After-pending-counts-match) → (c .before .before .windows-valid .result && c .before .batches-valid .result && c .pending-counts-match .result)
@@ -63,11 +54,11 @@ pub rules-kept-spec : {M : Type 1} → statement M
 rules-kept-spec =
     tie.close
     (tie.spec
-    numbers-valid-requires
+    (λ c κs. search needs)
     returns
-    windows-valid-requires
+    (λ c κs. search needs)
     batches-valid-requires
-    pending-counts-match-requires
+    (λ c κs. search needs)
     returns-2
     staged-valid-requires
     returns-3)

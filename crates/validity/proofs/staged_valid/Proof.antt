@@ -10,12 +10,6 @@ returns c =
     let c₅ = c .before .before .before .before .before in
     none-test (c₅ .args .engine) (c .before .before .before .if1 .taken)
 
-slot-held-requires : tie.Need-slot-held-requires
-slot-held-requires c κs = search needs
-
-is-open-requires : tie.Need-is-open-requires
-is-open-requires c κs = search needs
-
 ready-bytes-requires : tie.Need-ready-bytes-requires
 ready-bytes-requires c κs =
     let st = c .before .before .before .before .before .before in
@@ -26,9 +20,6 @@ sub-room : tie.Need-sub-room
 sub-room c =
     let st = c .before .before .before .before .before .before .before in
     rw (c .ready-bytes .ensures) (settled-bytes (st .args .engine) (st .pre .1) (c .before .before .slot-held .ensures .1))
-
-bad-length-requires : tie.Need-bad-length-requires
-bad-length-requires c κs = search needs
 
 returns-2 : tie.Need-returns-2
 returns-2 c =
@@ -43,9 +34,9 @@ staged-valid-spec =
     tie.close
     (tie.spec
     returns
-    slot-held-requires
-    is-open-requires
+    (λ c κs. search needs)
+    (λ c κs. search needs)
     ready-bytes-requires
     sub-room
-    bad-length-requires
+    (λ c κs. search needs)
     returns-2)

@@ -3,18 +3,6 @@ use borrow.Author.Needs.{needs}
 use Rattle.windows.proofs.bad_window.Statement.{statement}
 use Rattle.windows.proofs.bad_window.Tie as tie
 
-new-requires : tie.Need-new-requires
-new-requires c κs = search needs
-
-overlaps-any-requires : tie.Need-overlaps-any-requires
-overlaps-any-requires c κs = search needs
-
-is-inside-requires : tie.Need-is-inside-requires
-is-inside-requires c κs = search needs
-
-overlaps-requires : tie.Need-overlaps-requires
-overlaps-requires c κs = search needs
-
 returns : tie.Need-returns
 returns c =
     let st = c .before .before .before .before .before in
@@ -24,4 +12,9 @@ returns c =
 pub bad-window-spec : {M : Type 1} → statement M
 bad-window-spec =
     tie.close
-    (tie.spec new-requires overlaps-any-requires is-inside-requires overlaps-requires returns)
+    (tie.spec
+    (λ c κs. search needs)
+    (λ c κs. search needs)
+    (λ c κs. search needs)
+    (λ c κs. search needs)
+    returns)

@@ -5,22 +5,10 @@ use Rattle.record.specs.Clients.{noClient}
 use Rattle.windows.proofs.is_misplaced.Statement.{statement}
 use Rattle.windows.proofs.is_misplaced.Tie as tie
 
-mul-client : tie.Need-mul-client
-mul-client c = search needs
-
-array-copy-out-client : tie.Need-array-copy-out-client
-array-copy-out-client c = search needs
-
 returns : tie.Need-returns
 returns c =
     let st = c .before .before .before in
     rw (not-true (getD (st .args .t2) (st .args .place) noClient .opened) (c .if1 .taken))
-
-add-bad-window : tie.Need-add-bad-window
-add-bad-window c = search needs
-
-bad-window-requires : tie.Need-bad-window-requires
-bad-window-requires c κs = search needs
 
 returns-2 : tie.Need-returns-2
 returns-2 c =
@@ -31,9 +19,9 @@ pub is-misplaced-spec : {M : Type 1} → statement M
 is-misplaced-spec =
     tie.close
     (tie.spec
-    mul-client
-    array-copy-out-client
+    (λ c. search needs)
+    (λ c. search needs)
     returns
-    add-bad-window
-    bad-window-requires
+    (λ c. search needs)
+    (λ c κs. search needs)
     returns-2)

@@ -6,14 +6,12 @@ use Rattle.windows.proofs.is_open.Tie as tie
 returns : tie.Need-returns
 returns c = rw (le-ltb (c .before .before .args .client) 4 (c .if1 .taken))
 
-mul-own : tie.Need-mul-own
-mul-own c = search needs
-
-array-copy-out-own : tie.Need-array-copy-out-own
-array-copy-out-own c = search needs
-
 returns-2 : tie.Need-returns-2
 returns-2 c = rw (lt-ltb (c .before .before .before .args .client) 4 (c .before .if1 .left))
 
 pub is-open-spec : {M : Type 1} → statement M
-is-open-spec = tie.close (tie.spec returns mul-own array-copy-out-own returns-2)
+is-open-spec = tie.close (tie.spec
+    returns
+    (λ c. search needs)
+    (λ c. search needs)
+    returns-2)

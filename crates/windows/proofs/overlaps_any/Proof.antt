@@ -23,12 +23,6 @@ mul-client c = omega arith
 array-copy-out-client : tie.Need-array-copy-out-client Inv-loop μ-loop
 array-copy-out-client c = omega arith
 
-new-requires : tie.Need-new-requires Inv-loop μ-loop
-new-requires c κs = search needs
-
-overlaps-requires : tie.Need-overlaps-requires Inv-loop μ-loop
-overlaps-requires c κs = search needs
-
 returns : tie.Need-returns Inv-loop μ-loop
 returns c =
     let st = c .before .before .before .before .before .before .before .before in
@@ -62,8 +56,8 @@ overlaps-any-spec =
     loop-holds
     mul-client
     array-copy-out-client
-    new-requires
-    overlaps-requires
+    (λ c κs. search needs)
+    (λ c κs. search needs)
     returns
     add-i
     loop-less

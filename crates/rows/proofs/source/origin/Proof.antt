@@ -9,9 +9,6 @@ use Rattle.rows.proofs.Straight.{point-within}
 use Rattle.rows.proofs.source.origin.Statement.{statement}
 use Rattle.rows.proofs.source.origin.Tie as tie
 
-source-point-requires : tie.Need-source-point-requires
-source-point-requires c κs = search needs
-
 -- the source pixel is one of the surface's
 inside : (c : tie.After-source-point) → InPicture (sizeOf (c .before .args .s)) (c .source-point .result)
 inside c =
@@ -24,9 +21,6 @@ cast-pixel-start c = omega (arith, inside (c .before) .across)
 cast-pixel-start-2 : tie.Need-cast-pixel-start-2
 cast-pixel-start-2 c = omega (arith, inside (c .before .before) .down)
 
-pixel-start-requires : tie.Need-pixel-start-requires
-pixel-start-requires c κs = search needs
-
 returns : tie.Need-returns
 returns c =
     let t = c .before .before .before in
@@ -36,8 +30,8 @@ pub origin-spec : {M : Type 1} → statement M
 origin-spec =
     tie.close
     (tie.spec
-    source-point-requires
+    (λ c κs. search needs)
     cast-pixel-start
     cast-pixel-start-2
-    pixel-start-requires
+    (λ c κs. search needs)
     returns)
