@@ -40,7 +40,8 @@ below : (c : tie.After-lowest-free) → c .lowest-free .result < 8
 below c =
     let e = c .before .before .before .before .before .before .before in
     let f = e .before .before .check .ensures in
-    let l = lowest-below (e .before .before .before .before .before .args .engine .slots) (omega (arith, f .2, allowed e .slot)) in
+    let s = e .before .before .before .before .before in
+    let l = lowest-below (s .args .engine .slots) (omega (arith, f .2, allowed e .slot)) in
     omega (arith, c .lowest-free .ensures, f .2)
 
 with-batch-requires : tie.Need-with-batch-requires

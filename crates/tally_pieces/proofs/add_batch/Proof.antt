@@ -72,10 +72,11 @@ returns c =
     let s = f .before .before .before .before .before .before .before in
     let l = f .before .before .before .loop in
     let n = f .before .before .next-task in
+    let a = f .before .before .before .before in
     c .add-fault .ensures
     ∙ sym (rest-fault (s .args .bounds) (Ws s) (l .current) (l .at) (n .result) (n .ensures) (l .so-far) _ _ _ (f .fault .given .1))
     ∙ sym (l .inv .1)
-    ∙ from-start s _ (f .before .before .before .before .before .reset .ensures) _ (f .before .before .before .before .add .ensures)
+    ∙ from-start s _ (a .before .reset .ensures) _ (a .add .ensures)
 
 returns-2 : tie.Need-returns-2 Inv-loop μ-loop
 returns-2 c =

@@ -25,15 +25,17 @@ within-row-requires c κs =
 add-y : tie.Need-add-y Inv-loop μ-loop
 add-y c =
     let t = c .before .before .before .before in
-    omega (arith, t .loop-test .taken, t .before .before .before .before .before .before .pre .0 .clear .output .low)
+    let s = t .before .before .before .before .before .before in
+    omega (arith, t .loop-test .taken, s .pre .0 .clear .output .low)
 
 loop-again : tie.Need-loop-again Inv-loop μ-loop
 loop-again c =
     let d = c .before .before in
     let t = d .before .before in
     let l = t .before .loop in
+    let s = t .before .before .before .before .before .before in
     let f = d .within-row in
-    upto-more (l .inv) (t .before .before .before .before .before .before .pre .0) (t .loop-test .taken) (f .last .0) (f .ensures)
+    upto-more (l .inv) (s .pre .0) (t .loop-test .taken) (f .last .0) (f .ensures)
 
 same-length : tie.Need-same-length Inv-loop μ-loop
 same-length c = upto-length (c .before .loop .inv)
