@@ -16,7 +16,8 @@ allowed : (c : tie.Else1) → CloseAllowed (c .before .before .before .args .eng
 allowed c = let a = c .before .before .before .args in close-allowed (a .engine) (length (now (a .memory))) (a .client) (sym (c .before .close-refusal .ensures) ∙ c .if1 .left)
 
 -- the window lies in memory
-inside : (c : tie.After-window-of) → (c .window-of .result .start ≤ c .window-of .result .end) × (c .window-of .result .end ≤ length (now (c .before .before .before .before .before .args .memory)))
+inside : (c : tie.After-window-of) → let c₅ = c .before .before .before .before .before in
+    (c .window-of .result .start ≤ c .window-of .result .end) × (c .window-of .result .end ≤ length (now (c₅ .args .memory)))
 inside c =
     let a = c .before .before .before .before .before .args in
     rw (c .window-of .ensures .0) (window-inside (a .engine) (length (now (a .memory))) (a .client) (allowed (c .before .before)))

@@ -20,7 +20,8 @@ abbrev μ-loop : tie.MeasureT-loop
 μ-loop question held₀ piece current₀ used₀ held current used = length piece - used
 
 -- what a call used is of what is left
-within : (c : tie.After-feed Inv-loop μ-loop) → c .before .before .before .before .loop .used + c .feed .result .used ≤ length (now (c .before .before .before .before .before .before .before .args .piece))
+within : (c : tie.After-feed Inv-loop μ-loop) → let c₇ = c .before .before .before .before .before .before .before in
+    c .before .before .before .before .loop .used + c .feed .result .used ≤ length (now (c₇ .args .piece))
 within c =
     let c₇ = c .before .before .before .before .before .before .before in
     let l = c .before .before .before .before .loop in

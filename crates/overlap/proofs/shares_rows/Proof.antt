@@ -10,7 +10,8 @@ use Rattle.overlap.proofs.shares_rows.Statement.{statement}
 use Rattle.overlap.proofs.shares_rows.Tie as tie
 
 -- y is the row that decides
-first : (c : tie.After-row-known) → First (c .before .before .before .before .before .before .before .args .first) (c .before .before .before .before .before .before .before .args .later) (c .before .before .before .before .before .before .before .pre) (c .before .if1 .y)
+first : (c : tie.After-row-known) → let c₇ = c .before .before .before .before .before .before .before in
+    First (c₇ .args .first) (c₇ .args .later) (c₇ .pre) (c .before .if1 .y)
 first c =
     let s = c .before .before .before .before .before .before .before in
     let e = c .before .before .before .before .before .row-length .ensures in

@@ -35,9 +35,9 @@ room c =
     leb-true 128 (length (l .out) - l .written) (and-true (ltb (l .used) (length input)) (leb 128 (length (l .out) - l .written)) (c .loop-test .taken) .1)
 
 -- what a call used and wrote lies within the input and the lines
-bounds : (c : tie.After-feed Inv-loop μ-loop) →
-    (c .before .before .before .before .before .before .before .loop .used + c .feed .result .used ≤ length (now (c .before .before .before .before .before .before .before .before .before .before .before .before .before .args .input)))
-    × (c .before .before .before .before .before .before .before .loop .written + c .feed .result .written ≤ length (now (c .before .before .before .before .before .before .before .before .before .before .before .before .before .args .out)))
+bounds : (c : tie.After-feed Inv-loop μ-loop) → let c₇ = c .before .before .before .before .before .before .before in let c₁₃ = c₇ .before .before .before .before .before .before in
+    (c₇ .loop .used + c .feed .result .used ≤ length (now (c₁₃ .args .input)))
+    × (c₇ .loop .written + c .feed .result .written ≤ length (now (c₁₃ .args .out)))
 bounds c =
     let c₁₃ = c .before .before .before .before .before .before .before .before .before .before .before .before .before in
     let l = c .before .before .before .before .before .before .before .loop in

@@ -13,7 +13,8 @@ use borrow.Author.Needs.{needs}
 use Rattle.run.proofs.run_by.Statement.{statement}
 use Rattle.run.proofs.run_by.Tie as tie
 
-allowed : (c : tie.Else1) → RunAllowed (c .before .before .before .before .before .args .engine) (length (now (c .before .before .before .before .before .args .ring))) (length (now (c .before .before .before .before .before .args .memory)))
+allowed : (c : tie.Else1) → let c₅ = c .before .before .before .before .before in
+    RunAllowed (c₅ .args .engine) (length (now (c₅ .args .ring))) (length (now (c₅ .args .memory)))
 allowed c =
     let c₅ = c .before .before .before .before .before in
     let a = c₅ .args in run-allowed (a .engine) (length (now (a .ring))) (length (now (a .memory))) (sym (c .before .run-refusal .ensures) ∙ c .if1 .left)
@@ -27,7 +28,8 @@ slot c =
     omega (arith, slot-below (c₇ .args .engine) (a .ok) (a .some) (e .before .before .check .ensures .2), c .oldest-slot .ensures)
 
 -- its batch is the oldest
-taken : (c : tie.After-batch-of) → c .batch-of .result ≡ oldest (c .before .before .before .before .before .before .before .before .before .args .engine)
+taken : (c : tie.After-batch-of) → let c₉ = c .before .before .before .before .before .before .before .before .before in
+    c .batch-of .result ≡ oldest (c₉ .args .engine)
 taken c = c .batch-of .ensures ∙ rw (c .before .before .oldest-slot .ensures)
 
 run-refusal-requires : tie.Need-run-refusal-requires

@@ -7,12 +7,14 @@ use borrow.Author.Needs.{needs}
 use Rattle.session.proofs.play_call.Statement.{statement}
 use Rattle.session.proofs.play_call.Tie as tie
 
-lies : (c : tie.After-submit-arg) → (c .before .before .request2 .given .0 .1 .0 ≤ c .before .before .request2 .given .0 .1 .1 .0) × (c .before .before .request2 .given .0 .1 .1 .0 ≤ length (c .before .before .before .before .before .before .before .args .bytes .now))
+lies : (c : tie.After-submit-arg) → let c₇ = c .before .before .before .before .before .before .before in
+    (c .before .before .request2 .given .0 .1 .0 ≤ c .before .before .request2 .given .0 .1 .1 .0) × (c .before .before .request2 .given .0 .1 .1 .0 ≤ length (c₇ .args .bytes .now))
 lies c =
     let c₇ = c .before .before .before .before .before .before .before in
     batch-lies _ _ _ _ _ (c .before .before .request2 .given .1) (c₇ .pre)
 
-handed : (c : tie.After-piece-arg) → (c .before .before .request5 .given .0 .1 .0 ≤ c .before .before .request5 .given .0 .1 .1 .0) × (c .before .before .request5 .given .0 .1 .1 .0 ≤ length (c .before .before .before .before .before .before .before .args .bytes .now))
+handed : (c : tie.After-piece-arg) → let c₇ = c .before .before .before .before .before .before .before in
+    (c .before .before .request5 .given .0 .1 .0 ≤ c .before .before .request5 .given .0 .1 .1 .0) × (c .before .before .request5 .given .0 .1 .1 .0 ≤ length (c₇ .args .bytes .now))
 handed c =
     let c₇ = c .before .before .before .before .before .before .before in
     piece-lies _ _ _ _ _ (c .before .before .request5 .given .1) (c₇ .pre)

@@ -12,7 +12,8 @@ use borrow.Author.Needs.{needs}
 use Rattle.submission.proofs.piece.Statement.{statement}
 use Rattle.submission.proofs.piece.Tie as tie
 
-allowed : (c : tie.Else1) → PieceAllowed (c .before .before .before .before .before .args .engine) (length (c .before .before .before .before .before .args .ring .now)) (c .before .before .before .before .before .args .client) (length (c .before .before .before .before .before .args .piece .now))
+allowed : (c : tie.Else1) → let c₅ = c .before .before .before .before .before in
+    PieceAllowed (c₅ .args .engine) (length (c₅ .args .ring .now)) (c₅ .args .client) (length (c₅ .args .piece .now))
 allowed c =
     let c₅ = c .before .before .before .before .before in
     piece-allowed (c₅ .args .engine) (length (c₅ .args .ring .now)) (c₅ .args .client) (length (c₅ .args .piece .now)) (sym (c .before .piece-refusal .ensures) ∙ c .if1 .left)
@@ -25,7 +26,8 @@ returns c =
     let c₅ = c .before .before .before .before .before in
     piece-refused (c₅ .args .engine) (c₅ .args .ring .now) (c₅ .args .client) (c₅ .args .piece .now) (c .before .piece-refusal .result) (c .before .piece-refusal .ensures) (c .if1 .taken)
 
-few : (c : tie.Else1) → readySlots (c .before .before .before .before .before .args .engine) ≤ 8
+few : (c : tie.Else1) → let c₅ = c .before .before .before .before .before in
+    readySlots (c₅ .args .engine) ≤ 8
 few c = c .before .before .check .ensures .1
 
 write-offset-requires : tie.Need-write-offset-requires

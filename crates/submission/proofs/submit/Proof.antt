@@ -11,7 +11,8 @@ use borrow.Author.Needs.{needs}
 use Rattle.submission.proofs.submit.Statement.{statement}
 use Rattle.submission.proofs.submit.Tie as tie
 
-allowed : (c : tie.Else1) → SubmitAllowed (c .before .before .before .before .before .args .engine) (length (c .before .before .before .before .before .args .ring .now)) (c .before .before .before .before .before .args .client) (length (c .before .before .before .before .before .args .batch .now))
+allowed : (c : tie.Else1) → let c₅ = c .before .before .before .before .before in
+    SubmitAllowed (c₅ .args .engine) (length (c₅ .args .ring .now)) (c₅ .args .client) (length (c₅ .args .batch .now))
 allowed c =
     let c₅ = c .before .before .before .before .before in
     submit-allowed (c₅ .args .engine) (length (c₅ .args .ring .now)) (c₅ .args .client) (length (c₅ .args .batch .now)) (sym (c .before .submit-refusal .ensures) ∙ c .if1 .left)

@@ -23,8 +23,9 @@ batches-valid-requires c κs =
     (n .ring .small, n .below, p .0, p .1, p .2)
 
 -- the tests together
-tested : (c : tie.After-pending-counts-match) → (c .before .before .windows-valid .result && c .before .batches-valid .result && c .pending-counts-match .result)
-    ≡ settled (c .before .before .before .before .before .before .before .before .args .engine)
+tested : (c : tie.After-pending-counts-match) → let c₈ = c .before .before .before .before .before .before .before .before in
+    (c .before .before .windows-valid .result && c .before .batches-valid .result && c .pending-counts-match .result)
+    ≡ settled (c₈ .args .engine)
 tested c = rw (c .pending-counts-match .ensures, c .before .batches-valid .ensures, c .before .before .windows-valid .ensures)
 
 returns-2 : tie.Need-returns-2
@@ -33,7 +34,8 @@ returns-2 c =
     let c₉ = c₇ .before .before in
     valid-not-settled (c₉ .args .engine) (right c₇) (sym (tested (c .before)) ∙ not-true _ (c .if2 .taken))
 
-all : (c : tie.Else2) → settled (c .before .before .before .before .before .before .before .before .before .args .engine) ≡ true
+all : (c : tie.Else2) → let c₉ = c .before .before .before .before .before .before .before .before .before in
+    settled (c₉ .args .engine) ≡ true
 all c = sym (tested (c .before)) ∙ not-false _ (c .if2 .left)
 
 staged-valid-requires : tie.Need-staged-valid-requires

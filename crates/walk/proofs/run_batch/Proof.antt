@@ -36,9 +36,9 @@ abbrev Ws : tie.Start Inv-loop μ-loop → List ℕ
 Ws c = batchWords (now (c .args .ring)) (c .args .offset) (c .args .size)
 
 -- a task ends past where it began
-onward : (c : tie.After-task Inv-loop μ-loop) →
+onward : (c : tie.After-task Inv-loop μ-loop) → let c₇ = c .before .before .before .before .before .before .before in
     (c .before .before .before .loop .at < c .task .given .0 .1 .1 .0)
-    × (c .task .given .0 .1 .1 .0 ≤ length (Ws (c .before .before .before .before .before .before .before)))
+    × (c .task .given .0 .1 .1 .0 ≤ length (Ws (c₇)))
 onward c =
     let s = c .before .before .before .before .before .before .before in
     let l = c .before .before .before .loop in
