@@ -12,7 +12,8 @@ use Rattle.pixel.specs.declared.format.Format.the-variants.{Argb8888}
 use Rattle.gradient.specs.declared.Steps.{Steps}
 use Rattle.surface.specs.declared.Surface.{Surface}
 use Rattle.transform.specs.declared.Transform.{Transform}
-use Rattle.register.specs.Task.{rotationOf, sourceModeOf}
+use Rattle.transform.specs.Transform.{rotationOf}
+use Rattle.register.specs.Task.{sourceModeOf}
 use Rattle.register.specs.declared.bank.Bank.{Bank}
 use Rattle.register.specs.declared.task.Alpha.{Alpha}
 use Rattle.register.specs.declared.task.Source.{Source}

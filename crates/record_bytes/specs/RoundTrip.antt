@@ -5,6 +5,7 @@ use mathlib.Core.Bool.{true, false}
 use mathlib.Core.List.{List, [], _∷_}
 use Prim.Native.Nat.{ℕ, _<_, _^_}
 use lib.ListN.{length}
+use Rattle.word.specs.Word.{AllBytes}
 use Rattle.record.specs.declared.Client.{Client}
 use Rattle.record.specs.declared.Slot.{Slot}
 use Rattle.record.specs.declared.SlotState.{SlotState}
@@ -62,10 +63,6 @@ pub record RoundTrip (r : EngineRecord) : Type 0 where
   pub fits : Typed r → valid r ≡ true → Small r
 
 -- ---- the other way: what is taken for a record is the bytes of that record, so that one record has one form
-
-abbrev pub AllBytes : List ℕ → Type 0
-AllBytes [] = Unit {0}
-AllBytes (b ∷ bs) = (b < 2 ^ 8) × AllBytes bs
 
 abbrev pub Canonical : (bytes : List ℕ) → Type 0
 Canonical bytes = AllBytes bytes → isRecord bytes ≡ true → bytesOf (recordOf bytes) ≡ bytes

@@ -5,10 +5,10 @@ use Prim.Native.Nat.{ℕ, zero, suc, _+_, _≤_}
 use native.Mathlib.Omega.{arith}
 use lib.ListN.{length, length-append}
 use lib.Seq.{drop-drop, take-append-seam, drop-append-seam}
-use Rattle.word.specs.Word.{byteOf, le32At, leBytes}
+use Rattle.word.specs.Word.{AllBytes, byteOf, le32At, leBytes}
 use Rattle.word.proofs.Words.{le32-bytes}
 use Rattle.model.specs.Calls.{Call, opens, submit, run, pending, begin, piece, cancel, close}
-use Rattle.script.specs.Script.{parsed, parseCall, decode, encodeOne, encode, AllBytes, CallFits, CallsFit, EncodeDecodeRoundTrip}
+use Rattle.script.specs.Script.{parsed, parseCall, decode, encodeOne, encode, CallFits, CallsFit, EncodeDecodeRoundTrip}
 use Rattle.script.proofs.Parsing.{open-long, bytes-long, client-long, begin-long, next-open, next-submit, next-pending, next-begin, next-piece, next-cancel, next-close}
 
 -- bytes that begin with a call's

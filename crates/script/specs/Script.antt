@@ -14,7 +14,7 @@ use mathlib.Core.Bool.{cond}
 use Prim.Native.Nat.{ℕ, zero, suc, _+_, _≤_, _<_, _^_}
 use lib.ListN.{length, take, drop, getD}
 use lib.Dec.{ltb, eqb}
-use Rattle.word.specs.Word.{le32At, leBytes}
+use Rattle.word.specs.Word.{AllBytes, le32At, leBytes}
 use Rattle.model.specs.Calls.{Call, opens, submit, run, pending, begin, piece, cancel, close}
 
 -- what stands at the start of some bytes: no call, or a call and the bytes after it
@@ -88,10 +88,6 @@ encodeOne (close client) = 7 ∷ client ∷ []
 unfoldable pub encode : List Call → List ℕ
 encode [] = []
 encode (call ∷ calls) = encodeOne call ++ encode calls
-
-abbrev pub AllBytes : List ℕ → Type 0
-AllBytes [] = Unit {0}
-AllBytes (b ∷ bs) = (b < 2 ^ 8) × AllBytes bs
 
 -- there is room for the call's numbers: a byte for a client and for each of a batch, four for every other
 abbrev pub CallFits : Call → Type 0
