@@ -29,7 +29,7 @@ fn bounds_of(client: u32) -> Bounds
 {
     Bounds {
         window: Range::new(16384 + client * 12288, 12288),
-        common: 16384,
+        common_length: 16384,
     }
 }
 

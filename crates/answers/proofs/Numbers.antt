@@ -48,9 +48,9 @@ oldest-short engine ok some = go (readySlots engine) refl some
     go zero e h = absurd (omega arith)
     go (suc k) e h =
         let v = valid-facts engine ok in
-        let b : Batch = batchOfTicket (ticketBefore (engine .next) (suc k)) (engine .slots) in
+        let b : Batch = batchOfTicket (ticketBefore (engine .«next_ticket») (suc k)) (engine .slots) in
         let bad = badLength (engine .setup .ring) (b .length) in
-        let first = and-true (not bad) (lengthsAllowed (engine .setup .ring) (inTicketOrder k (engine .next) (engine .slots))) (rw e at (v .lengths)) .0 in
+        let first = and-true (not bad) (lengthsAllowed (engine .setup .ring) (inTicketOrder k (engine .«next_ticket») (engine .slots))) (rw e at (v .lengths)) .0 in
         let good = length-good (engine .setup .ring) (b .length) (not-true bad first) in
         rw e (omega (arith, good .within, v .numbers .ring .small))
 

@@ -17,7 +17,7 @@ use Rattle.batch.specs.Batch.{decodeFrom, decodeBatch, verdictOf, status
 
 -- the replay program's bounds for client 0
 abbrev pub bounds : Bounds
-bounds = record { window = record { start = 16384; end = 28672 }; common = 16384 }
+bounds = record { window = record { start = 16384; end = 28672 }; «common_length» = 16384 }
 
 -- the twenty words, with an output address
 abbrev pub words : ℕ → List ℕ

@@ -39,10 +39,10 @@ module _ (bytes after words : List ℕ) (o : Outcome) (are : words ≡ outcomeWo
 pub ran-small : (engine : EngineRecord) (ring memory : List ℕ) (ran : RunResult) → ran ≡ runResult engine ring memory → Small (ran .outcome)
 ran-small engine ring memory ran e = rw e (run-small engine ring memory)
 
-pub run-told : (bytes ring memory : List ℕ) (engine : EngineRecord) (ran : RunResult) (number : ℕ) (five bytesNow memoryNow : List ℕ) → engine ≡ recordOf bytes → ran ≡ runResult engine ring memory →
+pub run-answered : (bytes ring memory : List ℕ) (engine : EngineRecord) (ran : RunResult) (number : ℕ) (five bytesNow memoryNow : List ℕ) → engine ≡ recordOf bytes → ran ≡ runResult engine ring memory →
     memoryNow ≡ runMemory engine ring memory → Reports bytes (written (ran .engine) bytes) (ran .outcome) number five bytesNow →
     Runs bytes ring memory number five bytesNow memoryNow
-run-told bytes ring memory engine ran number five bytesNow memoryNow is e q t =
+run-answered bytes ring memory engine ran number five bytesNow memoryNow is e q t =
     let r : EngineRecord = recordOf bytes in
     let both : ran ≡ runResult r ring memory = e ∙ ap (λ (x : EngineRecord). runResult x ring memory) is in
     let s = subst (λ (x : RunResult). Reports bytes (written (x .engine) bytes) (x .outcome) number five bytesNow) both t in

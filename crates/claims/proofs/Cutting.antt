@@ -24,7 +24,7 @@ use Rattle.queue.proofs.Refusals.{SubmitAllowed, submit-allowed}
 use Rattle.queue.proofs.Validity.{Sized, few-taken, staged-valid}
 use Rattle.queue.proofs.Submitted.{submit-addable}
 use Rattle.model.specs.Calls.{Setup, Call, submit, begin, piece, accepted, missing}
-use Rattle.claims.specs.Engine.{State, mkState, CallResult, pieceTold, performCall, stateAfter, SetUpAccepted}
+use Rattle.claims.specs.Engine.{State, mkState, CallResult, modelAnswerOf, performCall, stateAfter, SetUpAccepted}
 use Rattle.model.specs.Machine.{Cutting}
 use Rattle.claims.specs.Demand1.{refusalTableOf}
 use Rattle.claims.specs.Demand3.{engineMachine, finalState}
@@ -64,7 +64,7 @@ module _ (s : State) (sized : Sized (s .engine)) (client n : ℕ) (z : number (b
   starts =
       let v = valid-facts e (a .ok) in
       let ready = ready-within e v (few-taken e sized) in
-      let below = wrapped-below (e .setup .ring) (e .read + readyBytes e) (omega (arith, v .numbers .below)) in
+      let below = wrapped-below (e .setup .ring) (e .«read_offset» + readyBytes e) (omega (arith, v .numbers .below)) in
       omega (arith, a .ring)
 
   within : n ≤ length (s .ring)
@@ -112,7 +112,7 @@ module _ (s : State) (sized : Sized (s .engine)) (client n : ℕ) (z : number (b
   unfolding withStaged withBatch
   last-record y x h = rw (eq-eqb (length y + length x) n h, length-append y x, h)
 
-  last-answer : (y x : List ℕ) → length y + length x ≡ n → pieceTold (pieceAnswer (upTo (length y)) (length x)) ≡ accepted (e .next)
+  last-answer : (y x : List ℕ) → length y + length x ≡ n → modelAnswerOf (pieceAnswer (upTo (length y)) (length x)) ≡ accepted (e .«next_ticket»)
   unfolding withStaged
   last-answer y x h = rw (eq-eqb (length y + length x) n h)
 

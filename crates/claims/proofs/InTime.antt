@@ -22,53 +22,53 @@ use Rattle.claims.proofs.Simulation.{step-simulates, calls-simulate, at
 
 -- completions of these batches, one of each, in order
 data Names : List Answer → List Batch → Type 0 where
-  none : Names [] []
-  more : (b : Batch) (v : CompletionStatus) {told : List Answer} {bs : List Batch} → Names told bs → Names (completed (b .client) (b .ticket) v ∷ told) (b ∷ bs)
+  nil : Names [] []
+  cons : (b : Batch) (v : CompletionStatus) {reports : List Answer} {bs : List Batch} → Names reports bs → Names (completed (b .client) (b .ticket) v ∷ reports) (b ∷ bs)
 
 -- of a batch among the first k there is a completion among the first k
-abbrev Told : Batch → List Answer → Type 0
-Told b told = (v : CompletionStatus) × List·Memᴰ (completed (b .client) (b .ticket) v) told
+abbrev Reported : Batch → List Answer → Type 0
+Reported b reports = (v : CompletionStatus) × List·Memᴰ (completed (b .client) (b .ticket) v) reports
 
-later : (b : Batch) (a : Answer) (told : List Answer) → Told b told → Told b (a ∷ told)
-later b a told t = (t .0, List·Memᴰ·tail (t .1))
+later : (b : Batch) (a : Answer) (reports : List Answer) → Reported b reports → Reported b (a ∷ reports)
+later b a reports t = (t .0, List·Memᴰ·tail (t .1))
 
-named : (k : ℕ) (b : Batch) {told : List Answer} {bs : List Batch} → Names told bs → List·Memᴰ b (take k bs) → Told b (take k told)
+named : (k : ℕ) (b : Batch) {reports : List Answer} {bs : List Batch} → Names reports bs → List·Memᴰ b (take k bs) → Reported b (take k reports)
 named zero b n m = absurd (List·Memᴰ·not-nil m)
-named (suc k) b none m = absurd (List·Memᴰ·not-nil m)
-named (suc k) b (more c v {told} {bs} n) m = go (List·Memᴰ·cases-cons m) (λ h. named k b n h)
+named (suc k) b nil m = absurd (List·Memᴰ·not-nil m)
+named (suc k) b (cons c v {reports} {bs} n) m = go (List·Memᴰ·cases-cons m) (λ h. named k b n h)
   where
-    go : (b ≡ c) ⊎ List·Memᴰ b (take k bs) → (List·Memᴰ b (take k bs) → Told b (take k told)) → Told b (completed (c .client) (c .ticket) v ∷ take k told)
+    go : (b ≡ c) ⊎ List·Memᴰ b (take k bs) → (List·Memᴰ b (take k bs) → Reported b (take k reports)) → Reported b (completed (c .client) (c .ticket) v ∷ take k reports)
     go (inl e) f = (v, List·Memᴰ·head (ap (λ (x : Batch). completed (x .client) (x .ticket) v) e))
-    go (inr h) f = later b (completed (c .client) (c .ticket) v) (take k told) (f h)
+    go (inr h) f = later b (completed (c .client) (c .ticket) v) (take k reports) (f h)
 
 -- ---- each call of the model completes what it executes
 
 module _ (way : BatchSemantics) (setup : Setup) (ring : ℕ) where
   abbrev One : Step → Type 0
-  One s = (told : List Answer) (bs : List Batch) → Names (completedOf told) bs → Names (completedOf (s .answer ∷ told)) (s .executed ++ bs)
+  One s = (reports : List Answer) (bs : List Batch) → Names (completedOf reports) bs → Names (completedOf (s .answer ∷ reports)) (s .executed ++ bs)
 
   step-one : (c : Call) (model : Model) → One (step way setup ring c model)
   unfolding effect completedOf
-  step-one (opens w) model = unless-cases One (refusal setup ring model (opens w)) model _ (λ e told bs n. n) (λ k told bs n. n)
-  step-one (submit client bytes) model = unless-cases One (refusal setup ring model (submit client bytes)) model _ (λ e told bs n. n) (λ k told bs n. n)
-  step-one run model = unless-cases One (refusal setup ring model run) model _ (λ e. go (model .waiting)) (λ k told bs n. n)
+  step-one (opens w) model = unless-cases One (refusal setup ring model (opens w)) model _ (λ e reports bs n. n) (λ k reports bs n. n)
+  step-one (submit client bytes) model = unless-cases One (refusal setup ring model (submit client bytes)) model _ (λ e reports bs n. n) (λ k reports bs n. n)
+  step-one run model = unless-cases One (refusal setup ring model run) model _ (λ e. go (model .waiting)) (λ k reports bs n. n)
     where
       go : (bs : List Batch) → One (runStep way (setup .common) model bs)
-      go [] told bs n = n
-      go (b ∷ rest) told bs n = more b _ n
-  step-one (begin client total) model = unless-cases One (refusal setup ring model (begin client total)) model _ (λ e told bs n. n) (λ k told bs n. n)
-  step-one (piece client bytes) model = unless-cases One (refusal setup ring model (piece client bytes)) model _ (λ e. staged (model .staged)) (λ k told bs n. n)
+      go [] reports bs n = n
+      go (b ∷ rest) reports bs n = cons b _ n
+  step-one (begin client total) model = unless-cases One (refusal setup ring model (begin client total)) model _ (λ e reports bs n. n) (λ k reports bs n. n)
+  step-one (piece client bytes) model = unless-cases One (refusal setup ring model (piece client bytes)) model _ (λ e. staged (model .staged)) (λ k reports bs n. n)
     where
       staged : (g : Staging) → One (pieceStep model g bytes)
-      staged idle = λ told bs n. n
-      staged (staging d total before) = cond-cases One (eqb (length (before ++ bytes)) total) _ _ (λ t told bs n. n) (λ t told bs n. n)
-  step-one (cancel client) model = unless-cases One (refusal setup ring model (cancel client)) model _ (λ e told bs n. n) (λ k told bs n. n)
-  step-one (close client) model = unless-cases One (refusal setup ring model (close client)) model _ (λ e told bs n. n) (λ k told bs n. n)
-  step-one (pending client) model = unless-cases One (refusal setup ring model (pending client)) model _ (λ e told bs n. n) (λ k told bs n. n)
+      staged idle = λ reports bs n. n
+      staged (staging d total before) = cond-cases One (eqb (length (before ++ bytes)) total) _ _ (λ t reports bs n. n) (λ t reports bs n. n)
+  step-one (cancel client) model = unless-cases One (refusal setup ring model (cancel client)) model _ (λ e reports bs n. n) (λ k reports bs n. n)
+  step-one (close client) model = unless-cases One (refusal setup ring model (close client)) model _ (λ e reports bs n. n) (λ k reports bs n. n)
+  step-one (pending client) model = unless-cases One (refusal setup ring model (pending client)) model _ (λ e reports bs n. n) (λ k reports bs n. n)
 
   all-named : (cs : List Call) (model : Model) → Names (completedOf (answers way setup ring cs model)) (executed way setup ring cs model)
   unfolding answers executed completedOf
-  all-named [] model = none
+  all-named [] model = nil
   all-named (c ∷ cs) model =
       let next : Model = step way setup ring c model .after in
       step-one c model (answers way setup ring cs next) (executed way setup ring cs next) (all-named cs next)
@@ -81,9 +81,9 @@ own model call b (whole client ticket bytes) = submitted client bytes
 own model call b (pieces client ticket total before bytes e) = last-piece client bytes
 
 -- with the batch's ticket and the answers given otherwise
-among-answers : (b : Batch) (ticket : ℕ) (v : CompletionStatus) (told told′ : List Answer) → b .ticket ≡ ticket → told′ ≡ told →
-    List·Memᴰ (completed (b .client) (b .ticket) v) (take 8 (completedOf told)) → List·Memᴰ (completed (b .client) ticket v) (take 8 (completedOf told′))
-among-answers b ticket v told told′ t same m = rw (same, ← t) m
+among-answers : (b : Batch) (ticket : ℕ) (v : CompletionStatus) (reports told′ : List Answer) → b .ticket ≡ ticket → told′ ≡ reports →
+    List·Memᴰ (completed (b .client) (b .ticket) v) (take 8 (completedOf reports)) → List·Memᴰ (completed (b .client) ticket v) (take 8 (completedOf told′))
+among-answers b ticket v reports told′ t same m = rw (same, ← t) m
 
 module _ (setup : Setup) (ring : List ℕ) (A : SetUpAccepted setup) (calls later : List Call) (memory : List ℕ) where
   abbrev n : ℕ

@@ -58,11 +58,11 @@ pieces-run-none model (staging client total before) bytes = go (eqb (length (bef
     go true a b p q = p
     go false a b p q = q
 
-after-piece-read : (e : EngineRecord) (size : ℕ) → afterPiece e size .read ≡ e .read
+after-piece-read : (e : EngineRecord) (size : ℕ) → afterPiece e size .«read_offset» ≡ e .«read_offset»
 unfolding withBatch withStaged
 after-piece-read e size = go (isLast (e .staged) size)
   where
-    go : (t : Bool) → cond t (withBatch e (e .staged .slot) (newBatch e (e .staged .client) (e .staged .total))) (withStaged e (more (e .staged) size)) .read ≡ e .read
+    go : (t : Bool) → cond t (withBatch e (e .staged .slot) (newBatch e (e .staged .client) (e .staged .total))) (withStaged e (more (e .staged) size)) .«read_offset» ≡ e .«read_offset»
     go true = refl
     go false = refl
 
@@ -79,7 +79,7 @@ module _ (setup : Setup) (n : ℕ) (model : Model) (s : State) (R : Related setu
   number-like c = alike setup n s S (model .accepted) c ∙ sym (ap (λ (m : Model). refusal setup n m c) (R .is))
 
   -- where the next batch goes
-  batch-offset : length (s .ring) ≡ s .engine .setup .ring → writeOffset (s .engine) ≡ batchOffset setup n (s .engine .read) model
+  batch-offset : length (s .ring) ≡ s .engine .setup .ring → writeOffset (s .engine) ≡ batchOffset setup n (s .engine .«read_offset») model
   batch-offset lent =
       let same : n ≡ setup .ring = omega (arith, S .long, ring-like) in
       let bytes : totalBytes (model .waiting) ≡ readyBytes (s .engine) = ap (λ (m : Model). totalBytes (m .waiting)) (R .is) ∙ bytes-count setup n s S same in
@@ -95,11 +95,11 @@ module _ (setup : Setup) (n : ℕ) (model : Model) (s : State) (R : Related setu
       (λ (u : (isIdle (s .engine .staged) ≡ false) × Unfinished (s .engine)). ap receivedBytes (some-seen (s .ring) (s .engine) (u .0)) ∙ staged-long setup n s S same)
       (staged-cases (s .engine) (facts setup n s S .staged))
 
-  piece-offset : length (s .ring) ≡ s .engine .setup .ring → offsetOfPiece (s .engine) ≡ pieceOffset setup n (s .engine .read) model
+  piece-offset : length (s .ring) ≡ s .engine .setup .ring → offsetOfPiece (s .engine) ≡ pieceOffset setup n (s .engine .«read_offset») model
   piece-offset lent = rw (received-like lent, ← batch-offset lent, ring-like)
 
   -- the ring after a call
-  ring-call : (c : Call) → performCall c s .after .ring ≡ ringAfterCall setup n (s .engine .read) c model (s .ring)
+  ring-call : (c : Call) → performCall c s .after .ring ≡ ringAfterCall setup n (s .engine .«read_offset») c model (s .ring)
   unfolding ringAfterCall
   ring-call (opens w) = rw (by-number (opens w) s) (either-same (number (opens w) s) s (done (opens w) s) refl)
   ring-call (submit client bytes) =
@@ -117,16 +117,16 @@ module _ (setup : Setup) (n : ℕ) (model : Model) (s : State) (R : Related setu
   ring-call (close client) = rw (by-number (close client) s) (either-same (number (close client) s) s (done (close client) s) refl)
 
   -- no batch was run
-  read-none : s .engine .read ≡ wrapOffset (setup .ring) (s .engine .read + 0)
-  read-none = let below : s .engine .read < setup .ring = omega (arith, facts setup n s S .numbers .below, ring-like) in
-      sym (rw add-zero (wrapped-in (setup .ring) (s .engine .read) below))
+  read-none : s .engine .«read_offset» ≡ wrapOffset (setup .ring) (s .engine .«read_offset» + 0)
+  read-none = let below : s .engine .«read_offset» < setup .ring = omega (arith, facts setup n s S .numbers .below, ring-like) in
+      sym (rw add-zero (wrapped-in (setup .ring) (s .engine .«read_offset») below))
 
-  read-kept : (batches : List Batch) → batches ≡ [] → (read : ℕ) → read ≡ s .engine .read → read ≡ wrapOffset (setup .ring) (s .engine .read + totalBytes batches)
+  read-kept : (batches : List Batch) → batches ≡ [] → (read : ℕ) → read ≡ s .engine .«read_offset» → read ≡ wrapOffset (setup .ring) (s .engine .«read_offset» + totalBytes batches)
   unfolding totalBytes
-  read-kept batches e read r = r ∙ read-none ∙ ap (λ (bs : List Batch). wrapOffset (setup .ring) (s .engine .read + totalBytes bs)) (sym e)
+  read-kept batches e read r = r ∙ read-none ∙ ap (λ (bs : List Batch). wrapOffset (setup .ring) (s .engine .«read_offset» + totalBytes bs)) (sym e)
 
   -- the oldest batch was
-  read-run : number run s ≡ 0 → withoutOldest (s .engine) .read ≡ wrapOffset (setup .ring) (s .engine .read + totalBytes (runStep (batchSemantics setup) (setup .common) model (model .waiting) .executed))
+  read-run : number run s ≡ 0 → withoutOldest (s .engine) .«read_offset» ≡ wrapOffset (setup .ring) (s .engine .«read_offset» + totalBytes (runStep (batchSemantics setup) (setup .common) model (model .waiting) .executed))
   unfolding withoutOldest totalBytes
   read-run z =
       let allowed = run-allowed (s .engine) (length (s .ring)) (length (s .memory)) z in
@@ -134,7 +134,7 @@ module _ (setup : Setup) (n : ℕ) (model : Model) (s : State) (R : Related setu
       let waits = ap (λ (m : Model). m .waiting) (R .is) ∙ run-held (s .engine) (S .sized) (s .ring) (length (s .memory)) allowed seenBatch in
       rw (waits, size, add-zero, ring-like)
 
-  done-read : (c : Call) → number c s ≡ 0 → done c s .after .engine .read ≡ readAfterCall setup n (s .engine .read) (effect (batchSemantics setup) setup n c model)
+  done-read : (c : Call) → number c s ≡ 0 → done c s .after .engine .«read_offset» ≡ readAfterCall setup n (s .engine .«read_offset») (effect (batchSemantics setup) setup n c model)
   unfolding effect withClient withBatch withStaged withoutClient
   done-read (opens w) z = read-kept [] refl _ refl
   done-read (submit client bytes) z = read-kept [] refl _ refl
@@ -146,17 +146,17 @@ module _ (setup : Setup) (n : ℕ) (model : Model) (s : State) (R : Related setu
   done-read (close client) z = read-kept [] refl _ refl
 
   -- the read offset after a call
-  read-call : (c : Call) → performCall c s .after .engine .read ≡ readAfterCall setup n (s .engine .read) (step (batchSemantics setup) setup n c model)
+  read-call : (c : Call) → performCall c s .after .engine .«read_offset» ≡ readAfterCall setup n (s .engine .«read_offset») (step (batchSemantics setup) setup n c model)
   unfolding either refuseOr
   read-call c = rw (by-number c s, ← number-like c) (go (number c s) (done-read c))
     where
-      go : (k : ℕ) → (k ≡ 0 → done c s .after .engine .read ≡ readAfterCall setup n (s .engine .read) (effect (batchSemantics setup) setup n c model)) →
-          either k s (done c s) .after .engine .read ≡ readAfterCall setup n (s .engine .read) (refuseOr k model (effect (batchSemantics setup) setup n c model))
+      go : (k : ℕ) → (k ≡ 0 → done c s .after .engine .«read_offset» ≡ readAfterCall setup n (s .engine .«read_offset») (effect (batchSemantics setup) setup n c model)) →
+          either k s (done c s) .after .engine .«read_offset» ≡ readAfterCall setup n (s .engine .«read_offset») (refuseOr k model (effect (batchSemantics setup) setup n c model))
       go zero h = h refl
       go (suc k) h = read-kept [] refl _ refl
 
 -- any list of calls
-ring-calls : (setup : Setup) (n : ℕ) (cs : List Call) (model : Model) (s : State) → Related setup n model s → stateAfter cs s .ring ≡ ringAfterCalls setup n (s .engine .read) cs model (s .ring)
+ring-calls : (setup : Setup) (n : ℕ) (cs : List Call) (model : Model) (s : State) → Related setup n model s → stateAfter cs s .ring ≡ ringAfterCalls setup n (s .engine .«read_offset») cs model (s .ring)
 unfolding stateAfter ringAfterCalls
 ring-calls setup n [] model s R = refl
 ring-calls setup n (c ∷ cs) model s R =
@@ -164,7 +164,7 @@ ring-calls setup n (c ∷ cs) model s R =
     ∙ ap₂ (λ (read : ℕ) (ring : List ℕ). ringAfterCalls setup n read cs (step (batchSemantics setup) setup n c model .after) ring) (read-call setup n model s R c) (ring-call setup n model s R c)
 
 -- from an accepted set up on
-start-read : (setup : Setup) (ring memory : List ℕ) → SetUpAccepted setup → initialState setup ring memory .engine .read ≡ 0
+start-read : (setup : Setup) (ring memory : List ℕ) → SetUpAccepted setup → initialState setup ring memory .engine .«read_offset» ≡ 0
 unfolding setUpResult unlessRefused initialRecord
 start-read setup ring memory A = let none : firstRefusal (setUpTable (numbersIn setup)) ≡ 0 = sym (set-up-number (numbersIn setup)) ∙ A in rw none
 

@@ -68,8 +68,8 @@ module _ (setup : Setup) (A : SetUpAccepted setup) where
     throughout : memoriesOf (before ++ opens w ∷ during) (initialState setup ring memory) ≡ memories way setup n (before ++ opens w ∷ during) (initialModel memory)
     throughout = remember setup n (before ++ opens w ∷ during) (initialModel memory) (initialState setup ring memory) (start setup ring A memory)
 
-    closing-told : (later : List Call) → answersOf (close client ∷ later) left-state ≡ answers way setup n (close client ∷ later) (after way setup n during (entered way setup n (initialModel memory) before w))
-    closing-told later = calls-simulate setup n (close client ∷ later) _ _ left-related .0
+    closing-answers : (later : List Call) → answersOf (close client ∷ later) left-state ≡ answers way setup n (close client ∷ later) (after way setup n during (entered way setup n (initialModel memory) before w))
+    closing-answers later = calls-simulate setup n (close client ∷ later) _ _ left-related .0
 
     closing-left : (later : List Call) → memoriesOf (close client ∷ later) left-state ≡ memories way setup n (close client ∷ later) (after way setup n during (entered way setup n (initialModel memory) before w))
     closing-left later = remember setup n (close client ∷ later) _ _ left-related
@@ -88,7 +88,7 @@ module _ (setup : Setup) (A : SetUpAccepted setup) where
         throughout = rw (throughout ring client before w during memory, throughout ring′ client before w during′ memory′, ← long) (q .throughout);
         from-closing = λ later z.
             let c = q .from-closing later (sym (closing ring client before w during memory) ∙ z) in (
-              rw (closing-told ring client before w during memory later, closing-told ring′ client before w during′ memory′ later, ← long) (c .0),
+              rw (closing-answers ring client before w during memory later, closing-answers ring′ client before w during′ memory′ later, ← long) (c .0),
               rw (closing-left ring client before w during memory later, closing-left ring′ client before w during′ memory′ later, ← long) (c .1),
             );
       }
@@ -101,6 +101,6 @@ promise setup ring A = record {
   noninterference = λ client ring′. noninterference setup A client ring ring′;
   in-time = in-time setup ring A;
   cutting = cutting setup ring A;
-  harmless = λ call s. demand1 .calls s .harmless call;
+  refused-no-change = λ call s. demand1 .calls s .refused-no-change call;
   stands = stands setup ring A;
 }

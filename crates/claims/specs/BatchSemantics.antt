@@ -14,7 +14,7 @@ use Rattle.model.specs.BatchSemantics.{BatchSemantics}
 
 -- what a client may touch: its window, and the first `common` bytes of memory
 abbrev pub boundsOf : Window → ℕ → Bounds
-boundsOf w common = record { window = rangeOf (w .start) (w .length); common = common }
+boundsOf w common = record { window = rangeOf (w .start) (w .length); «common_length» = common }
 
 -- status, fault and offset of a verdict
 abbrev pub completionStatusOf : Verdict → Numbers

@@ -48,10 +48,10 @@ standing s = tasksDrawn (decodeBatch (boundsOfClient (s .engine) (oldest (s .eng
 -- the eight calls on a record
 pub record OfCalls (s : State) : Type 0 where
   -- "A refusal comes exactly under its listed condition, in the listed order": it is the first row whose condition holds; without one there is none
-  pub listed : (call : Call) (n : ℕ) → ¬ (n ≡ 0) → firstRefusal (refusalTableOf call s) ≡ n → performCall call s .answer ≡ refused n
-  pub only : (call : Call) (n : ℕ) → performCall call s .answer ≡ refused n → (firstRefusal (refusalTableOf call s) ≡ n) × ¬ (n ≡ 0)
+  pub refused-if : (call : Call) (n : ℕ) → ¬ (n ≡ 0) → firstRefusal (refusalTableOf call s) ≡ n → performCall call s .answer ≡ refused n
+  pub refused-only-if : (call : Call) (n : ℕ) → performCall call s .answer ≡ refused n → (firstRefusal (refusalTableOf call s) ≡ n) × ¬ (n ≡ 0)
   -- "and changes nothing": a refused call leaves record, ring and memory as they were, whatever they are
-  pub harmless : (call : Call) → RefusalNoOp (performCall call s .answer) s (performCall call s .after)
+  pub refused-no-change : (call : Call) → RefusalNoOp (performCall call s .answer) s (performCall call s .after)
   -- a faulty batch "leaves with fault number, place, status", and "tasks before the faulty one stand, and the status word carries their number in the upper
   -- half, finish bit clear" (02, 5): a run that is not refused, and finds a fault. Memory after is memory with these tasks drawn, and they are that many
   pub faulty : (tasks : ℕ) (fault : Fault) (place : ℕ) → firstRefusal (refusalTableOf run s) ≡ 0 → oldestVerdict (s .engine) (s .ring) ≡ Faulty tasks fault place →
@@ -64,8 +64,8 @@ pub record OfCalls (s : State) : Type 0 where
 
 -- the encoder; "and changes nothing" is said of the buffer that is lent
 pub record OfEncoder (form : Form) (buffer : List ℕ) : Type 0 where
-  pub listed : encoderNumber (answerOf form (length buffer)) ≡ firstRefusal (encoderTable form (length buffer))
-  pub harmless : ¬ (encoderNumber (answerOf form (length buffer)) ≡ 0) → bufferAfter form buffer ≡ buffer
+  pub refused-if : encoderNumber (answerOf form (length buffer)) ≡ firstRefusal (encoderTable form (length buffer))
+  pub refused-no-change : ¬ (encoderNumber (answerOf form (length buffer)) ≡ 0) → bufferAfter form buffer ≡ buffer
 
 pub record Demand1 : Type 0 where
   -- set up's refusal, 0 for none, is by its table; it is lent nothing

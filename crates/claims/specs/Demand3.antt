@@ -27,7 +27,7 @@ engineMachine = record {
   Result = CallResult;
   perform = performCall;
   answer = λ r. r .answer;
-  next = λ r. r .after;
+  next-ticket = λ r. r .after;
   refusal = λ call s. firstRefusal (refusalTableOf call s);
   memory = λ s. s .memory;
   answers = answersOf;
@@ -104,7 +104,7 @@ pub record Demand3 (setup : Setup) (ring : List ℕ) : Type 0 where
   pub cutting : (calls : List Call) (memory : List ℕ) (client : ℕ) (pieces : List (List ℕ)) (last : List ℕ) →
       Cutting engineMachine client pieces last (finalState setup ring calls memory)
   -- e: a refused call changes nothing (demand 1), and a faulty batch leaves the tasks before its fault drawn
-  pub harmless : (call : Call) (s : State) → RefusalNoOp (performCall call s .answer) s (performCall call s .after)
+  pub refused-no-change : (call : Call) (s : State) → RefusalNoOp (performCall call s .answer) s (performCall call s .after)
   pub stands : (calls : List Call) (memory : List ℕ) → FaultyBatchStands setup ring calls memory
 
 -- The promise.

@@ -41,7 +41,7 @@ pub record ModelPropertiesHold (setup : Setup) (ring : ℕ) : Type 0 where
   pub in-time : (calls later : List Call) (memory : List ℕ) →
       BoundedWaiting (setUpModel setup ring) (modelAfterAll (batchSemantics setup) setup ring calls memory) later (Executed (batchSemantics setup) setup ring calls memory later)
   -- a refused call changes nothing, executes and closes nothing, and its number is one of the table's
-  pub harmless : (call : Call) (model : Model) → RefusalNoOp (step (batchSemantics setup) setup ring call model .answer) model (step (batchSemantics setup) setup ring call model .after)
+  pub refused-no-change : (call : Call) (model : Model) → RefusalNoOp (step (batchSemantics setup) setup ring call model .answer) model (step (batchSemantics setup) setup ring call model .after)
   pub quiet : (call : Call) (model : Model) → QuietRefusal (batchSemantics setup) setup ring call model
   -- every way to cut a batch into pieces comes to what a whole submit comes to
   pub cutting : (client : ℕ) (pieces : List (List ℕ)) (last : List ℕ) (model : Model) →

@@ -25,7 +25,7 @@ use Rattle.transform.specs.Transform.{rotatedSize, sourcePixel}
 use Rattle.surface.specs.Surface.{span}
 use Rattle.register.specs.Bank.{resetBank}
 use Rattle.rules.specs.declared.task.Bounds.{Bounds}
-use Rattle.batch.specs.Batch.{DecoderState, start, inside, groupOf, decodeBatch, verdictOf, statusWordOf}
+use Rattle.batch.specs.Batch.{DecoderState, betweenTasks, inGroup, groupOf, decodeBatch, verdictOf, statusWordOf}
 
 -- a row: what is computed, and what the paper says
 infix 70 _gives_
@@ -44,8 +44,8 @@ expected ((c gives s) ∷ rows) = s ∷ expected rows
 
 -- a header's offset, its length in bytes, and 1 if it ends the task
 abbrev pub group : DecoderState → List ℕ
-group start = []
-group (inside left offset ends head) = offset ∷ 4 * left ∷ cond ends 1 0 ∷ []
+group betweenTasks = []
+group (inGroup left offset ends head) = offset ∷ 4 * left ∷ cond ends 1 0 ∷ []
 
 -- a run's first byte and its last
 abbrev pub ends : Range → List ℕ
@@ -84,7 +84,7 @@ task address =
 
 -- of the first client of 01's replay program
 abbrev pub bounds : Bounds
-bounds = record { window = record { start = 16384; end = 28672 }; common = 16384 }
+bounds = record { window = record { start = 16384; end = 28672 }; «common_length» = 16384 }
 
 -- ---- the table; p and q are any two pixels
 

@@ -43,8 +43,8 @@ fn fresh_record(setup: Setup) -> EngineRecord
         setup: setup,
         clients: clients,
         slots: slots,
-        read: 0,
-        next: 0,
+        read_offset: 0,
+        next_ticket: 0,
         staged: record::no_staged(),
     }
 }

@@ -43,7 +43,7 @@ pub fn bounds_for(engine: EngineRecord, client: u32) -> Bounds
     let clients = engine.clients;
     Bounds {
         window: clients::window_of(clients, client),
-        common: setup.common,
+        common_length: setup.common,
     }
 }
 
@@ -79,7 +79,7 @@ pub fn oldest_slot(engine: EngineRecord, ready: usize) -> usize
     ensures { λ r. ⌜ r ≡ slotOfTicket (oldestTicket engine) (engine .slots) ⌝ }
 {
     let slots = engine.slots;
-    slots::slot_of_age(slots, engine.next, ready)
+    slots::slot_of_age(slots, engine.next_ticket, ready)
 }
 
 // The slots with one of them free.
@@ -108,6 +108,6 @@ pub fn without_oldest(engine: EngineRecord, at: usize, batch: Batch) -> EngineRe
     let mut after = engine;
     after.clients = fewer;
     after.slots = left;
-    after.read = record::wrap_offset(setup.ring, engine.read + batch.length);
+    after.read_offset = record::wrap_offset(setup.ring, engine.read_offset + batch.length);
     after
 }

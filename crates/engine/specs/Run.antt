@@ -44,14 +44,14 @@ runNumber engine ring memory = firstRefusal (runTable engine (length ring) (leng
 
 -- of n ready batches the oldest has the ticket n before the next to be given
 abbrev pub oldestTicket : EngineRecord → ℕ
-oldestTicket engine = ticketBefore (engine .next) (readySlots engine)
+oldestTicket engine = ticketBefore (engine .«next_ticket») (readySlots engine)
 
 abbrev pub oldest : EngineRecord → Batch
 oldest engine = batchOfTicket (oldestTicket engine) (engine .slots)
 
 -- its client's window, and common
 abbrev pub boundsOfClient : EngineRecord → (client : ℕ) → Bounds
-boundsOfClient engine client = record { window = windowRange (clientAt engine client .window); common = engine .setup .common }
+boundsOfClient engine client = record { window = windowRange (clientAt engine client .window); «common_length» = engine .setup .common }
 
 -- its words, in order
 abbrev pub oldestWords : EngineRecord → (ring : List ℕ) → List ℕ
@@ -76,8 +76,8 @@ withoutOldest engine = record {
   setup = engine .setup;
   clients = pendingLowered (engine .clients) (oldest engine .client);
   slots = set (engine .slots) (slotOfTicket (oldestTicket engine) (engine .slots)) free;
-  read = wrapOffset (engine .setup .ring) (engine .read + oldest engine .length);
-  next = engine .next;
+  «read_offset» = wrapOffset (engine .setup .ring) (engine .«read_offset» + oldest engine .length);
+  «next_ticket» = engine .«next_ticket»;
   staged = engine .staged;
 }
 

@@ -55,7 +55,7 @@ pub fn write_offset(engine: EngineRecord, ready: usize) -> usize
     ensures { λ r. ⌜ r ≡ writeOffset engine ⌝ }
 {
     let setup = engine.setup;
-    record::wrap_offset(setup.ring, engine.read + ready)
+    record::wrap_offset(setup.ring, engine.read_offset + ready)
 }
 
 // What submit and begin are refused with, 0 if they are not; `found` is what the check of the record found.
@@ -132,7 +132,7 @@ pub fn with_batch(engine: EngineRecord, at: usize, batch: Batch) -> EngineRecord
     let mut after = engine;
     after.clients = raised;
     after.slots = filled;
-    after.next = next_ticket(engine.next);
+    after.next_ticket = next_ticket(engine.next_ticket);
     after.staged = record::no_staged();
     after
 }

@@ -36,7 +36,7 @@ use Rattle.inquiry.specs.declared.FeedResult.{FeedResult}
 use Rattle.provenance.specs.Drawn.{Drawn, numbered, drawnBy, drawnFrom}
 use Rattle.provenance.specs.Touched.{lastFrom, touchedBy}
 use Rattle.provenance.specs.Faulted.{explained, whyFrom, faultedBy}
-use Rattle.provenance.specs.Answers.{toldTouched, toldFault, touchedAnswer, faultAnswer}
+use Rattle.provenance.specs.Answers.{answerTouched, answerFault, touchedAnswer, faultAnswer}
 use Rattle.inquiry.specs.Inquiry.{findingAfter, findingFrom, nothingYet, Answers, answersOf, Stands, Feeds, findingNext, findingOn}
 
 -- ---- one record more
@@ -160,7 +160,7 @@ module _ (q : Question) where
         some = T .some;
       })
 
-  pub starts-by : (held : List ℕ) (s : Inquiry) → s ≡ record { reader = record { stage = Version; held = 0 }; finding = nothingYet } → 32773 ≤ length held → Stands q [] s held
+  pub starts-by : (held : List ℕ) (s : Inquiry) → s ≡ record { reader = record { stage = Version; buffered = 0 }; finding = nothingYet } → 32773 ≤ length held → Stands q [] s held
   starts-by held s is room = rw is (record { ready = record { room = room; few = omega arith; due = tt }; counts = omega arith; answers = λ rest. refl })
 
   -- at the end no byte follows
@@ -176,13 +176,13 @@ module _ (q : Question) where
 -- ---- the answers, with their refusals
 
 module _ (q : Question) (s : Inquiry) (seen held : List ℕ) (S : Stands q seen s held) where
-  pub touched-told : toldTouched (s .finding .records) (q .address) (s .finding .touched) ≡ touchedAnswer (records First seen) (q .address)
+  pub touched-answered : answerTouched (s .finding .records) (q .address) (s .finding .touched) ≡ touchedAnswer (records First seen) (q .address)
   unfolding answersOf
-  touched-told = ap (λ (a : Answers). a .touched) (ends-by q seen held s S)
+  touched-answered = ap (λ (a : Answers). a .touched) (ends-by q seen held s S)
 
-  pub fault-told : toldFault (s .finding .records) (s .finding .why) ≡ faultAnswer (records First seen) (q .ticket)
+  pub fault-answered : answerFault (s .finding .records) (s .finding .why) ≡ faultAnswer (records First seen) (q .ticket)
   unfolding answersOf
-  fault-told = ap (λ (a : Answers). a .fault) (ends-by q seen held s S)
+  fault-answered = ap (λ (a : Answers). a .fault) (ends-by q seen held s S)
 
 -- ---- a piece
 

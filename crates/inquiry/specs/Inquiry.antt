@@ -24,7 +24,7 @@ use Rattle.inquiry.specs.declared.Inquiry.{Inquiry}
 use Rattle.inquiry.specs.declared.FeedResult.{FeedResult}
 use Rattle.provenance.specs.declared.TouchedAnswer.{TouchedAnswer}
 use Rattle.provenance.specs.declared.FaultAnswer.{FaultAnswer}
-use Rattle.provenance.specs.Answers.{toldTouched, toldFault}
+use Rattle.provenance.specs.Answers.{answerTouched, answerFault}
 
 -- ---- a record at a time
 
@@ -49,7 +49,7 @@ pub record Answers : Type 0 where
   pub fault : FaultAnswer
 
 unfoldable pub answersOf : Question → Finding → Answers
-answersOf q f = record { touched = toldTouched (f .records) (q .address) (f .touched); fault = toldFault (f .records) (f .why) }
+answersOf q f = record { touched = answerTouched (f .records) (q .address) (f .touched); fault = answerFault (f .records) (f .why) }
 
 -- ---- a piece at a time
 

@@ -13,7 +13,7 @@ use provenance::TouchedAnswer;
 struct Progress {
     inquiry: Inquiry,
     more: bool,
-    well: bool,
+    ok: bool,
 }
 
 // Reads once, and feeds what came.
@@ -32,14 +32,14 @@ fn read_some(
         return Progress {
             inquiry,
             more: false,
-            well: got.well,
+            ok: got.ok,
         };
     }
     let after = inquiry::feed_piece(question, inquiry, held, &piece[..got.count]);
     Progress {
         inquiry: after,
         more: true,
-        well: true,
+        ok: true,
     }
 }
 
@@ -50,7 +50,7 @@ fn read_all(fd: i32, name: &[u8], question: Question, inquiry: Inquiry, held: &m
     let mut progress = Progress {
         inquiry,
         more: true,
-        well: true,
+        ok: true,
     };
     let mut turns = u64::MAX;
     let mut more = true;
@@ -87,7 +87,7 @@ pub fn ask(question: Question) -> Asked
         &mut held,
     );
     libc::close(fd);
-    if !done.well {
+    if !done.ok {
         return Asked::Failed;
     }
     let inquiry = done.inquiry;

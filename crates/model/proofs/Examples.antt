@@ -19,7 +19,7 @@ use Rattle.model.specs.Refusals.{freeBytes, refusalTable, firstHolding}
 use Rattle.model.specs.Model.{refuseOr, effect, step, answers, memories, after, closed, modelAfterAll}
 use Rattle.model.specs.Tenancy.{batchesOf, entered}
 use Rattle.model.specs.Order.{Event, opening, closing, job, jobs, seenBy, Reordered, changes, submissions, AllRun, SameOutcome, Exchanged, ByHand}
-use Rattle.model.specs.Noninterference.{none, more, same, rewritten, repieced, LowEquivalent}
+use Rattle.model.specs.Noninterference.{nil, cons, identical, same-length-submit, same-length-piece, LowEquivalent}
 use Rattle.model.specs.Machine.{modelMachine, Noninterference}
 use Rattle.model.proofs.Locality.{local-if, local-window}
 use Rattle.model.proofs.Theorems.{claims}
@@ -227,8 +227,8 @@ twins : LowEquivalent toy setup 128 0 earlier (window 12 10) later later′ memo
 unfolding after refuseOr effect refusalTable firstHolding overlapAny lowestFree windowsIn totalBytes countOf
 twins = record {
   tenancy = record { admitted = refl; lasts = (refl, (refl, (refl, (refl, (refl, (refl, (refl, refl))))))) };
-  listed =
-      more (rewritten (replicate 4 3) (replicate 4 0) refl) (more (same _) (more (repieced (9 ∷ 0 ∷ []) (1 ∷ 2 ∷ []) refl) (more (same _) (more (repieced (0 ∷ 0 ∷ []) (3 ∷ 4 ∷ []) refl) (more (same _) (more (same _) none))))));
+  calls =
+      cons (same-length-submit (replicate 4 3) (replicate 4 0) refl) (cons (identical _) (cons (same-length-piece (9 ∷ 0 ∷ []) (1 ∷ 2 ∷ []) refl) (cons (identical _) (cons (same-length-piece (0 ∷ 0 ∷ []) (3 ∷ 4 ∷ []) refl) (cons (identical _) (cons (identical _) nil))))));
   size = refl;
   bytes = other-bytes;
 }

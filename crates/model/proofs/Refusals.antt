@@ -203,8 +203,8 @@ module _ (way : BatchSemantics) (setup : Setup) (ring : ℕ) where
   hushed : (c : Call) (model : Model) → Hushed model (step way setup ring c model)
   hushed c model = quiet (refusal setup ring model c) model (effect way setup ring c model) (λ k e. number (refusalTable setup ring model c) k (numbers c model) e) (quiet-effect c model)
 
-  pub harmless : (c : Call) (model : Model) → RefusalNoOp (step way setup ring c model .answer) model (step way setup ring c model .after)
-  harmless c model n e = hushed c model n e .0
+  pub refused-no-change : (c : Call) (model : Model) → RefusalNoOp (step way setup ring c model .answer) model (step way setup ring c model .after)
+  refused-no-change c model n e = hushed c model n e .0
 
   pub quiet-refusal : (c : Call) (model : Model) → QuietRefusal way setup ring c model
   quiet-refusal c model n e = hushed c model n e .1

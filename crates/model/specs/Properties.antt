@@ -124,7 +124,7 @@ pub record ModelProperties (way : BatchSemantics) (setup : Setup) (ring : ℕ) :
   pub in-order : (calls : List Call) (memory : List ℕ) → FifoOrder way setup ring calls memory
   pub in-time : (calls later : List Call) (memory : List ℕ) →
       BoundedWaiting (modelMachine way setup ring) (modelAfterAll way setup ring calls memory) later (Executed way setup ring calls memory later)
-  pub harmless : (call : Call) (model : Model) → RefusalNoOp (step way setup ring call model .answer) model (step way setup ring call model .after)
+  pub refused-no-change : (call : Call) (model : Model) → RefusalNoOp (step way setup ring call model .answer) model (step way setup ring call model .after)
   pub quiet : (call : Call) (model : Model) → QuietRefusal way setup ring call model
   pub cutting : (client : ℕ) (pieces : List (List ℕ)) (last : List ℕ) (model : Model) →
       Cutting (modelMachine way setup ring) client pieces last model

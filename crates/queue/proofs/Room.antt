@@ -38,7 +38,7 @@ module _ (engine : EngineRecord) (ok : valid engine ≡ true) where
   pub taken-small : readySlots engine ≤ 8 → takenBytes engine ≤ 32768
   taken-small few = omega (arith, bytes-taken few, facts .numbers .ring .small)
 
-  pub offset-small : readySlots engine ≤ 8 → engine .read + readyBytes engine < 65536
+  pub offset-small : readySlots engine ≤ 8 → engine .«read_offset» + readyBytes engine < 65536
   offset-small few = omega (arith, bytes-within few, facts .numbers .ring .small, facts .numbers .below)
 
   module _ (client : ℕ) (owner : isOpen engine client ≡ true) where
@@ -60,7 +60,7 @@ submit-lies engine ring client size a =
     let v = valid-facts engine (a .ok) in
     let t = ready-within engine v (omega (arith, a .slot)) in
     let room = a .room in
-    rw (a .ring) at (lies-wrapped ring (engine .read) (readyBytes engine) size (omega (arith, a .ring, v .numbers .below)) (omega (arith, a .ring)))
+    rw (a .ring) at (lies-wrapped ring (engine .«read_offset») (readyBytes engine) size (omega (arith, a .ring, v .numbers .below)) (omega (arith, a .ring)))
 
 -- a piece that is accepted lies in the ring behind those before it
 pub piece-lies : (engine : EngineRecord) (ring : List ℕ) (client size : ℕ) → readySlots engine ≤ 8 → PieceAllowed engine (length ring) client size → LiesInRing ring (pieceOffset engine) size
@@ -68,7 +68,7 @@ piece-lies engine ring client size few a =
     let v = valid-facts engine (a .own .ok) in
     let u = a .own .unfinished in
     let t = ready-within engine v few in
-    let below = wrapped-below (engine .setup .ring) (engine .read + readyBytes engine) (omega (arith, v .numbers .below)) in
+    let below = wrapped-below (engine .setup .ring) (engine .«read_offset» + readyBytes engine) (omega (arith, v .numbers .below)) in
     rw (a .ring) at (lies-wrapped ring (writeOffset engine) (engine .staged .received) size (omega (arith, a .ring)) (omega (arith, a .ring, a .fits, u .room)))
 
 -- its numbers are small
@@ -82,6 +82,6 @@ pub piece-offset-small : (engine : EngineRecord) (given client size : ℕ) → r
 piece-offset-small engine given client size few a =
     let v = valid-facts engine (a .own .ok) in
     let t = ready-within engine v few in
-    let below = wrapped-below (engine .setup .ring) (engine .read + readyBytes engine) (omega (arith, v .numbers .below)) in
+    let below = wrapped-below (engine .setup .ring) (engine .«read_offset» + readyBytes engine) (omega (arith, v .numbers .below)) in
     let small = piece-small engine given client size a in
     omega (arith, v .numbers .ring .small, a .own .unfinished .short, small .1)

@@ -16,7 +16,7 @@ abbrev pub Reach : Bounds → Surface → Type 0
 Reach bounds s = InReach bounds (span s)
 
 pub rectangle : (s : Surface) → Rows s → ValidRectangle s
-rectangle s r = record { wide = r .sides .wide; narrow = r .sides .widest; high = r .sides .high; low = r .sides .highest; spaced = r .roomy }
+rectangle s r = record { width-positive = r .sides .width-positive; width-max = r .sides .width-max; height-positive = r .sides .height-positive; height-max = r .sides .height-max; rows-apart = r .roomy }
 
 module _ (bounds : Bounds) (t : Task) (s : Sound bounds t) where
   -- wherever its reach is taken to lie in
@@ -40,7 +40,7 @@ module _ (bounds : Bounds) (t : Task) (s : Sound bounds t) where
   clear = reaching (Reach bounds) (λ r h. h)
 
   -- in a memory of n bytes that holds window and common
-  pub drawable : (n : ℕ) → bounds .window .end ≤ n → bounds .common ≤ n → Drawable (bounds .window) n t
+  pub drawable : (n : ℕ) → bounds .window .end ≤ n → bounds .«common_length» ≤ n → Drawable (bounds .window) n t
   drawable n w c = record {
     room = w;
     clear = reaching (EndsBelow n)

@@ -33,7 +33,7 @@ module _ (t : Task) (memory : List ℕ) where
     pub inside-task : (i y j : ℕ) → i < length memory → InRow (t .output) i y j →
         getD (drawTask t memory) i 0 ≡ outputByte t memory y j
     unfolding drawTask
-    inside-task i y j l h = inside-row (t .output) _ memory (r .spaced) i y j l h
+    inside-task i y j l h = inside-row (t .output) _ memory (r .rows-apart) i y j l h
 
 -- ---- a list of tasks
 

@@ -53,9 +53,9 @@ module _ (cs : List Client) (k : ℕ) (h : k < length cs) where
   head-at : drop k cs ≡ getD cs k noClient ∷ drop (k + 1) cs
   head-at = drop-cons cs k noClient h ∙ rw (add-one k)
 
-  module _ (bytes other : Range) (is : other ≡ windowRange (getD cs k noClient .window)) (t : Bool) (told : t ≡ overlaps bytes other) where
+  module _ (bytes other : Range) (is : other ≡ windowRange (getD cs k noClient .window)) (t : Bool) (answered : t ≡ overlaps bytes other) where
     shares-step : overlapsAny bytes (windowsOf (drop k cs)) ≡ ((getD cs k noClient .opened && t) || overlapsAny bytes (windowsOf (drop (k + 1) cs)))
-    shares-step = ap (λ (x : List Client). overlapsAny bytes (windowsOf x)) head-at ∙ shares-cons bytes (getD cs k noClient) (drop (k + 1) cs) ∙ rw (told, is)
+    shares-step = ap (λ (x : List Client). overlapsAny bytes (windowsOf x)) head-at ∙ shares-cons bytes (getD cs k noClient) (drop (k + 1) cs) ∙ rw (answered, is)
 
     pub shares-found : (getD cs k noClient .opened && t) ≡ true → true ≡ overlapsAny bytes (windowsOf (drop k cs))
     shares-found e = rw (shares-step, e)
@@ -63,9 +63,9 @@ module _ (cs : List Client) (k : ℕ) (h : k < length cs) where
     pub shares-next : (getD cs k noClient .opened && t) ≡ false → overlapsAny bytes (windowsOf (drop (k + 1) cs)) ≡ overlapsAny bytes (windowsOf (drop k cs))
     shares-next e = rw (shares-step, e)
 
-  module _ (setup : Setup) (t : Bool) (told : t ≡ misplaced setup cs k) where
+  module _ (setup : Setup) (t : Bool) (answered : t ≡ misplaced setup cs k) where
     none-step : windowsValid setup (windowsOf (drop k cs)) ≡ (not t && windowsValid setup (windowsOf (drop (k + 1) cs)))
-    none-step = ap (λ (x : List Client). windowsValid setup (windowsOf x)) head-at ∙ valid-cons setup (getD cs k noClient) (drop (k + 1) cs) ∙ rw told
+    none-step = ap (λ (x : List Client). windowsValid setup (windowsOf x)) head-at ∙ valid-cons setup (getD cs k noClient) (drop (k + 1) cs) ∙ rw answered
 
     pub none-found : t ≡ true → false ≡ windowsValid setup (windowsOf (drop k cs))
     none-found e = rw (none-step, e)
@@ -73,10 +73,10 @@ module _ (cs : List Client) (k : ℕ) (h : k < length cs) where
     pub none-next : t ≡ false → windowsValid setup (windowsOf (drop (k + 1) cs)) ≡ windowsValid setup (windowsOf (drop k cs))
     none-next e = rw (none-step, e)
 
-  module _ (bs : List Batch) (t : Bool) (told : t ≡ (not (getD cs k noClient .opened) || eqb (getD cs k noClient .pending) (countOf k bs))) where
+  module _ (bs : List Batch) (t : Bool) (answered : t ≡ (not (getD cs k noClient .opened) || eqb (getD cs k noClient .pending) (countOf k bs))) where
     counts-step : pendingCountsMatch k (drop k cs) bs ≡ (t && pendingCountsMatch (k + 1) (drop (k + 1) cs) bs)
     unfolding pendingCountsMatch
-    counts-step = rw (head-at, told, add-one k)
+    counts-step = rw (head-at, answered, add-one k)
 
     pub counts-found : not t ≡ true → false ≡ pendingCountsMatch k (drop k cs) bs
     counts-found e = rw (counts-step, not-true t e)

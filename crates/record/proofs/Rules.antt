@@ -59,14 +59,14 @@ length-good ring size e =
 pub record Numbers (engine : EngineRecord) : Type 0 where
   pub ring : RingGood (engine .setup .ring)
   pub memory : MemoryGood (engine .setup)
-  pub four : engine .read % 4 ≡ 0
-  pub below : engine .read < engine .setup .ring
+  pub four : engine .«read_offset» % 4 ≡ 0
+  pub below : engine .«read_offset» < engine .setup .ring
 
 pub numbers : (engine : EngineRecord) → numberRules engine ≡ true → Numbers engine
 numbers engine e =
     let x = and-true (ringRule engine && memoryRule engine) (readRule engine) e in
     let z = and-true (ringRule engine) (memoryRule engine) (x .0) in
-    let r = and-true (eqb (engine .read % 4) 0) (ltb (engine .read) (engine .setup .ring)) (x .1) in
+    let r = and-true (eqb (engine .«read_offset» % 4) 0) (ltb (engine .«read_offset») (engine .setup .ring)) (x .1) in
     record {
       ring = ring-good (engine .setup) (not-true (badRing (engine .setup)) (z .0));
       memory = memory-good (engine .setup) (not-true (badMemory (engine .setup)) (z .1));
@@ -98,7 +98,7 @@ settled-bytes engine e eight =
     let b = and-true (ticketsRule engine && endToEndRule engine && lengthsRule engine) (totalRule engine) (a .0) in
     let c = and-true (ticketsRule engine && endToEndRule engine) (lengthsRule engine) (b .0) in
     let d = and-true (ticketsRule engine) (endToEndRule engine) (c .0) in
-    rw (sum-order (λ x. x .length) (readySlots engine) (engine .next) (engine .slots) refl (omega (arith, ready-most (engine .slots))) (d .0)) (leb-true (totalLength (waiting engine)) (engine .setup .ring) (b .1))
+    rw (sum-order (λ x. x .length) (readySlots engine) (engine .«next_ticket») (engine .slots) refl (omega (arith, ready-most (engine .slots))) (d .0)) (leb-true (totalLength (waiting engine)) (engine .setup .ring) (b .1))
 
 -- ---- every rule of a valid record
 
@@ -154,7 +154,7 @@ numbers-kept engine e =
 -- the batches in order are all that are ready, so sums over the slots are sums over them
 module _ (engine : EngineRecord) (v : Valid engine) (few : readySlots engine ≤ 8) where
   pub sum-waiting : (f : Batch → ℕ) → sumOver f (readyBatches (engine .slots)) ≡ sumOver f (waiting engine)
-  sum-waiting f = sum-order f (readySlots engine) (engine .next) (engine .slots) refl (omega arith) (v .given)
+  sum-waiting f = sum-order f (readySlots engine) (engine .«next_ticket») (engine .slots) refl (omega arith) (v .given)
 
   -- free room is the ring less the waiting lengths, the staged one among them
   pub free-room : freeBytes engine ≡ engine .setup .ring - (totalLength (waiting engine) + engine .staged .total)
@@ -164,16 +164,16 @@ module _ (engine : EngineRecord) (v : Valid engine) (few : readySlots engine ≤
   ready-within = rw (sum-waiting (λ b. b .length)) (v .within)
 
   pub length-waiting : length (waiting engine) ≡ readySlots engine
-  length-waiting = length-order (readySlots engine) (engine .next) (engine .slots)
+  length-waiting = length-order (readySlots engine) (engine .«next_ticket») (engine .slots)
 
   -- the next batch goes after the newest one, and to the read offset if none is ready
   pub write-newest : (bs : List Batch) (b : Batch) → waiting engine ≡ bs ++ (b ∷ []) → writeOffset engine ≡ wrapOffset (engine .setup .ring) (b .offset + b .length)
   write-newest bs b is =
-      ap (λ (x : ℕ). wrapOffset (engine .setup .ring) (engine .read + x)) (sum-waiting (λ x. x .length) ∙ ap totalLength is)
-      ∙ after-last (engine .setup .ring) (engine .read) (v .numbers .below) bs b (rw is at (v .within)) (rw is at (v .ends))
+      ap (λ (x : ℕ). wrapOffset (engine .setup .ring) (engine .«read_offset» + x)) (sum-waiting (λ x. x .length) ∙ ap totalLength is)
+      ∙ after-last (engine .setup .ring) (engine .«read_offset») (v .numbers .below) bs b (rw is at (v .within)) (rw is at (v .ends))
 
-  pub write-first : waiting engine ≡ [] → writeOffset engine ≡ engine .read
+  pub write-first : waiting engine ≡ [] → writeOffset engine ≡ engine .«read_offset»
   unfolding sumOver
   write-first is =
-      ap (λ (x : ℕ). wrapOffset (engine .setup .ring) (engine .read + x)) (sum-waiting (λ x. x .length) ∙ ap totalLength is)
-      ∙ rw add-zero (wrapped-in (engine .setup .ring) (engine .read) (v .numbers .below))
+      ap (λ (x : ℕ). wrapOffset (engine .setup .ring) (engine .«read_offset» + x)) (sum-waiting (λ x. x .length) ∙ ap totalLength is)
+      ∙ rw add-zero (wrapped-in (engine .setup .ring) (engine .«read_offset») (v .numbers .below))

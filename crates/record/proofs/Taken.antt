@@ -35,13 +35,13 @@ module _ (engine : EngineRecord) (ok : valid engine ≡ true) (k : ℕ) (some : 
   v = valid-facts engine ok
 
   abbrev pub ticket : ℕ
-  ticket = ticketBefore (engine .next) (suc k)
+  ticket = ticketBefore (engine .«next_ticket») (suc k)
 
   abbrev pub first : Batch
   first = batchOfTicket ticket (engine .slots)
 
   abbrev pub rest : List Batch
-  rest = inTicketOrder k (engine .next) (engine .slots)
+  rest = inTicketOrder k (engine .«next_ticket») (engine .slots)
 
   -- the slots without it
   abbrev pub left : List Slot
@@ -51,15 +51,15 @@ module _ (engine : EngineRecord) (ok : valid engine ≡ true) (k : ℕ) (some : 
   unfolding inTicketOrder
   waiting-first = rw some
 
-  found : Oldest (engine .next) k (engine .slots)
-  found = oldest (engine .next) k (engine .slots) (omega arith) (rw some at (v .given))
+  found : Oldest (engine .«next_ticket») k (engine .slots)
+  found = oldest (engine .«next_ticket») k (engine .slots) (omega arith) (rw some at (v .given))
 
   left-few : length (readyBatches left) ≡ k
   left-few = omega (arith, found .fewer)
 
   -- in ticket order they are the others
-  pub left-order : inTicketOrder (length (readyBatches left)) (engine .next) left ≡ rest
-  left-order = rw left-few (order-freed (engine .next) k (engine .slots) (slotOfTicket ticket (engine .slots)) (omega arith) (found .has) k (omega arith))
+  pub left-order : inTicketOrder (length (readyBatches left)) (engine .«next_ticket») left ≡ rest
+  left-order = rw left-few (order-freed (engine .«next_ticket») k (engine .slots) (slotOfTicket ticket (engine .slots)) (omega arith) (found .has) k (omega arith))
 
   left-sum : (f : Batch → ℕ) → sumOver f (readyBatches (engine .slots)) ≡ f first + sumOver f (readyBatches left)
   left-sum f =
@@ -70,15 +70,15 @@ module _ (engine : EngineRecord) (ok : valid engine ≡ true) (k : ℕ) (some : 
   unfolding sumOver
   whole = rw waiting-first at (v .within)
 
-  line : Headed (engine .setup .ring) (engine .read) (v .numbers .below) 0 first rest
+  line : Headed (engine .setup .ring) (engine .«read_offset») (v .numbers .below) 0 first rest
   line =
-      let begin : wrapOffset (engine .setup .ring) (engine .read + 0) ≡ engine .read = rw add-zero (wrapped-in (engine .setup .ring) (engine .read) (v .numbers .below)) in
+      let begin : wrapOffset (engine .setup .ring) (engine .«read_offset» + 0) ≡ engine .«read_offset» = rw add-zero (wrapped-in (engine .setup .ring) (engine .«read_offset») (v .numbers .below)) in
       let fits = whole in
-      headed (engine .setup .ring) (engine .read) (v .numbers .below) 0 first rest (omega arith) (rw begin (rw waiting-first at (v .ends)))
+      headed (engine .setup .ring) (engine .«read_offset») (v .numbers .below) 0 first rest (omega arith) (rw begin (rw waiting-first at (v .ends)))
 
   -- it lies at the read offset
-  pub first-at : first .offset ≡ engine .read
-  first-at = line .at ∙ rw add-zero (wrapped-in (engine .setup .ring) (engine .read) (v .numbers .below))
+  pub first-at : first .offset ≡ engine .«read_offset»
+  first-at = line .at ∙ rw add-zero (wrapped-in (engine .setup .ring) (engine .«read_offset») (v .numbers .below))
 
   sizes : (not (badLength (engine .setup .ring) (first .length)) ≡ true) × (lengthsAllowed (engine .setup .ring) rest ≡ true)
   unfolding lengthsAllowed
@@ -104,8 +104,8 @@ module _ (engine : EngineRecord) (ok : valid engine ≡ true) (k : ℕ) (some : 
     setup = engine .setup;
     clients = set (engine .clients) (first .client) lowered;
     slots = left;
-    read = wrapOffset (engine .setup .ring) (engine .read + first .length);
-    next = engine .next;
+    «read_offset» = wrapOffset (engine .setup .ring) (engine .«read_offset» + first .length);
+    «next_ticket» = engine .«next_ticket»;
     staged = engine .staged;
   }
 
@@ -113,10 +113,10 @@ module _ (engine : EngineRecord) (ok : valid engine ≡ true) (k : ℕ) (some : 
   taken-open : (j : ℕ) → isOpen engine j ≡ true → isOpen taken j ≡ true
   taken-open j h = let o = open-place engine j h in place-open taken j (o .0) (opened-set (engine .clients) (first .client) _ j ∙ o .1)
 
-  at-four : wrapOffset (engine .setup .ring) (engine .read + first .length) % 4 ≡ 0
+  at-four : wrapOffset (engine .setup .ring) (engine .«read_offset» + first .length) % 4 ≡ 0
   at-four =
       let n : ℕ = engine .setup .ring in
-      let x : ℕ = engine .read + first .length in
+      let x : ℕ = engine .«read_offset» + first .length in
       let good = first-good .four in
       let whole = v .numbers .ring .whole in
       let begin = v .numbers .four in
@@ -125,8 +125,8 @@ module _ (engine : EngineRecord) (ok : valid engine ≡ true) (k : ℕ) (some : 
   numbers-taken : numberRules taken ≡ true
   numbers-taken =
       let x = and-true (ringRule engine && memoryRule engine) (readRule engine) (numbers-kept engine ok) in
-      let on : ℕ = wrapOffset (engine .setup .ring) (engine .read + first .length) in
-      let below : on < engine .setup .ring = wrapped-below (engine .setup .ring) (engine .read + first .length) (omega (arith, v .numbers .below, whole)) in
+      let on : ℕ = wrapOffset (engine .setup .ring) (engine .«read_offset» + first .length) in
+      let below : on < engine .setup .ring = wrapped-below (engine .setup .ring) (engine .«read_offset» + first .length) (omega (arith, v .numbers .below, whole)) in
       rw (x .0, eq-eqb (on % 4) 0 at-four, lt-ltb on (engine .setup .ring) below)
 
   windows-taken : windowsRule taken ≡ true

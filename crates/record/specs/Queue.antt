@@ -33,8 +33,8 @@ freeBytes engine = engine .setup .ring - takenBytes engine
 -- where the next batch goes: "after the newest one (at the read offset if none is ready), going on at byte 0 after the last byte". The staged
 -- submission lies there (02, 6: "right after the newest ready one")
 abbrev pub writeOffset : EngineRecord → ℕ
-writeOffset engine = wrapOffset (engine .setup .ring) (engine .read + readyBytes engine)
+writeOffset engine = wrapOffset (engine .setup .ring) (engine .«read_offset» + readyBytes engine)
 
 -- the ready batches in ticket order, the oldest first: of n ready batches it has the ticket n before the next to be given
 abbrev pub waiting : EngineRecord → List Batch
-waiting engine = inTicketOrder (readySlots engine) (engine .next) (engine .slots)
+waiting engine = inTicketOrder (readySlots engine) (engine .«next_ticket») (engine .slots)

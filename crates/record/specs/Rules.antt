@@ -27,12 +27,12 @@ windowsRule engine = windowsValid (engine .setup) (openWindows engine)
 
 -- "the read offset is a multiple of 4 below the ring length"
 abbrev pub readRule : EngineRecord → Bool
-readRule engine = eqb (engine .read % 4) 0 && ltb (engine .read) (engine .setup .ring)
+readRule engine = eqb (engine .«read_offset» % 4) 0 && ltb (engine .«read_offset») (engine .setup .ring)
 
 -- "tickets are consecutive and the newest is the one before the next to be given": with n ready batches, each of the n tickets before the
 -- next one is that of some ready batch, so that each batch has one of them and no two have the same
 abbrev pub ticketsRule : EngineRecord → Bool
-ticketsRule engine = ticketsConsecutive (readySlots engine) (engine .next) (engine .slots)
+ticketsRule engine = ticketsConsecutive (readySlots engine) (engine .«next_ticket») (engine .slots)
 
 -- "ready batches, in ticket order, lie end to end from it"
 unfoldable pub endToEnd : (ring offset : ℕ) → List Batch → Bool
@@ -41,7 +41,7 @@ endToEnd ring offset (b ∷ bs) = eqb (b .offset) offset && endToEnd ring (wrapO
 
 -- that of the ready batches
 abbrev pub endToEndRule : EngineRecord → Bool
-endToEndRule engine = endToEnd (engine .setup .ring) (engine .read) (waiting engine)
+endToEndRule engine = endToEnd (engine .setup .ring) (engine .«read_offset») (waiting engine)
 
 -- "with lengths allowed by 6"
 unfoldable pub lengthsAllowed : (ring : ℕ) → List Batch → Bool

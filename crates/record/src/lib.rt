@@ -58,8 +58,8 @@ pub struct EngineRecord {
     pub setup: Setup,
     pub clients: [Client; 4],
     pub slots: [Slot; 8],
-    pub read: usize,
-    pub next: u32,
+    pub read_offset: usize,
+    pub next_ticket: u32,
     pub staged: Staged,
 }
 

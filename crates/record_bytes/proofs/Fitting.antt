@@ -78,13 +78,13 @@ fits r t ok =
     let shared = v .numbers .memory .shared in
     let few : readySlots r ≤ 8 = omega (arith, ready-most (r .slots), t .eight) in
     let none : sumOver big (readyBatches (r .slots)) ≡ 0 =
-    sum-waiting r v few big ∙ none-big (r .setup .ring) (r .read) (waiting r) ring (v .numbers .below) (v .ends) (v .lengths)
+    sum-waiting r v few big ∙ none-big (r .setup .ring) (r .«read_offset») (waiting r) ring (v .numbers .below) (v .ends) (v .lengths)
     in
     record {
       ring = omega arith;
       memory = omega arith;
       common = omega arith;
-      read = omega (arith, v .numbers .below);
+      read-offset = omega (arith, v .numbers .below);
       slots = all-small (r .slots) none;
       staged = staged-fits r (v .staged) ring;
     }

@@ -165,14 +165,14 @@ module _ (r : EngineRecord) where
   clients-back n = rw (flag-is (flag 0), flag-is (flag 1), flag-is (flag 2), flag-is (flag 3)) (four-are (r .clients) n)
 
   numbers-back : Small r →
-      record { setup = setupIn (wordsOf r); clients = r .clients; slots = r .slots; read = wordAt (wordsOf r) 5; next = wordAt (wordsOf r) 6; staged = stagedIn (wordsOf r) } ≡ r
+      record { setup = setupIn (wordsOf r); clients = r .clients; slots = r .slots; «read_offset» = wordAt (wordsOf r) 5; «next_ticket» = wordAt (wordsOf r) 6; staged = stagedIn (wordsOf r) } ≡ r
   unfolding wordsOf
   numbers-back s =
       rw (
         low-is (r .setup .ring) (s .ring),
         low-is (r .setup .memory) (s .memory),
         low-is (r .setup .common) (s .common),
-        low-is (r .read) (s .read),
+        low-is (r .«read_offset») (s .read-offset),
         rule-back (r .setup .reset),
         low-is (r .staged .slot) (s .staged .0),
         low-is (r .staged .total) (s .staged .1),

@@ -89,7 +89,7 @@ module _ (r : EngineRecord) (t : Typed r) where
       let clients = client 0 (client 1 (client 2 (client 3 slots))) in
       let s : Setup = r .setup in (
         low-below (s .ring),
-        (low-below (s .memory), (low-below (s .common), (number-below (s .reset), (zero-below, (low-below (r .read), (t .next, (zero-below, clients))))))),
+        (low-below (s .memory), (low-below (s .common), (number-below (s .reset), (zero-below, (low-below (r .«read_offset»), (t .next-ticket, (zero-below, clients))))))),
       )
 
   pub record-words : words (bytesOf r) ≡ wordsOf r

@@ -72,8 +72,8 @@ recordIn ws = record {
   setup = setupIn ws;
   clients = clientsIn ws;
   slots = slotsIn ws;
-  read = wordAt ws 5;
-  next = wordAt ws 6;
+  «read_offset» = wordAt ws 5;
+  «next_ticket» = wordAt ws 6;
   staged = stagedIn ws;
 }
 
@@ -83,8 +83,8 @@ noRecord = record {
   setup = record { ring = 0; memory = 0; common = 0; reset = Unblended };
   clients = noClient ∷ noClient ∷ noClient ∷ noClient ∷ [];
   slots = free ∷ free ∷ free ∷ free ∷ free ∷ free ∷ free ∷ free ∷ [];
-  read = 0;
-  next = 0;
+  «read_offset» = 0;
+  «next_ticket» = 0;
   staged = noStaged;
 }
 

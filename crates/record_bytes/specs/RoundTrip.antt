@@ -37,7 +37,7 @@ pub record Typed (r : EngineRecord) : Type 0 where
   pub eight : length (r .slots) ≡ 8
   pub clients : AllClients ClientTyped (r .clients)
   pub slots : AllSlots StateTyped (r .slots)
-  pub next : r .next < 2 ^ 32
+  pub next-ticket : r .«next_ticket» < 2 ^ 32
   pub staged : r .staged .client < 2 ^ 32
 
 -- ---- the other numbers fit in words too
@@ -50,7 +50,7 @@ pub record Small (r : EngineRecord) : Type 0 where
   pub ring : r .setup .ring < 2 ^ 32
   pub memory : r .setup .memory < 2 ^ 32
   pub common : r .setup .common < 2 ^ 32
-  pub read : r .read < 2 ^ 32
+  pub read-offset : r .«read_offset» < 2 ^ 32
   pub slots : AllSlots StateSmall (r .slots)
   pub staged : (r .staged .slot < 2 ^ 32) × (r .staged .total < 2 ^ 32) × (r .staged .received < 2 ^ 32)
 

@@ -20,7 +20,7 @@ use Rattle.record_bytes.specs.declared.Row.{Row}
 use Rattle.record_bytes.specs.Layout.{low}
 
 abbrev pub headWords : EngineRecord → List ℕ
-headWords r = low (r .setup .ring) ∷ low (r .setup .memory) ∷ low (r .setup .common) ∷ numberOf (r .setup .reset) ∷ 0 ∷ low (r .read) ∷ r .next ∷ 0 ∷ []
+headWords r = low (r .setup .ring) ∷ low (r .setup .memory) ∷ low (r .setup .common) ∷ numberOf (r .setup .reset) ∷ 0 ∷ low (r .«read_offset») ∷ r .«next_ticket» ∷ 0 ∷ []
 
 -- open or not
 abbrev pub flagOf : Bool → ℕ

@@ -130,8 +130,8 @@ fn record_in(bytes: &[u8]) -> EngineRecord
         setup: setup_in(bytes),
         clients: clients_in(bytes),
         slots: slots_in(bytes),
-        read: size_at(bytes, 5),
-        next: word_at(bytes, 6),
+        read_offset: size_at(bytes, 5),
+        next_ticket: word_at(bytes, 6),
         staged: staged_in(bytes),
     }
 }
@@ -199,8 +199,8 @@ fn no_record() -> EngineRecord
         },
         clients: clients,
         slots: slots,
-        read: 0,
-        next: 0,
+        read_offset: 0,
+        next_ticket: 0,
         staged: record::no_staged(),
     }
 }

@@ -68,8 +68,8 @@ fn head_words(engine: EngineRecord) -> [u32; 8]
         (setup.common % 4294967296) as u32,
         rule.number(),
         0,
-        (engine.read % 4294967296) as u32,
-        engine.next,
+        (engine.read_offset % 4294967296) as u32,
+        engine.next_ticket,
         0,
     ]
 }

@@ -77,7 +77,7 @@ module _ (edition : Edition) where
     unfolding decided
     decided-short h = rw (lt-ltb (length bytes) 4 h)
 
-    pub decided-bad : 4 ≤ length bytes → badSize edition (lengthField bytes) ≡ true → decided edition bytes used ≡ record { reader = record { stage = Ended; held = 0 }; used = used; found = BadRecord }
+    pub decided-bad : 4 ≤ length bytes → badSize edition (lengthField bytes) ≡ true → decided edition bytes used ≡ record { reader = record { stage = Ended; buffered = 0 }; used = used; found = BadRecord }
     unfolding decided
     decided-bad h bad = rw (le-ltb (length bytes) 4 h, bad)
 
@@ -86,7 +86,7 @@ module _ (edition : Edition) where
     decided-part h good part = rw (le-ltb (length bytes) 4 h, good, lt-ltb (length bytes) (4 + lengthField bytes) part)
 
     pub decided-whole : badSize edition (lengthField bytes) ≡ false → 4 + lengthField bytes ≤ length bytes
-        → decided edition bytes used ≡ record { reader = record { stage = Records; held = 0 }; used = used; found = Record (4 + lengthField bytes) }
+        → decided edition bytes used ≡ record { reader = record { stage = Records; buffered = 0 }; used = used; found = Record (4 + lengthField bytes) }
     unfolding decided
     decided-whole good all =
         let h : 4 ≤ length bytes = omega arith in
@@ -129,7 +129,7 @@ module _ (edition : Edition) where
       pub have-rest : badSize edition size ≡ false → 4 + size - have ≡ missing edition (take have held)
       have-rest good = sym (missing-rest (take have held) four (judged false good) ∙ rw (same, there held have within))
 
-      pub decides-bad : (used : ℕ) → badSize edition size ≡ true → record { reader = record { stage = Ended; held = 0 }; used = used; found = BadRecord } ≡ decided edition (take have held) used
+      pub decides-bad : (used : ℕ) → badSize edition size ≡ true → record { reader = record { stage = Ended; buffered = 0 }; used = used; found = BadRecord } ≡ decided edition (take have held) used
       decides-bad used bad = sym (decided-bad (take have held) used four (judged true bad))
 
       pub decides-part : (used : ℕ) → badSize edition size ≡ false → have < 4 + size → undecided have used ≡ decided edition (take have held) used
@@ -138,7 +138,7 @@ module _ (edition : Edition) where
           sym (decided-part (take have held) used four (judged false good) less ∙ rw (there held have within))
 
       pub decides-whole : (used : ℕ) → badSize edition size ≡ false → 4 + size ≤ have
-          → record { reader = record { stage = Records; held = 0 }; used = used; found = Record (4 + size) } ≡ decided edition (take have held) used
+          → record { reader = record { stage = Records; buffered = 0 }; used = used; found = Record (4 + size) } ≡ decided edition (take have held) used
       decides-whole used good all =
           let full : 4 + lengthField (take have held) ≤ length (take have held) = omega (arith, there held have within, same) in
           sym (decided-whole (take have held) used (judged false good) full ∙ rw same)

@@ -122,8 +122,8 @@ module _ (edition : Edition) where
     record Decides (d : Taken) : Type 0 where
       file : (rest : List ℕ) → fileFrom edition (bytes ++ rest) ≡ onto (d .found) held (fileAt edition (d .reader) held rest)
       over : Over (d .found) (d .reader .stage)
-      few : d .reader .held < roomOf edition
-      due : Due edition (d .reader .stage) (take (d .reader .held) held)
+      few : d .reader .buffered < roomOf edition
+      due : Due edition (d .reader .stage) (take (d .reader .buffered) held)
 
     itself : take (length bytes) held ≡ bytes
     itself = ap (λ (n : ℕ). take n held) (there held have within)
@@ -207,7 +207,7 @@ module _ (edition : Edition) where
     pub record-exact : t ≡ recordTaken edition so-far input
     record-exact = is ∙ ap (λ (xs : List ℕ). decided edition xs taken) all ∙ ap (decided edition (so-far ++ kept)) (sym size)
 
-    pub record-takes : t .used ≡ taken → 0 < missing edition so-far → Takes edition (record { stage = Records; held = have }) held input t held′
+    pub record-takes : t .used ≡ taken → 0 < missing edition so-far → Takes edition (record { stage = Records; buffered = have }) held input t held′
     record-takes used some =
         let exact : Exact held′ (have + taken) taken (omega arith) = rw all (exact-by so-far input some (reach so-far)) in
         let d = decides-by held′ (have + taken) taken (omega arith) (reach (take (have + taken) held′)) exact in
@@ -229,7 +229,7 @@ module _ (edition : Edition) where
   pub version-used : (version : ℕ) → (versionTaken edition version .used ≡ 1) × ((room : ℕ) → Lies edition (versionTaken edition version .found) room)
   version-used version = go (eqb version (versionOf edition))
     where
-      go : (b : Bool) → let u : Taken = cond b (record { reader = record { stage = Records; held = 0 }; used = 1; found = Nothing }) (record { reader = record { stage = Ended; held = 0 }; used = 1; found = BadVersion }) in
+      go : (b : Bool) → let u : Taken = cond b (record { reader = record { stage = Records; buffered = 0 }; used = 1; found = Nothing }) (record { reader = record { stage = Ended; buffered = 0 }; used = 1; found = BadVersion }) in
           (u .used ≡ 1) × ((room : ℕ) → Lies edition (u .found) room)
       go true = (refl, λ room. tt)
       go false = (refl, λ room. tt)
@@ -248,7 +248,7 @@ module _ (edition : Edition) where
     version-takes stage some is = rw is (go input some)
       where
         by : (b : Bool) (version : ℕ) (more : List ℕ)
-            → let u : Taken = cond b (record { reader = record { stage = Records; held = 0 }; used = 1; found = Nothing }) (record { reader = record { stage = Ended; held = 0 }; used = 1; found = BadVersion }) in
+            → let u : Taken = cond b (record { reader = record { stage = Records; buffered = 0 }; used = 1; found = Nothing }) (record { reader = record { stage = Ended; buffered = 0 }; used = 1; found = BadVersion }) in
             ((rest : List ℕ) → cond b (fileFrom edition rest) (fileEnds badVersion) ≡ onto (u .found) held (fileAt edition (u .reader) held rest)) × Ready edition (u .reader) held × (1 ≤ u .used) × Over (u .found) (u .reader .stage)
         by true version more = (λ rest. refl, record { room = ready .room; few = omega (arith, room-between edition); due = rw (missing-short edition [] (omega arith)) (omega arith) }, omega arith, tt)
         by false version more = (λ rest. refl, record { room = ready .room; few = omega (arith, room-between edition); due = tt }, omega arith, refl)
@@ -262,9 +262,9 @@ module _ (edition : Edition) where
 
   -- ---- the end of the file
 
-  pub file-ends : (r : Reader) (held : List ℕ) → Ready edition r held → fileAt edition r held [] ≡ fileEnds (endingAt (r .stage) (length (take (r .held) held)))
+  pub file-ends : (r : Reader) (held : List ℕ) → Ready edition r held → fileAt edition r held [] ≡ fileEnds (endingAt (r .stage) (length (take (r .buffered) held)))
   unfolding records recordsFrom
-  file-ends r held ready = go (r .stage) (take (r .held) held) (ready .due)
+  file-ends r held ready = go (r .stage) (take (r .buffered) held) (ready .due)
     where
       last : (bytes : List ℕ) → Reach bytes → 0 < missing edition bytes → fileFrom edition bytes ≡ fileEnds (endingAt Records (length bytes))
       last [] far some = refl
@@ -285,23 +285,23 @@ module _ (edition : Edition) where
   -- ---- the test of the buffer
 
   pub ready-enough : (r : Reader) (held : List ℕ) → Ready edition r held → bufferSuffices edition r held ≡ true
-  ready-enough r held ready = rw (le-leb (roomOf edition) (length held) (ready .room), lt-ltb (r .held) (roomOf edition) (ready .few))
+  ready-enough r held ready = rw (le-leb (roomOf edition) (length held) (ready .room), lt-ltb (r .buffered) (roomOf edition) (ready .few))
 
-  pub enough-both : (r : Reader) (held : List ℕ) → bufferSuffices edition r held ≡ true → (roomOf edition ≤ length held) × (r .held < roomOf edition)
+  pub enough-both : (r : Reader) (held : List ℕ) → bufferSuffices edition r held ≡ true → (roomOf edition ≤ length held) × (r .buffered < roomOf edition)
   enough-both r held e =
-      let both = and-true (leb (roomOf edition) (length held)) (ltb (r .held) (roomOf edition)) e in
-      (leb-true (roomOf edition) (length held) (both .0), ltb-true (r .held) (roomOf edition) (both .1))
+      let both = and-true (leb (roomOf edition) (length held)) (ltb (r .buffered) (roomOf edition)) e in
+      (leb-true (roomOf edition) (length held) (both .0), ltb-true (r .buffered) (roomOf edition) (both .1))
 
   -- by the room that was asked for
-  pub suffices-by : (r : Reader) (held : List ℕ) (room : ℕ) → room ≡ roomOf edition → (b : Bool) → leb room (length held) && ltb (r .held) room ≡ b → bufferSuffices edition r held ≡ b
+  pub suffices-by : (r : Reader) (held : List ℕ) (room : ℕ) → room ≡ roomOf edition → (b : Bool) → leb room (length held) && ltb (r .buffered) room ≡ b → bufferSuffices edition r held ≡ b
   suffices-by r held room is b e = rw (← is) e
 
   -- a reader inside a record
-  pub inside-takes : (r : Reader) (held input : List ℕ) (t : Taken) (held′ : List ℕ) → r .stage ≡ Records → (0 < missing edition (take (r .held) held) → Takes edition (record { stage = Records; held = r .held }) held input t held′)
+  pub inside-takes : (r : Reader) (held input : List ℕ) (t : Taken) (held′ : List ℕ) → r .stage ≡ Records → (0 < missing edition (take (r .buffered) held) → Takes edition (record { stage = Records; buffered = r .buffered }) held input t held′)
       → Ready edition r held → Takes edition r held input t held′
   inside-takes r held input t held′ stage takes ready =
-      let due : 0 < missing edition (take (r .held) held) = rw stage at (ready .due) in
-      subst (λ (g : Stage). Takes edition (record { stage = g; held = r .held }) held input t held′) (sym stage) (takes due)
+      let due : 0 < missing edition (take (r .buffered) held) = rw stage at (ready .due) in
+      subst (λ (g : Stage). Takes edition (record { stage = g; buffered = r .buffered }) held input t held′) (sym stage) (takes due)
 
   -- ---- the step by itself
 
@@ -315,19 +315,19 @@ module _ (edition : Edition) where
     exactly-not e is same = rw e (is, same)
 
     module _ (e : bufferSuffices edition r held ≡ true) where
-      pub exactly-in : (g : Stage) → r .stage ≡ g → t ≡ takenIn edition g r (take (r .held) held) input → held′ ≡ spliced (r .held) (keptIn edition g (take (r .held) held) input) held → Exactly
+      pub exactly-in : (g : Stage) → r .stage ≡ g → t ≡ takenIn edition g r (take (r .buffered) held) input → held′ ≡ spliced (r .buffered) (keptIn edition g (take (r .buffered) held) input) held → Exactly
       unfolding takenBy heldAfter
       exactly-in g stage is buffer = rw e (
-        is ∙ ap (λ (x : Stage). takenIn edition x r (take (r .held) held) input) (sym stage),
-        buffer ∙ ap (λ (x : Stage). spliced (r .held) (keptIn edition x (take (r .held) held) input) held) (sym stage),
+        is ∙ ap (λ (x : Stage). takenIn edition x r (take (r .buffered) held) input) (sym stage),
+        buffer ∙ ap (λ (x : Stage). spliced (r .buffered) (keptIn edition x (take (r .buffered) held) input) held) (sym stage),
       )
 
       -- outside a record no byte is kept
-      pub exactly-version : r .stage ≡ Version → held′ ≡ held → t ≡ takenIn edition Version r (take (r .held) held) input → Exactly
-      exactly-version stage same is = exactly-in Version stage is (same ∙ sym (spliced-none (r .held) held))
+      pub exactly-version : r .stage ≡ Version → held′ ≡ held → t ≡ takenIn edition Version r (take (r .buffered) held) input → Exactly
+      exactly-version stage same is = exactly-in Version stage is (same ∙ sym (spliced-none (r .buffered) held))
 
       pub exactly-ended : r .stage ≡ Ended → held′ ≡ held → t ≡ nothingTaken r (length input) → Exactly
-      exactly-ended stage same is = exactly-in Ended stage is (same ∙ sym (spliced-none (r .held) held))
+      exactly-ended stage same is = exactly-in Ended stage is (same ∙ sym (spliced-none (r .buffered) held))
 
   -- the version byte, if there is one
   pub version-none : (r : Reader) (bytes input : List ℕ) → length input ≡ 0 → takenIn edition Version r bytes input ≡ nothingTaken r 0

@@ -29,7 +29,7 @@ fileIn edition Records bytes rest = fileFrom edition (bytes ++ rest)
 fileIn edition Ended bytes rest = fileEnds whole
 
 abbrev pub fileAt : Edition → Reader → (held rest : List ℕ) → File
-fileAt edition r held rest = fileIn edition (r .stage) (take (r .held) held) rest
+fileAt edition r held rest = fileIn edition (r .stage) (take (r .buffered) held) rest
 
 -- a whole record that lies in the buffer, after the four bytes of its length, up to `end`
 abbrev pub entryIn : (held : List ℕ) → (end : ℕ) → Entry
@@ -64,8 +64,8 @@ roomOf Second = 32777
 -- the longest record and its length have room, and nothing that could be decided is left undecided
 pub record Ready (edition : Edition) (r : Reader) (held : List ℕ) : Type 0 where
   pub room : roomOf edition ≤ length held
-  pub few : r .held < roomOf edition
-  pub due : Due edition (r .stage) (take (r .held) held)
+  pub few : r .buffered < roomOf edition
+  pub due : Due edition (r .stage) (take (r .buffered) held)
 
 -- ---- one step
 
@@ -107,20 +107,20 @@ endingAt Ended have = whole
 -- what comes of the bytes of a record that are there
 
 abbrev pub undecided : (have used : ℕ) → Taken
-undecided have used = record { reader = record { stage = Records; held = have }; used = used; found = Nothing }
+undecided have used = record { reader = record { stage = Records; buffered = have }; used = used; found = Nothing }
 
 unfoldable pub decided : Edition → List ℕ → (used : ℕ) → Taken
 decided edition bytes used =
     cond (ltb (length bytes) 4) (undecided (length bytes) used)
-    (cond (badSize edition (lengthField bytes)) (record { reader = record { stage = Ended; held = 0 }; used = used; found = BadRecord })
+    (cond (badSize edition (lengthField bytes)) (record { reader = record { stage = Ended; buffered = 0 }; used = used; found = BadRecord })
     (cond (ltb (length bytes) (4 + lengthField bytes)) (undecided (length bytes) used)
-    (record { reader = record { stage = Records; held = 0 }; used = used; found = Record (4 + lengthField bytes) })))
+    (record { reader = record { stage = Records; buffered = 0 }; used = used; found = Record (4 + lengthField bytes) })))
 
 abbrev pub versionTaken : Edition → (version : ℕ) → Taken
 versionTaken edition version =
     cond (eqb version (versionOf edition))
-    (record { reader = record { stage = Records; held = 0 }; used = 1; found = Nothing })
-    (record { reader = record { stage = Ended; held = 0 }; used = 1; found = BadVersion })
+    (record { reader = record { stage = Records; buffered = 0 }; used = 1; found = Nothing })
+    (record { reader = record { stage = Ended; buffered = 0 }; used = 1; found = BadVersion })
 
 abbrev pub nothingTaken : Reader → (used : ℕ) → Taken
 nothingTaken r used = record { reader = r; used = used; found = Nothing }
@@ -143,12 +143,12 @@ takenIn edition Ended r bytes input = nothingTaken r (length input)
 
 -- the longest record and its length fit in the buffer, and an unfinished record may have so many bytes
 abbrev pub bufferSuffices : Edition → Reader → (held : List ℕ) → Bool
-bufferSuffices edition r held = leb (roomOf edition) (length held) && ltb (r .held) (roomOf edition)
+bufferSuffices edition r held = leb (roomOf edition) (length held) && ltb (r .buffered) (roomOf edition)
 
 -- one step, or nothing at all where the buffer does not suffice
 unfoldable pub takenBy : Edition → Reader → (held input : List ℕ) → Taken
-takenBy edition r held input = cond (bufferSuffices edition r held) (takenIn edition (r .stage) r (take (r .held) held) input) (nothingTaken r 0)
+takenBy edition r held input = cond (bufferSuffices edition r held) (takenIn edition (r .stage) r (take (r .buffered) held) input) (nothingTaken r 0)
 
 -- and the buffer after it
 unfoldable pub heldAfter : Edition → Reader → (held input : List ℕ) → List ℕ
-heldAfter edition r held input = cond (bufferSuffices edition r held) (spliced (r .held) (keptIn edition (r .stage) (take (r .held) held) input) held) held
+heldAfter edition r held input = cond (bufferSuffices edition r held) (spliced (r .buffered) (keptIn edition (r .stage) (take (r .buffered) held) input) held) held

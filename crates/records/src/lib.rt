@@ -54,7 +54,7 @@ pub enum Stage {
 // Where the reading stands. The first `held` bytes of the buffer of that name are those of an unfinished record.
 pub struct Reader {
     pub stage: Stage,
-    pub held: usize,
+    pub buffered: usize,
 }
 
 // What a step found. A record lies in `held` up to an end: its client at 4, then in edition 2 its score, then its batch.
@@ -73,11 +73,11 @@ pub struct Taken {
 
 // Before the version byte.
 pub fn start() -> Reader
-    ensures { λ r. ⌜ r ≡ record { stage = Version; held = 0 } ⌝ }
+    ensures { λ r. ⌜ r ≡ record { stage = Version; buffered = 0 } ⌝ }
 {
     Reader {
         stage: Stage::Version,
-        held: 0,
+        buffered: 0,
     }
 }
 
@@ -120,7 +120,7 @@ fn decide(edition: Edition, held: &[u8], have: usize, used: usize) -> Taken
         return Taken {
             reader: Reader {
                 stage: Stage::Ended,
-                held: 0,
+                buffered: 0,
             },
             used: used,
             found: Found::BadRecord,
@@ -133,7 +133,7 @@ fn decide(edition: Edition, held: &[u8], have: usize, used: usize) -> Taken
     Taken {
         reader: Reader {
             stage: Stage::Records,
-            held: 0,
+            buffered: 0,
         },
         used: used,
         found: Found::Record(end),
@@ -147,7 +147,7 @@ fn partly(have: usize, used: usize) -> Taken
     Taken {
         reader: Reader {
             stage: Stage::Records,
-            held: have,
+            buffered: have,
         },
         used: used,
         found: Found::Nothing,
@@ -159,7 +159,7 @@ fn take_record(edition: Edition, have: usize, held: &mut [u8], input: &[u8]) -> 
     requires { ⌜ (roomOf edition ≤ length (now held)) × (have < roomOf edition) ⌝ }
     ensures { λ r. ⌜ (r .used ≤ length (now (input .entry))) × Lies edition (r .found) (length (now (held .entry)))
         × (0 < missing edition (take have (now (held .entry)))
-        → Takes edition (record { stage = Records; held = have }) (now (held .entry)) (now (input .entry)) r (now (held .exit)))
+        → Takes edition (record { stage = Records; buffered = have }) (now (held .entry)) (now (input .entry)) r (now (held .exit)))
         × (r ≡ recordTaken edition (take have (now (held .entry))) (now (input .entry)))
         × (now (held .exit) ≡ spliced have (keptIn edition Records (take have (now (held .entry))) (now (input .entry))) (now (held .entry))) ⌝ }
 {
@@ -189,7 +189,7 @@ fn judge_version(edition: Edition, version: u8) -> Taken
         return Taken {
             reader: Reader {
                 stage: Stage::Records,
-                held: 0,
+                buffered: 0,
             },
             used: 1,
             found: Found::Nothing,
@@ -198,7 +198,7 @@ fn judge_version(edition: Edition, version: u8) -> Taken
     Taken {
         reader: Reader {
             stage: Stage::Ended,
-            held: 0,
+            buffered: 0,
         },
         used: 1,
         found: Found::BadVersion,
@@ -212,7 +212,7 @@ pub fn take(edition: Edition, reader: Reader, held: &mut [u8], input: &[u8]) -> 
         × (Ready edition reader (now (held .entry)) → Takes edition reader (now (held .entry)) (now (input .entry)) r (now (held .exit)))
         × (r ≡ takenBy edition reader (now (held .entry)) (now (input .entry))) × (now (held .exit) ≡ heldAfter edition reader (now (held .entry)) (now (input .entry))) ⌝ }
 {
-    let have = reader.held;
+    let have = reader.buffered;
     let room = edition.room();
     let enough = (room <= held.len()) & (have < room);
     if !enough {

@@ -94,19 +94,19 @@ module _ (r : Replay) (line : List ℕ) (written : ℕ) (line′ : List ℕ) whe
   pub finishes-short : length line < 128 → Prints (finishedText r line) line 0 line
   finishes-short short = rw (lt-leb 128 (length line) short) (prints-none line)
 
-  finishes : 128 ≤ length line → (text : List ℕ) → endingLine (endingAt (r .reader .stage) (r .reader .held)) ≡ text → Prints text line written line′ → Prints (finishedText r line) line written line′
+  finishes : 128 ≤ length line → (text : List ℕ) → endingLine (endingAt (r .reader .stage) (r .reader .buffered)) ≡ text → Prints text line written line′ → Prints (finishedText r line) line written line′
   finishes room text e prints = rw (le-leb 128 (length line) room, e) prints
 
   module _ (room : 128 ≤ length line) where
     pub finishes-version : r .reader .stage ≡ Version → Prints (endingLine badVersion) line written line′ → Prints (finishedText r line) line written line′
     finishes-version stage prints = finishes room (endingLine badVersion) (rw stage) prints
 
-    pub finishes-whole : r .reader .stage ≡ Records → r .reader .held ≡ 0 → Prints [] line written line′ → Prints (finishedText r line) line written line′
+    pub finishes-whole : r .reader .stage ≡ Records → r .reader .buffered ≡ 0 → Prints [] line written line′ → Prints (finishedText r line) line written line′
     unfolding endingLine
     finishes-whole stage none prints = finishes room [] (rw (stage, none)) prints
 
-    pub finishes-cut : r .reader .stage ≡ Records → (r .reader .held ≡ 0 → ⊥) → Prints (endingLine cutRecord) line written line′ → Prints (finishedText r line) line written line′
-    finishes-cut stage some prints = finishes room (endingLine cutRecord) (rw stage (cut (r .reader .held) some)) prints
+    pub finishes-cut : r .reader .stage ≡ Records → (r .reader .buffered ≡ 0 → ⊥) → Prints (endingLine cutRecord) line written line′ → Prints (finishedText r line) line written line′
+    finishes-cut stage some prints = finishes room (endingLine cutRecord) (rw stage (cut (r .reader .buffered) some)) prints
       where
         cut : (n : ℕ) → (n ≡ 0 → ⊥) → endingLine (endingAt Records n) ≡ endingLine cutRecord
         cut zero h = absurd (h refl)

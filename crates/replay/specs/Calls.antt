@@ -23,7 +23,7 @@ abbrev pub stateOf : Replay → (ring memory : List ℕ) → State
 stateOf r ring memory = mkState (r .engine) ring memory
 
 abbrev pub atStart : Edition → Replay
-atStart edition = record { edition = edition; engine = replayStart edition .engine; reader = record { stage = Version; held = 0 } }
+atStart edition = record { edition = edition; engine = replayStart edition .engine; reader = record { stage = Version; buffered = 0 } }
 
 -- ---- what the reading found (crate records): what is printed of it, and the engine after it
 
@@ -65,4 +65,4 @@ pub record FeedContract (r : Replay) (held ring memory input line : List ℕ) (f
 
 -- what it prints: nothing into a line that may be too short
 abbrev pub finishedText : Replay → (line : List ℕ) → List ℕ
-finishedText r line = cond (leb 128 (length line)) (endingLine (endingAt (r .reader .stage) (r .reader .held))) []
+finishedText r line = cond (leb 128 (length line)) (endingLine (endingAt (r .reader .stage) (r .reader .buffered))) []

@@ -38,13 +38,13 @@ concatChunks (piece ∷ pieces) = piece ++ concatChunks pieces
 -- Calls of feed and finish as a caller makes them, one after the other, each by its contract: a piece is fed until it is used up, and what a
 -- call wrote into the line is printed. A slice that is lent keeps its length.
 pub data FeedTrace : Replay → (held ring memory line : List ℕ) → (pieces : List (List ℕ)) → (output : List ℕ) → Type 0 where
-  finishing : {r : Replay} {held ring memory line : List ℕ} {written : ℕ} {line′ : List ℕ}
+  finish : {r : Replay} {held ring memory line : List ℕ} {written : ℕ} {line′ : List ℕ}
       → Prints (finishedText r line) line written line′
       → FeedTrace r held ring memory line [] (take written line′)
-  onto : {r : Replay} {held ring memory line : List ℕ} {pieces : List (List ℕ)} {output : List ℕ}
+  next-chunk : {r : Replay} {held ring memory line : List ℕ} {pieces : List (List ℕ)} {output : List ℕ}
       → FeedTrace r held ring memory line pieces output
       → FeedTrace r held ring memory line ([] ∷ pieces) output
-  feeding : {r : Replay} {held ring memory line : List ℕ} {byte : ℕ} {more : List ℕ} {pieces : List (List ℕ)} {output : List ℕ}
+  feed : {r : Replay} {held ring memory line : List ℕ} {byte : ℕ} {more : List ℕ} {pieces : List (List ℕ)} {output : List ℕ}
       {f : FeedResult} {held′ ring′ memory′ line′ : List ℕ}
       → FeedContract r held ring memory (byte ∷ more) line f held′ ring′ memory′ line′
       → length line′ ≡ length line

@@ -136,7 +136,7 @@ pub fn finish(replay: Replay, line: &mut [u8]) -> usize
         return 0;
     }
     let reader = replay.reader;
-    let have = reader.held;
+    let have = reader.buffered;
     let stage = reader.stage;
     match stage {
         Stage::Version => record_lines::bad_version(line),

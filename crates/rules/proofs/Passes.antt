@@ -61,7 +61,7 @@ sides s e =
     let two = or-false (badSide (s .width)) (badSide (s .height)) e in
     let w = side (s .width) (two .0) in
     let h = side (s .height) (two .1) in
-    record { wide = w .0; widest = w .1; high = h .0; highest = h .1 }
+    record { width-positive = w .0; width-max = w .1; height-positive = h .0; height-max = h .1 }
 
 rows : (s : Surface) → badSides s ≡ false → badStride s ≡ false → Rows s
 unfolding badStride
@@ -69,7 +69,7 @@ rows s e f =
     let two = or-false (ltb 0 (s .stride % 8)) (ltb (s .stride) (rowLength s)) f in
     let all = sides s e in
     let row : rowLength s ≤ s .stride = ltb-false (s .stride) (rowLength s) (two .1) in
-    let least : 1 * 1 ≤ s .width * bytesPerPixel (s .format) = mul-le-mul (all .wide) (bytes-some (s .format)) in
+    let least : 1 * 1 ≤ s .width * bytesPerPixel (s .format) = mul-le-mul (all .width-positive) (bytes-some (s .format)) in
     record { sides = all; eights = omega (arith, ltb-false 0 (s .stride % 8) (two .0)); roomy = row; some = omega arith }
 
 -- ---- 26

@@ -17,10 +17,10 @@ use Rattle.rules.specs.declared.task.Bounds.{Bounds}
 use Rattle.rules.specs.Rules.{isBufferSource, rotatedSourceSize, commonOf}
 
 pub record Sides (s : Surface) : Type 0 where
-  pub wide : 0 < s .width
-  pub widest : s .width ≤ 4096
-  pub high : 0 < s .height
-  pub highest : s .height ≤ 4096
+  pub width-positive : 0 < s .width
+  pub width-max : s .width ≤ 4096
+  pub height-positive : 0 < s .height
+  pub height-max : s .height ≤ 4096
 
 -- a rectangle in memory: its rows do not overlap
 pub record Rows (s : Surface) : Type 0 where

@@ -90,7 +90,7 @@ isWritableSpan bounds s = containedIn (span s) (bounds .window)
 
 -- common is the first part of memory
 abbrev pub commonOf : Bounds → Range
-commonOf bounds = record { start = 0; end = bounds .common }
+commonOf bounds = record { start = 0; end = bounds .«common_length» }
 
 -- or, for what is read, wholly in common
 abbrev pub isReadable : Bounds → Surface → Bool

@@ -15,7 +15,7 @@ ghost use Rattle.register.specs.Size.{sizeOf};
 // What a batch may touch: it draws in its client's window, and may read that and common, the first part of memory.
 pub struct Bounds {
     pub window: Range,
-    pub common: usize,
+    pub common_length: usize,
 }
 
 // What is wrong with a task.
@@ -131,7 +131,7 @@ fn is_readable(bounds: Bounds, s: Surface) -> bool
     is_writable_span(bounds, s)
         | s.is_inside(Range {
             start: 0,
-            end: bounds.common,
+            end: bounds.common_length,
         })
 }
 

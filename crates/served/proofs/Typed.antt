@@ -32,10 +32,10 @@ use Rattle.record_bytes.specs.RoundTrip.{AllClients, AllSlots, ClientTyped, Sta
 use Rattle.record_bytes.proofs.Words.{client-at}
 
 pub sized : {e : EngineRecord} → Typed e → Sized e
-sized t = record { clients = t .four; slots = t .eight; next = t .next }
+sized t = record { clients = t .four; slots = t .eight; next-ticket = t .next-ticket }
 
 typed : (e : EngineRecord) → Sized e → AllClients ClientTyped (e .clients) → AllSlots StateTyped (e .slots) → e .staged .client < 2 ^ 32 → Typed e
-typed e s cs ss g = record { four = s .clients; eight = s .slots; clients = cs; slots = ss; next = s .next; staged = g }
+typed e s cs ss g = record { four = s .clients; eight = s .slots; clients = cs; slots = ss; next-ticket = s .next-ticket; staged = g }
 
 clients-set : (P : Client → Type 0) (cs : List Client) (i : ℕ) (c : Client) → AllClients P cs → P c → AllClients P (set cs i c)
 clients-set P [] i c h p = tt
@@ -75,7 +75,7 @@ module _ (e : EngineRecord) (t : Typed e) where
       let eight = few-taken e (sized t) in
       typed (withBatch e at (newBatch e client size)) (added-sized e at (newBatch e client size) (sized t))
       (clients-set ClientTyped (e .clients) client _ (t .clients) (counted e t client (getD (e .clients) client noClient .pending + 1) (omega arith)))
-      (slots-set StateTyped (e .slots) at _ (t .slots) (h, t .next))
+      (slots-set StateTyped (e .slots) at _ (t .slots) (h, t .next-ticket))
       (omega arith)
 
   -- another staged submission, or none

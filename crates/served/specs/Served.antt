@@ -23,7 +23,7 @@ pub record Lent : Type 0 where
 pub record ServesOpen (w : Window) (s : Lent) (a : Answer) (t : Lent) : Type 0 where
   pub number : ℕ
   pub value : ℕ
-  pub says : Opens (s .bytes) (record { start = w .start; length = w .length }) number value (t .bytes)
+  pub contract : Opens (s .bytes) (record { start = w .start; length = w .length }) number value (t .bytes)
   pub answer : a ≡ answerOrRefusal number (opened value)
   pub ring : t .ring ≡ s .ring
   pub memory : t .memory ≡ s .memory
@@ -31,7 +31,7 @@ pub record ServesOpen (w : Window) (s : Lent) (a : Answer) (t : Lent) : Type 0 w
 pub record ServesSubmit (client : ℕ) (batch : List ℕ) (s : Lent) (a : Answer) (t : Lent) : Type 0 where
   pub number : ℕ
   pub value : ℕ
-  pub says : Submits (s .bytes) (s .ring) client batch number value (t .bytes) (t .ring)
+  pub contract : Submits (s .bytes) (s .ring) client batch number value (t .bytes) (t .ring)
   pub answer : a ≡ answerOrRefusal number (accepted value)
   pub memory : t .memory ≡ s .memory
 
@@ -42,20 +42,20 @@ pub record ServesRun (s : Lent) (a : Answer) (t : Lent) : Type 0 where
   pub status : ℕ
   pub fault : ℕ
   pub place : ℕ
-  pub says : Runs (s .bytes) (s .ring) (s .memory) number (client ∷ ticket ∷ status ∷ fault ∷ place ∷ []) (t .bytes) (t .memory)
+  pub contract : Runs (s .bytes) (s .ring) (s .memory) number (client ∷ ticket ∷ status ∷ fault ∷ place ∷ []) (t .bytes) (t .memory)
   pub answer : a ≡ answerOrRefusal number (completed client ticket (record { status = status; fault = fault; offset = place }))
   pub ring : t .ring ≡ s .ring
 
 pub record ServesPending (client : ℕ) (s : Lent) (a : Answer) (t : Lent) : Type 0 where
   pub number : ℕ
   pub value : ℕ
-  pub says : Pends (s .bytes) client number value
+  pub contract : Pends (s .bytes) client number value
   pub answer : a ≡ answerOrRefusal number (ready value)
   pub same : t ≡ s
 
 pub record ServesBegin (client total : ℕ) (s : Lent) (a : Answer) (t : Lent) : Type 0 where
   pub number : ℕ
-  pub says : Begins (s .bytes) (s .ring) client total number (t .bytes)
+  pub contract : Begins (s .bytes) (s .ring) client total number (t .bytes)
   pub answer : a ≡ answerOrRefusal number done
   pub ring : t .ring ≡ s .ring
   pub memory : t .memory ≡ s .memory
@@ -69,20 +69,20 @@ pub record ServesPiece (client : ℕ) (bytes : List ℕ) (s : Lent) (a : Answer)
   pub number : ℕ
   pub last : ℕ
   pub value : ℕ
-  pub says : HandsOver (s .bytes) (s .ring) client bytes number (last ∷ value ∷ []) (t .bytes) (t .ring)
+  pub contract : HandsOver (s .bytes) (s .ring) client bytes number (last ∷ value ∷ []) (t .bytes) (t .ring)
   pub answer : a ≡ answerOrRefusal number (ofPiece last value)
   pub memory : t .memory ≡ s .memory
 
 pub record ServesCancel (client : ℕ) (s : Lent) (a : Answer) (t : Lent) : Type 0 where
   pub number : ℕ
-  pub says : Cancels (s .bytes) client number (t .bytes)
+  pub contract : Cancels (s .bytes) client number (t .bytes)
   pub answer : a ≡ answerOrRefusal number done
   pub ring : t .ring ≡ s .ring
   pub memory : t .memory ≡ s .memory
 
 pub record ServesClose (client : ℕ) (s : Lent) (a : Answer) (t : Lent) : Type 0 where
   pub number : ℕ
-  pub says : Closes (s .bytes) (s .memory) client number (t .bytes) (t .memory)
+  pub contract : Closes (s .bytes) (s .memory) client number (t .bytes) (t .memory)
   pub answer : a ≡ answerOrRefusal number done
   pub ring : t .ring ≡ s .ring
 
@@ -99,8 +99,8 @@ Serves (close client) = ServesClose client
 -- ---- a list of calls
 
 pub data ServesAll : List Call → Lent → List Answer → Lent → Type 0 where
-  none : {s : Lent} → ServesAll [] s [] s
-  first : {c : Call} {cs : List Call} {s t u : Lent} {a : Answer} {said : List Answer} → Serves c s a t → ServesAll cs t said u → ServesAll (c ∷ cs) s (a ∷ said) u
+  nil : {s : Lent} → ServesAll [] s [] s
+  cons : {c : Call} {cs : List Call} {s t u : Lent} {a : Answer} {said : List Answer} → Serves c s a t → ServesAll cs t said u → ServesAll (c ∷ cs) s (a ∷ said) u
 
 -- arguments are 32-bit numbers, as those that the code is handed are
 abbrev pub Plain : Call → Type 0

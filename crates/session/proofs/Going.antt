@@ -73,12 +73,12 @@ decode-none n bytes e = rw e
 
 module _ (n : ℕ) (script : List ℕ) (s₀ : State) (answers₀ : List ℕ) where
   pub record Going (at count left : ℕ) (s : State) (answers : List ℕ) : Type 0 where
-    pub told : answerBytes (decode n script) (answersOf (decode n script) s₀) ≡ take count answers ++ answerBytes (decode left (drop at script)) (answersOf (decode left (drop at script)) s)
+    pub answered : answerBytes (decode n script) (answersOf (decode n script) s₀) ≡ take count answers ++ answerBytes (decode left (drop at script)) (answersOf (decode left (drop at script)) s)
     pub end : stateAfter (decode n script) s₀ ≡ stateAfter (decode left (drop at script)) s
     pub rest : drop count answers ≡ drop count answers₀
 
   pub going-start : Going 0 0 n s₀ answers₀
-  going-start = record { told = refl; end = refl; rest = refl }
+  going-start = record { answered = refl; end = refl; rest = refl }
 
   -- a call is played and its answer is written
   pub going-next : (at count left : ℕ) (s after : State) (answers words : List ℕ) (call : Call) (size : ℕ) → Going at count left s answers → 0 < left →
@@ -89,7 +89,7 @@ module _ (n : ℕ) (script : List ℕ) (s₀ : State) (answers₀ : List ℕ) wh
       let calls : decode left (drop at script) ≡ call ∷ decode (left - 1) (drop (at + size) script) =
       decode-more left (drop at script) (drop size (drop at script)) call some e ∙ rw (drop-drop size at script)
       in
-      let long : length (wordsBytes words) ≡ 24 = length-bytes words ∙ ap (λ (ws : List ℕ). 4 * length ws) (P .says) ∙ ap (λ (k : ℕ). 4 * k) (six-words call (performCall call s .answer)) in
+      let long : length (wordsBytes words) ≡ 24 = length-bytes words ∙ ap (λ (ws : List ℕ). 4 * length ws) (P .answer) ∙ ap (λ (k : ℕ). 4 * k) (six-words call (performCall call s .answer)) in
       let front : take (count + 24) (spliced count (wordsBytes words) answers) ≡ take count answers ++ wordsBytes words =
       rw (← long) (take-spliced count (wordsBytes words) answers (omega arith))
       in
@@ -97,8 +97,8 @@ module _ (n : ℕ) (script : List ℕ) (s₀ : State) (answers₀ : List ℕ) wh
       rw (← long) (drop-spliced count (wordsBytes words) answers (omega arith))
       in
       record {
-        told = G .told ∙ rw (calls, front, append-assoc, P .says, P .leaves);
-        end = G .end ∙ rw (calls, P .leaves);
+        answered = G .answered ∙ rw (calls, front, append-assoc, P .answer, P .state);
+        end = G .end ∙ rw (calls, P .state);
         rest = back ∙ sym (drop-drop 24 count answers) ∙ ap (drop 24) (G .rest) ∙ drop-drop 24 count answers₀;
       }
 
@@ -107,7 +107,7 @@ module _ (n : ℕ) (script : List ℕ) (s₀ : State) (answers₀ : List ℕ) wh
       CallsMatch (decode n script) s₀ answers₀ count (s .ring) (s .memory) answers
   unfolding answersOf stateAfter answerBytes
   going-end at count left s answers G fits e =
-      let bytes : answerBytes (decode n script) (answersOf (decode n script) s₀) ≡ take count answers = G .told ∙ rw e (append-nil (take count answers)) in
+      let bytes : answerBytes (decode n script) (answersOf (decode n script) s₀) ≡ take count answers = G .answered ∙ rw e (append-nil (take count answers)) in
       let last : stateAfter (decode n script) s₀ ≡ s = G .end ∙ rw e in
       record {
         returned = sym (ap length bytes ∙ length-take-le count answers fits);

@@ -2,27 +2,27 @@
 use mathlib.Core.Path.{_≡_, refl}
 use mathlib.Core.Bool.{Bool, true, false, cond}
 use Prim.Native.Nat.{ℕ, zero, suc}
-use Rattle.queue.specs.declared.Answer.{Answer as Told}
+use Rattle.queue.specs.declared.Answer.{Answer as QueueAnswer}
 use Rattle.queue.specs.declared.Answer.the-variants.{Refused as No, Done, Opened, Accepted, Ready, Missing}
 use Rattle.queue.specs.Answers.{refusalNumberOf, valueOf, answerUnlessRefused}
 use Rattle.engine.specs.declared.Outcome.{Outcome}
 use Rattle.engine.specs.declared.Outcome.the-variants.{Refused, Completed}
 use Rattle.engine.specs.Outcome.{runRefusalOf as refusalOf, valuesOf}
 use Rattle.model.specs.Calls.{Answer, done}
-use Rattle.claims.specs.Engine.{answerOrRefusal, pieceTold, completion}
+use Rattle.claims.specs.Engine.{answerOrRefusal, modelAnswerOf, completion}
 use Rattle.answers.specs.Answers.{shortAnswer, pieceWords as twoWords, outcomeWords}
 use Rattle.session.specs.Answers.{plainWords, pieceWords}
 
 -- an answer of one number
-pub told-words : (a : Told) (f : ℕ → Answer) → ((v : ℕ) → plainWords (f v) ≡ shortAnswer 0 v) → plainWords (answerOrRefusal (refusalNumberOf a) (f (valueOf a))) ≡ shortAnswer (refusalNumberOf a) (valueOf a)
+pub value-words : (a : QueueAnswer) (f : ℕ → Answer) → ((v : ℕ) → plainWords (f v) ≡ shortAnswer 0 v) → plainWords (answerOrRefusal (refusalNumberOf a) (f (valueOf a))) ≡ shortAnswer (refusalNumberOf a) (valueOf a)
 unfolding plainWords answerOrRefusal
-told-words (No zero) f h = h 0
-told-words (No (suc n)) f h = refl
-told-words Done f h = h 0
-told-words (Opened v) f h = h v
-told-words (Accepted v) f h = h v
-told-words (Ready v) f h = h v
-told-words (Missing v) f h = h v
+value-words (No zero) f h = h 0
+value-words (No (suc n)) f h = refl
+value-words Done f h = h 0
+value-words (Opened v) f h = h v
+value-words (Accepted v) f h = h v
+value-words (Ready v) f h = h v
+value-words (Missing v) f h = h v
 
 -- no number
 pub silent-words : (n : ℕ) → plainWords (answerOrRefusal (refusalNumberOf (answerUnlessRefused n Done)) done) ≡ shortAnswer (refusalNumberOf (answerUnlessRefused n Done)) (valueOf (answerUnlessRefused n Done))
@@ -32,7 +32,7 @@ silent-words (suc n) = refl
 
 -- a piece's two
 pub two-words : (n : ℕ) (b : Bool) (ticket left : ℕ) →
-    pieceWords (answerOrRefusal (refusalNumberOf (answerUnlessRefused n (cond b (Accepted ticket) (Missing left)))) (pieceTold (answerUnlessRefused n (cond b (Accepted ticket) (Missing left)))))
+    pieceWords (answerOrRefusal (refusalNumberOf (answerUnlessRefused n (cond b (Accepted ticket) (Missing left)))) (modelAnswerOf (answerUnlessRefused n (cond b (Accepted ticket) (Missing left)))))
     ≡ twoWords (answerUnlessRefused n (cond b (Accepted ticket) (Missing left)))
 unfolding plainWords pieceWords answerOrRefusal answerUnlessRefused
 two-words zero true ticket left = refl

@@ -5,7 +5,7 @@ use Prim.Native.Nat.{ℕ, _≤_}
 use lib.ListN.{length}
 use Rattle.record.specs.declared.EngineRecord.{EngineRecord}
 use Rattle.record.specs.Staged.{missingBytes}
-use Rattle.queue.specs.declared.Answer.{Answer as Told}
+use Rattle.queue.specs.declared.Answer.{Answer as QueueAnswer}
 use Rattle.queue.specs.declared.Reply.{Reply}
 use Rattle.queue.specs.Answers.{refusalNumberOf, valueOf}
 use Rattle.queue.specs.Refusals.{firstRefusal, submitTable, cancelTable, closeTable}
@@ -21,7 +21,7 @@ use Rattle.script.specs.declared.Request.the-variants.{Submit, Piece}
 use Rattle.script.specs.Parsing.{BatchInBounds}
 use Rattle.session.specs.Answers.{plainWords}
 use Rattle.session.specs.Contracts.{CallMatches}
-use Rattle.session.proofs.Numbers.{told-words, silent-words, two-words, run-words}
+use Rattle.session.proofs.Numbers.{value-words, silent-words, two-words, run-words}
 
 opened-words : (v : ℕ) → plainWords (opened v) ≡ shortAnswer 0 v
 unfolding plainWords
@@ -47,48 +47,48 @@ module _ (engine : EngineRecord) (ring memory : List ℕ) where
       words ≡ shortAnswer (refusalNumberOf (r .answer)) (valueOf (r .answer)) → after ≡ r .engine →
       CallMatches (opens (record { start = start; length = size })) (mkState engine ring memory) (mkState after ring memory) words
   unfolding performCall
-  open-plays start size r words after e w g = record { says = rw (← e) (w ∙ sym (told-words (r .answer) opened opened-words)); leaves = rw (g, e) }
+  open-plays start size r words after e w g = record { answer = rw (← e) (w ∙ sym (value-words (r .answer) opened opened-words)); state = rw (g, e) }
 
   pub submit-plays : (client : ℕ) (batch : List ℕ) (r : Reply) (words ring′ : List ℕ) (after : EngineRecord) → r ≡ submitResult engine ring client batch →
       ring′ ≡ submitRing engine ring client batch → words ≡ shortAnswer (refusalNumberOf (r .answer)) (valueOf (r .answer)) → after ≡ r .engine →
       CallMatches (submit client batch) (mkState engine ring memory) (mkState after ring′ memory) words
   unfolding performCall
-  submit-plays client batch r words ring′ after e q w g = record { says = rw (← e) (w ∙ sym (told-words (r .answer) accepted accepted-words)); leaves = rw (g, e, q) }
+  submit-plays client batch r words ring′ after e q w g = record { answer = rw (← e) (w ∙ sym (value-words (r .answer) accepted accepted-words)); state = rw (g, e, q) }
 
   pub run-plays : (r : RunResult) (words memory′ : List ℕ) (after : EngineRecord) → r ≡ runResult engine ring memory → memory′ ≡ runMemory engine ring memory →
       words ≡ outcomeWords (r .outcome) → after ≡ r .engine →
       CallMatches run (mkState engine ring memory) (mkState after ring memory′) words
   unfolding performCall
-  run-plays r words memory′ after e q w g = record { says = rw (← e) (w ∙ sym (run-words (r .outcome))); leaves = rw (g, e, q) }
+  run-plays r words memory′ after e q w g = record { answer = rw (← e) (w ∙ sym (run-words (r .outcome))); state = rw (g, e, q) }
 
   pub begin-plays : (client total : ℕ) (r : Reply) (words : List ℕ) (after : EngineRecord) → r ≡ beginResult engine (length ring) client total →
       words ≡ shortAnswer (refusalNumberOf (r .answer)) (valueOf (r .answer)) → after ≡ r .engine →
       CallMatches (begin client total) (mkState engine ring memory) (mkState after ring memory) words
   unfolding performCall beginResult
-  begin-plays client total r words after e w g = record { says = w ∙ rw e (sym (silent-words (firstRefusal (submitTable engine (length ring) client total)))); leaves = rw (g, e) }
+  begin-plays client total r words after e w g = record { answer = w ∙ rw e (sym (silent-words (firstRefusal (submitTable engine (length ring) client total)))); state = rw (g, e) }
 
   pub piece-plays : (client : ℕ) (bytes : List ℕ) (r : Reply) (words ring′ : List ℕ) (after : EngineRecord) → r ≡ pieceResult engine ring client bytes →
       ring′ ≡ pieceRing engine ring client bytes → words ≡ twoWords (r .answer) → after ≡ r .engine →
       CallMatches (piece client bytes) (mkState engine ring memory) (mkState after ring′ memory) words
   unfolding performCall pieceResult
   piece-plays client bytes r words ring′ after e q w g = record {
-    says = w ∙ rw e (sym (two-words (pieceNumber engine ring client bytes) (isLast (engine .staged) (length bytes)) (engine .next) (missingBytes (more (engine .staged) (length bytes)))));
-    leaves = rw (g, e, q);
+    answer = w ∙ rw e (sym (two-words (pieceNumber engine ring client bytes) (isLast (engine .staged) (length bytes)) (engine .«next_ticket») (missingBytes (more (engine .staged) (length bytes)))));
+    state = rw (g, e, q);
   }
 
   pub cancel-plays : (client : ℕ) (r : Reply) (words : List ℕ) (after : EngineRecord) → r ≡ cancelResult engine client →
       words ≡ shortAnswer (refusalNumberOf (r .answer)) (valueOf (r .answer)) → after ≡ r .engine →
       CallMatches (cancel client) (mkState engine ring memory) (mkState after ring memory) words
   unfolding performCall cancelResult
-  cancel-plays client r words after e w g = record { says = w ∙ rw e (sym (silent-words (firstRefusal (cancelTable engine client)))); leaves = rw (g, e) }
+  cancel-plays client r words after e w g = record { answer = w ∙ rw e (sym (silent-words (firstRefusal (cancelTable engine client)))); state = rw (g, e) }
 
   pub close-plays : (client : ℕ) (r : Reply) (words memory′ : List ℕ) (after : EngineRecord) → r ≡ closeResult engine (length memory) client → memory′ ≡ closeMemory engine memory client →
       words ≡ shortAnswer (refusalNumberOf (r .answer)) (valueOf (r .answer)) → after ≡ r .engine →
       CallMatches (close client) (mkState engine ring memory) (mkState after ring memory′) words
   unfolding performCall closeResult
-  close-plays client r words memory′ after e q w g = record { says = w ∙ rw e (sym (silent-words (firstRefusal (closeTable engine (length memory) client)))); leaves = rw (g, e, q) }
+  close-plays client r words memory′ after e q w g = record { answer = w ∙ rw e (sym (silent-words (firstRefusal (closeTable engine (length memory) client)))); state = rw (g, e, q) }
 
-  pub pending-plays : (client : ℕ) (a : Told) (words : List ℕ) → a ≡ pendingAnswer engine client → words ≡ shortAnswer (refusalNumberOf a) (valueOf a) →
+  pub pending-plays : (client : ℕ) (a : QueueAnswer) (words : List ℕ) → a ≡ pendingAnswer engine client → words ≡ shortAnswer (refusalNumberOf a) (valueOf a) →
       CallMatches (pending client) (mkState engine ring memory) (mkState engine ring memory) words
   unfolding performCall
-  pending-plays client a words e w = record { says = rw (← e) (w ∙ sym (told-words a ready ready-words)); leaves = refl }
+  pending-plays client a words e w = record { answer = rw (← e) (w ∙ sym (value-words a ready ready-words)); state = refl }

@@ -114,9 +114,9 @@ module _ (setup : Setup) (ring memory script buffer : List ℕ) (room : 24 ≤ l
       rw (eq-eqb (setUpNumber setup) 0 ok, left)
 
   -- what is written, in the engine's answers
-  told : answerOutput setup ring memory script buffer ≡ wordsBytes (shortAnswer 0 0) ++ answerBytes (decode (length (drop 24 buffer) / 24) script) (answersOf (decode (length (drop 24 buffer) / 24) script) (initialState setup ring memory))
+  output-words : answerOutput setup ring memory script buffer ≡ wordsBytes (shortAnswer 0 0) ++ answerBytes (decode (length (drop 24 buffer) / 24) script) (answersOf (decode (length (drop 24 buffer) / 24) script) (initialState setup ring memory))
   unfolding answerOutput
-  told =
+  output-words =
       let like = promise setup ring accepted .like-model (decode (length (drop 24 buffer) / 24) script) memory in
       rw (le-ltb (length buffer) 24 room, played-are, ok, like .every-answer)
 
@@ -130,8 +130,8 @@ module _ (setup : Setup) (ring memory script buffer : List ℕ) (room : 24 ≤ l
       let long : length (wordsBytes (shortAnswer 0 0)) ≡ 24 = length-bytes (shortAnswer 0 0) in
       let size : length (wordsBytes (shortAnswer 0 0) ++ said) ≡ 24 + count = length-append (wordsBytes (shortAnswer 0 0)) said ∙ rw (long, P .returned) in
       record {
-        returned = rw told (sym size);
-        bytes = rw (told, size, P .bytes, ← drop-drop count 24 buffer) (sym (append-assoc (wordsBytes (shortAnswer 0 0)) said (drop count (drop 24 buffer))));
+        returned = rw output-words (sym size);
+        bytes = rw (output-words, size, P .bytes, ← drop-drop count 24 buffer) (sym (append-assoc (wordsBytes (shortAnswer 0 0)) said (drop count (drop 24 buffer))));
         memory-end = P .memory-end ∙ like .every-byte ∙ sym (memory-is setup ring memory script buffer cs played-are);
         ring-end = P .ring-end ∙ ring-after setup ring memory accepted cs ∙ sym (ring-is setup ring memory script buffer cs played-are);
       }

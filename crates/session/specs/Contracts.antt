@@ -10,8 +10,8 @@ use Rattle.session.specs.Answers.{answerWords, answerBytes}
 
 -- one call: its answer's words, and record, ring and memory after it
 pub record CallMatches (call : Call) (s after : State) (words : List ℕ) : Type 0 where
-  pub says : words ≡ answerWords call (performCall call s .answer)
-  pub leaves : after ≡ performCall call s .after
+  pub answer : words ≡ answerWords call (performCall call s .answer)
+  pub state : after ≡ performCall call s .after
 
 -- all of them, from any state: the answers are at the start of the buffer
 pub record CallsMatch (played : List Call) (s : State) (buffer : List ℕ) (count : ℕ) (ringNow memoryNow bufferNow : List ℕ) : Type 0 where

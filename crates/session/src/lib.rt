@@ -151,8 +151,8 @@ pub fn play(
     }
     let reply = clients::set_up(ring_length, memory_length, common_length, reset);
     let engine = reply.engine;
-    let told = reply.answer;
-    let words = answers::answer_words(told);
+    let answered = reply.answer;
+    let words = answers::answer_words(answered);
     answer::write_answer(answers, 0, words);
     if words[0] != 0 {
         return 24;

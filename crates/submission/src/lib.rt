@@ -29,7 +29,7 @@ pub fn submit(engine: EngineRecord, ring: &mut [u8], client: u32, batch: &[u8]) 
             engine: engine,
         };
     }
-    let next = engine.next;
+    let next = engine.next_ticket;
     let offset = enqueue::write_offset(engine, found.bytes);
     ring::copy_in(ring, offset, batch);
     let added = Batch {
@@ -123,7 +123,7 @@ fn finished(engine: EngineRecord, offset: usize) -> EngineRecord
     let staged = engine.staged;
     let added = Batch {
         client: staged.client,
-        ticket: engine.next,
+        ticket: engine.next_ticket,
         offset: offset,
         length: staged.total,
     };
@@ -162,7 +162,7 @@ pub fn piece(engine: EngineRecord, ring: &mut [u8], client: u32, piece: &[u8]) -
     let total = staged.total;
     if received == total {
         return Reply {
-            answer: Answer::Accepted(engine.next),
+            answer: Answer::Accepted(engine.next_ticket),
             engine: finished(engine, offset),
         };
     }

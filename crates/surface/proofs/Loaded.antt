@@ -158,5 +158,5 @@ loaded-drawn s p memory w l x y u v =
         let col : j / bytesPerPixel (s .format) ≡ x = digits-div x z in
         let place : j % bytesPerPixel (s .format) ≡ k = digits-mod x z in
         inside-row s p memory w (pixelStart s x y + k) y j (omega (arith, pixel-in-span s x y u v .1))
-        (record { row = v; column = omega (arith, pixel-in-row s x u); is = omega arith })
+        (record { row = v; column = omega (arith, pixel-in-row s x u); address = omega arith })
         ∙ rw (col, place)

@@ -59,7 +59,7 @@ tallyStart totals = record {
   before = totals;
   edition = First;
   begun = false;
-  reader = record { stage = Version; held = 0 };
+  reader = record { stage = Version; buffered = 0 };
   running = record { fits = true; counts = totals .counts };
 }
 

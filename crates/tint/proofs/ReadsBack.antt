@@ -86,15 +86,15 @@ module _ (score : Float) (tint : Tint) (output : SurfaceFields) (h : Handed tint
   pub tint-reads-back : (bounds : Bounds) (bank : Bank) → ReadsBack bounds bank score tint output
   unfolding allBytes
   tint-reads-back bounds bank = record {
-    one = λ buffer e.
+    one-task = λ buffer e.
         let w = written (length buffer) e in
         ap (λ (b : List ℕ). decodeBatch bounds bank (words (take 80 b))) (after buffer (w .0))
-        ∙ reads-back bounds bank .one (firstForm (fieldsOf score tint output)) buffer plain (w .1);
-    marked = λ buffer e.
+        ∙ reads-back bounds bank .one-task (firstForm (fieldsOf score tint output)) buffer plain (w .1);
+    one-task-end = λ buffer e.
         let w = written (length buffer) e in
         let f = firstForm (fieldsOf score tint output) in
         ap (λ (b : List ℕ). taskEndCount (words (take 80 b))) (after buffer (w .0))
         ∙ ap (λ (b : List ℕ). taskEndCount (words b)) (front f buffer (w .1) ∙ sym (append-nil (encoder.taskBytes f)))
-        ∙ reads-back bounds bank .marked (f ∷ []) (accepted f (length buffer) (w .1) .0, tt) (plain, tt);
-    same = same (bank .steps);
+        ∙ reads-back bounds bank .one-task-end-each (f ∷ []) (accepted f (length buffer) (w .1) .0, tt) (plain, tt);
+    same-task = same (bank .steps);
   }

@@ -65,10 +65,10 @@ pub record Handed (tint : Tint) (output : SurfaceFields) : Type 0 where
 
 pub record ReadsBack (bounds : Bounds) (bank : Bank) (score : Float) (tint : Tint) (output : SurfaceFields) : Type 0 where
   -- what is left in a buffer that was written is read as the one task with these fields, and 25 to 28 are judged of them
-  pub one : (buffer : List ℕ) → answerOf score tint output (length buffer) ≡ Encoded Written →
+  pub one-task : (buffer : List ℕ) → answerOf score tint output (length buffer) ≡ Encoded Written →
       decodeBatch bounds bank (words (take 80 (bufferAfter score tint output buffer))) ≡ expectedDecoding bounds bank 0 (firstForm (fieldsOf score tint output) ∷ [])
   -- it has one task-end mark
-  pub marked : (buffer : List ℕ) → answerOf score tint output (length buffer) ≡ Encoded Written →
+  pub one-task-end : (buffer : List ℕ) → answerOf score tint output (length buffer) ≡ Encoded Written →
       taskEndCount (words (take 80 (bufferAfter score tint output buffer))) ≡ 1
   -- and these fields are those of the tint, no other
-  pub same : taskWith (bank .steps) (fieldsOf score tint output) ≡ tintTask (bank .steps) tint (coverageOf score) output
+  pub same-task : taskWith (bank .steps) (fieldsOf score tint output) ≡ tintTask (bank .steps) tint (coverageOf score) output

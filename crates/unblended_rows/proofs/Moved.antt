@@ -63,8 +63,8 @@ rows-apart s o from to n v y apart lv ly is-from is-to in-s in-o =
     ⊎-elim
     (λ (b : from < to + n).
     ⊎-elim
-    (λ (c : from < to). absurd (apart to v (to - from) y 0 (record { row = lv; column = omega arith; is = omega arith }) (record { row = ly; column = omega arith; is = omega arith })))
-    (λ (c : to ≤ from). absurd (apart from v 0 y (from - to) (record { row = lv; column = omega arith; is = omega arith }) (record { row = ly; column = omega arith; is = omega arith })))
+    (λ (c : from < to). absurd (apart to v (to - from) y 0 (record { row = lv; column = omega arith; address = omega arith }) (record { row = ly; column = omega arith; address = omega arith })))
+    (λ (c : to ≤ from). absurd (apart from v 0 y (from - to) (record { row = lv; column = omega arith; address = omega arith }) (record { row = ly; column = omega arith; address = omega arith })))
     (split from to))
     (λ (b : to + n ≤ from). inr b)
     (split from (to + n)))

@@ -64,15 +64,15 @@ fn fits_in(ring: usize, offset: usize, room: usize, owned: bool, b: Batch) -> bo
 
 // Whether the ready batches, so many, from the oldest on lie end to end from the read offset and keep their other rules.
 fn batches_valid(engine: EngineRecord, ready: usize) -> bool
-    requires { ⌜ (engine .setup .ring ≤ 32768) × (engine .read < engine .setup .ring) × (ready ≡ readySlots engine) × (ready ≤ 8) × (length (engine .slots) ≡ 8) ⌝ }
+    requires { ⌜ (engine .setup .ring ≤ 32768) × (engine .«read_offset» < engine .setup .ring) × (ready ≡ readySlots engine) × (ready ≤ 8) × (length (engine .slots) ≡ 8) ⌝ }
     ensures { λ r. ⌜ r ≡ batchRules engine ⌝ }
 {
     let slots = engine.slots;
-    let next = engine.next;
+    let next = engine.next_ticket;
     let setup = engine.setup;
     let ring = setup.ring;
     let mut k = ready;
-    let mut offset = engine.read;
+    let mut offset = engine.read_offset;
     let mut room = ring;
     while 0 < k {
         let i = slot_of_age(slots, next, k);
@@ -97,7 +97,7 @@ fn numbers_valid(engine: EngineRecord) -> bool
 {
     let setup = engine.setup;
     let ring = setup.ring;
-    let read = engine.read;
+    let read = engine.read_offset;
     !bad_ring(setup) & !bad_memory(setup) & ((read % 4 == 0) & (read < ring))
 }
 

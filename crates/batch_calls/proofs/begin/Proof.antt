@@ -1,4 +1,4 @@
-use Rattle.calls.proofs.Results.{begin-told}
+use Rattle.calls.proofs.Results.{begin-answered}
 use borrow.Author.Needs.{needs}
 use Rattle.batch_calls.proofs.begin.Statement.{statement}
 use Rattle.batch_calls.proofs.begin.Tie as tie
@@ -7,7 +7,7 @@ returns : tie.Need-returns
 returns c =
     let c₅ = c .before .before .before .before .before in
     let c₆ = c₅ .before in
-    begin-told _ _ (c₆ .decode .ensures) _ _ _ _ _ _ _ (c₅ .begin .ensures) (c .before .before .write-value .ensures)
+    begin-answered _ _ (c₆ .decode .ensures) _ _ _ _ _ _ _ (c₅ .begin .ensures) (c .before .before .write-value .ensures)
 
 pub begin-spec : {M : Type 1} → statement M
 begin-spec = tie.close (tie.spec

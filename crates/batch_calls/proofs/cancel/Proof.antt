@@ -1,4 +1,4 @@
-use Rattle.calls.proofs.Results.{cancel-told}
+use Rattle.calls.proofs.Results.{cancel-answered}
 use borrow.Author.Needs.{needs}
 use Rattle.batch_calls.proofs.cancel.Statement.{statement}
 use Rattle.batch_calls.proofs.cancel.Tie as tie
@@ -7,7 +7,7 @@ returns : tie.Need-returns
 returns c =
     let c₅ = c .before .before .before .before .before in
     let c₆ = c₅ .before in
-    cancel-told _ _ (c₆ .decode .ensures) _ _ _ _ _ (c₅ .cancel .ensures) (c .before .before .write-value .ensures)
+    cancel-answered _ _ (c₆ .decode .ensures) _ _ _ _ _ (c₅ .cancel .ensures) (c .before .before .write-value .ensures)
 
 pub cancel-spec : {M : Type 1} → statement M
 cancel-spec =

@@ -1,4 +1,4 @@
-use Rattle.calls.proofs.Results.{piece-told}
+use Rattle.calls.proofs.Results.{piece-answered}
 use borrow.Author.Needs.{needs}
 use Rattle.batch_calls.proofs.piece.Statement.{statement}
 use Rattle.batch_calls.proofs.piece.Tie as tie
@@ -7,7 +7,7 @@ returns : tie.Need-returns
 returns c =
     let c₇ = c .before .before .before .before .before .before .before in
     let c₉ = c₇ .before .before in
-    piece-told _ _ (c₉ .decode .ensures) _ _ _ _ _ _ _ _ (c₇ .piece .ensures .0) (c₇ .piece .ensures .1) (c .before .before .write-progress .ensures)
+    piece-answered _ _ (c₉ .decode .ensures) _ _ _ _ _ _ _ _ (c₇ .piece .ensures .0) (c₇ .piece .ensures .1) (c .before .before .write-progress .ensures)
 
 pub piece-spec : {M : Type 1} → statement M
 piece-spec =

@@ -1,4 +1,4 @@
-use Rattle.calls.proofs.Reporting.{ran-small, run-told}
+use Rattle.calls.proofs.Reporting.{ran-small, run-answered}
 use borrow.Author.Needs.{needs}
 use Rattle.batch_calls.proofs.run.Statement.{statement}
 use Rattle.batch_calls.proofs.run.Tie as tie
@@ -10,7 +10,7 @@ returns : tie.Need-returns
 returns c =
     let c₇ = c .before .before .before .before .before .before .before in
     let c₉ = c₇ .before .before in
-    run-told _ _ _ _ _ _ _ _ _ (c₉ .decode .ensures) (c₇ .run .ensures .0) (c₇ .run .ensures .1) (c .before .before .write-completion .ensures)
+    run-answered _ _ _ _ _ _ _ _ _ (c₉ .decode .ensures) (c₇ .run .ensures .0) (c₇ .run .ensures .1) (c .before .before .write-completion .ensures)
 
 pub run-spec : {M : Type 1} → statement M
 run-spec =

@@ -1,4 +1,4 @@
-use Rattle.calls.proofs.Results.{submit-told}
+use Rattle.calls.proofs.Results.{submit-answered}
 use borrow.Author.Needs.{needs}
 use Rattle.batch_calls.proofs.submit.Statement.{statement}
 use Rattle.batch_calls.proofs.submit.Tie as tie
@@ -7,7 +7,7 @@ returns : tie.Need-returns
 returns c =
     let c₇ = c .before .before .before .before .before .before .before in
     let c₉ = c₇ .before .before in
-    submit-told _ _ (c₉ .decode .ensures) _ _ _ _ _ _ _ _ (c₇ .submit .ensures .0) (c₇ .submit .ensures .1) (c .before .before .write-value .ensures)
+    submit-answered _ _ (c₉ .decode .ensures) _ _ _ _ _ _ _ _ (c₇ .submit .ensures .0) (c₇ .submit .ensures .1) (c .before .before .write-value .ensures)
 
 pub submit-spec : {M : Type 1} → statement M
 submit-spec =

@@ -38,9 +38,9 @@ returns-3 c =
     let s = f .before .before .before .before .before .before .before .before in
     let a = s .args in
     let d = a .task .destination .surface in
-    let told = t .enum-told3 .given .1 in
-    let on = of-finish (a .task) Blended (sym told ∙ s .pre .1 .finish) in
-    rw told
+    let finish-is = t .enum-told3 .given .1 in
+    let on = of-finish (a .task) Blended (sym finish-is ∙ s .pre .1 .finish) in
+    rw finish-is
     (λ x l.
     b .blend-row .ensures x l
     ∙ (ap₂ (composite (a .task .blending) (a .task .source .alpha) (a .task .destination .alpha))

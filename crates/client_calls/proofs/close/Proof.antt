@@ -1,4 +1,4 @@
-use Rattle.calls.proofs.Results.{close-told}
+use Rattle.calls.proofs.Results.{close-answered}
 use borrow.Author.Needs.{needs}
 use Rattle.client_calls.proofs.close.Statement.{statement}
 use Rattle.client_calls.proofs.close.Tie as tie
@@ -7,7 +7,7 @@ returns : tie.Need-returns
 returns c =
     let c₇ = c .before .before .before .before .before .before .before in
     let c₉ = c₇ .before .before in
-    close-told _ _ (c₉ .decode .ensures) _ _ _ _ _ _ _ (c₇ .close .ensures .0) (c₇ .close .ensures .1) (c .before .before .write-value .ensures)
+    close-answered _ _ (c₉ .decode .ensures) _ _ _ _ _ _ _ (c₇ .close .ensures .0) (c₇ .close .ensures .1) (c .before .before .write-value .ensures)
 
 pub close-spec : {M : Type 1} → statement M
 close-spec =

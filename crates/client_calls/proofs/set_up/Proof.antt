@@ -1,4 +1,4 @@
-use Rattle.calls.proofs.Results.{set-up-told, set-up-lent}
+use Rattle.calls.proofs.Results.{set-up-answered, set-up-lent}
 use borrow.Author.Needs.{needs}
 use Rattle.client_calls.proofs.set_up.Statement.{statement}
 use Rattle.client_calls.proofs.set_up.Tie as tie
@@ -10,7 +10,7 @@ returns-2 : tie.Need-returns-2
 returns-2 c =
     let c₅ = c .before .before .before .before .before in
     let c₆ = c₅ .before in
-    set-up-told _ _ _ _ _ _ _ _ _ (c₆ .if1 .left) (c₅ .set-up .ensures) (c .before .before .write-value .ensures)
+    set-up-answered _ _ _ _ _ _ _ _ _ (c₆ .if1 .left) (c₅ .set-up .ensures) (c .before .before .write-value .ensures)
 
 pub set-up-spec : {M : Type 1} → statement M
 set-up-spec = tie.close (tie.spec

@@ -15,7 +15,7 @@ use Rattle.rules.specs.declared.fault.Fault.{Fault}
 use Rattle.rules.specs.Rules.{checkTask}
 use Rattle.batch.specs.declared.walk.WalkStep.{WalkStep}
 use Rattle.batch.specs.declared.walk.WalkStep.the-variants.{Faulty as Stop}
-use Rattle.batch.specs.Batch.{inside, reservedBits, groupOf}
+use Rattle.batch.specs.Batch.{inGroup, reservedBits, groupOf}
 use Rattle.batch.specs.Walk.{stepFrom, stepAt}
 use Rattle.batch.proofs.DecoderCases.{words-fit, next-group, open-task, ended, reserved, bad-length, open-group, refused, taken}
 use Rattle.decoder.proofs.step.Statement.{statement}
@@ -27,8 +27,8 @@ Inv-loop ring offset size bounds k n at₀ held₀ head h left₀ register₀ at
     (at₀ ≤ at)
     × (at + left ≤ n)
     × (register + 4 * left ≤ 131072)
-    × (stepFrom bounds held₀ at₀ (inside left₀ register₀ (eqb (field 0 0 h) 1) head) (drop at₀ ws)
-    ≡ stepFrom bounds held at (inside left register (eqb (field 0 0 h) 1) head) (drop at ws))
+    × (stepFrom bounds held₀ at₀ (inGroup left₀ register₀ (eqb (field 0 0 h) 1) head) (drop at₀ ws)
+    ≡ stepFrom bounds held at (inGroup left register (eqb (field 0 0 h) 1) head) (drop at ws))
 
 abbrev μ-loop : tie.MeasureT-loop
 μ-loop ring offset size bounds k n at₀ held₀ head h left₀ register₀ at held left register = left
@@ -66,7 +66,7 @@ group c =
 -- the reading from the start is the reading from here, at the inner loop's head
 here : (c : tie.At-loop Inv-loop μ-loop Inv-groups μ-groups) → let s = c .before .before .before .before .before .before .before .before in let l = c .loop in let h = c .before .before .before .before .word-at .result in
     stepAt (s .args .bounds) (Ws s) (s .args .bank) (s .args .k)
-    ≡ stepFrom (s .args .bounds) (l .held) (l .at) (inside (l .left) (l .register) (eqb (field 0 0 h) 1) (c .before .before .before .before .before .groups .at)) (drop (l .at) (Ws s))
+    ≡ stepFrom (s .args .bounds) (l .held) (l .at) (inGroup (l .left) (l .register) (eqb (field 0 0 h) 1) (c .before .before .before .before .before .groups .at)) (drop (l .at) (Ws s))
 here c = group (c .before) ∙ c .loop .inv .3
 
 groups-holds : tie.Need-groups-holds Inv-loop μ-loop Inv-groups μ-groups

@@ -7,7 +7,7 @@ use borrow.Rule.Slice.PartMut.{midOf}
 use Rattle.pixel.specs.declared.format.Format.the-variants.{Argb8888}
 use Rattle.surface.proofs.Parts.{length-mid}
 use Rattle.rows.specs.Row.{wordColour}
-use Rattle.row_colours.proofs.Parts.{unpacked-small, part-spelt}
+use Rattle.row_colours.proofs.Parts.{unpacked-small, holds-part}
 use borrow.Author.Needs.{needs}
 use Rattle.fetch_rows.proofs.spread.Statement.{statement}
 use Rattle.fetch_rows.proofs.spread.Tie as tie
@@ -21,7 +21,7 @@ returns c =
     let n : ℕ = a .width * 4 - 0 in
     let long : length (midOf 0 n (now (a .buffer))) ≡ n = length-mid 0 n (now (a .buffer)) (omega (arith, s .pre)) in
     λ x l.
-    part-spelt (λ x. wordColour (w .result)) (now (a .buffer)) (f .last .0) (a .width) n (omega arith) (s .pre) (f .kept .0 ∙ long) (λ x. unpacked-small Argb8888 (w .result)) (f .ensures) x l
+    holds-part (λ x. wordColour (w .result)) (now (a .buffer)) (f .last .0) (a .width) n (omega arith) (s .pre) (f .kept .0 ∙ long) (λ x. unpacked-small Argb8888 (w .result)) (f .ensures) x l
     ∙ w .ensures
 
 pub spread-spec : {M : Type 1} → statement M

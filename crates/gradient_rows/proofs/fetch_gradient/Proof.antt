@@ -8,7 +8,7 @@ use Rattle.transform.specs.Transform.{mirrored}
 use Rattle.transform.proofs.Inside.{mirrored-below}
 use Rattle.gradient.specs.Gradient.{gradientColour}
 use Rattle.rows.specs.Row.{HoldsColours}
-use Rattle.argb_words.proofs.Words.{more-spelt}
+use Rattle.argb_words.proofs.Words.{holds-step}
 use Rattle.gradient_rows.proofs.fetch_gradient.Statement.{statement}
 use Rattle.gradient_rows.proofs.fetch_gradient.Tie as tie
 
@@ -43,7 +43,7 @@ loop-again c =
     let s = m .before .before .before .before in
     let a = s .args in (
       search needs,
-      more-spelt _ (l .buffer) (d .store-word .last .0) (l .x) (w .word-of .result) (omega (arith, m .before .loop-test .taken, l .inv .2, s .pre .0)) (omega arith) (l .inv .1) (d .store-word .ensures)
+      holds-step _ (l .buffer) (d .store-word .last .0) (l .x) (w .word-of .result) (omega (arith, m .before .loop-test .taken, l .inv .2, s .pre .0)) (omega arith) (l .inv .1) (d .store-word .ensures)
           (w .word-of .ensures ∙ (g .colour-at .ensures ∙ ap (λ (i : ℕ). gradientColour (a .start) (a .steps) i) (m .mirror .ensures))),
       d .store-word .kept .0 ∙ l .inv .2,
     )

@@ -5,7 +5,7 @@ use native.Mathlib.Nat.{div-le-self}
 use native.Mathlib.Omega.{arith}
 use borrow.Author.Needs.{needs}
 use Rattle.surface.proofs.Sizes.{pixels-most}
-use Rattle.overlap.proofs.Overlap.{First, near, flat, far-off, first-down, row-tells}
+use Rattle.overlap.proofs.Overlap.{First, near, flat, far-off, first-down, row-decides}
 use Rattle.overlap.proofs.shares_rows.Statement.{statement}
 use Rattle.overlap.proofs.shares_rows.Tie as tie
 
@@ -62,7 +62,7 @@ returns c =
     let s = k .before .before .before .before .before .before .before in
     let a = s .args in
     rw (c .overlaps .ensures)
-    (row-tells (a .first) (a .later) (s .pre) (k .before .if1 .y) _ _ _ (first k) (omega (arith, k .before .before .before .before .before .row-length .ensures)) refl (ap (λ (n : ℕ). a .later .address + n) (k .before .before .before .row-length2 .ensures)))
+    (row-decides (a .first) (a .later) (s .pre) (k .before .if1 .y) _ _ _ (first k) (omega (arith, k .before .before .before .before .before .row-length .ensures)) refl (ap (λ (n : ℕ). a .later .address + n) (k .before .before .before .row-length2 .ensures)))
 
 pub shares-rows-spec : {M : Type 1} → statement M
 shares-rows-spec =

@@ -6,10 +6,10 @@ use Rattle.picture.proofs.write_rows.Statement.{statement}
 use Rattle.picture.proofs.write_rows.Tie as tie
 
 abbrev Inv-loop : tie.InvT-loop
-Inv-loop memory s out₀ height y₀ well₀ out y well = (y ≤ height) × (65536 ≡ length out)
+Inv-loop memory s out₀ height y₀ ok₀ out y ok = (y ≤ height) × (65536 ≡ length out)
 
 abbrev μ-loop : tie.MeasureT-loop
-μ-loop memory s out₀ height y₀ well₀ out y well = height - y
+μ-loop memory s out₀ height y₀ ok₀ out y ok = height - y
 
 pub write-rows-spec : {M : Type 1} → statement M
 write-rows-spec =

@@ -27,7 +27,7 @@ draw-pixel-requires c κs =
 add-x : tie.Need-add-x Inv-loop μ-loop
 add-x c =
     let t = c .before .before .before .before in
-    omega (arith, t .loop-test .taken, t .before .before .before .before .pre .whole .clear .output .narrow)
+    omega (arith, t .loop-test .taken, t .before .before .before .before .pre .whole .clear .output .width-max)
 
 loop-again : tie.Need-loop-again Inv-loop μ-loop
 loop-again c =

@@ -32,7 +32,7 @@ returns-2 : tie.Need-returns-2
 returns-2 c =
     let c₅ = c .before .before .before .before .before in
     let a = c₅ .before .before .before .args in
-    let exactly = exactly-version (a .edition) (a .reader) (a .held .now) (a .input .now) (c .passed2 .result) (a .held .now) (suffices-by (a .edition) (a .reader) (a .held .now) _ (c₅ .room .ensures) _ (not-false _ (c .before .before .before .before .if1 .left))) (c .before .before .enum-told .given .1) refl (c .passed2 .ensures ∙ sym (version-none (a .edition) (a .reader) (take (a .reader .held) (a .held .now)) (a .input .now) (c .before .if2 .taken))) in (
+    let exactly = exactly-version (a .edition) (a .reader) (a .held .now) (a .input .now) (c .passed2 .result) (a .held .now) (suffices-by (a .edition) (a .reader) (a .held .now) _ (c₅ .room .ensures) _ (not-false _ (c .before .before .before .before .if1 .left))) (c .before .before .enum-told .given .1) refl (c .passed2 .ensures ∙ sym (version-none (a .edition) (a .reader) (take (a .reader .buffered) (a .held .now)) (a .input .now) (c .before .if2 .taken))) in (
       omega (arith, ap (λ (t : Taken). t .used) (c .passed2 .ensures)),
       rw (c .passed2 .ensures) tt,
       λ ready. nothing-takes (a .edition) (a .reader) (a .held .now) (a .input .now) (c .passed2 .result) ready (c .before .if2 .taken) (c .passed2 .ensures),
@@ -51,7 +51,7 @@ returns-3 c =
     let c₆ = c₅ .before in
     let a = c₆ .before .before .before .args in
     let v = version-used (a .edition) (getD (a .input .now) 0 0) in
-    let exactly = exactly-version (a .edition) (a .reader) (a .held .now) (a .input .now) (c .judge-version .result) (a .held .now) (suffices-by (a .edition) (a .reader) (a .held .now) _ (c₆ .room .ensures) _ (not-false _ (c₅ .if1 .left))) (c .before .before .before .enum-told .given .1) refl (c .judge-version .ensures ∙ sym (version-some (a .edition) (a .reader) (take (a .reader .held) (a .held .now)) (a .input .now) (c .before .before .if2 .left))) in (
+    let exactly = exactly-version (a .edition) (a .reader) (a .held .now) (a .input .now) (c .judge-version .result) (a .held .now) (suffices-by (a .edition) (a .reader) (a .held .now) _ (c₆ .room .ensures) _ (not-false _ (c₅ .if1 .left))) (c .before .before .before .enum-told .given .1) refl (c .judge-version .ensures ∙ sym (version-some (a .edition) (a .reader) (take (a .reader .buffered) (a .held .now)) (a .input .now) (c .before .before .if2 .left))) in (
       omega (arith, ap (λ (t : Taken). t .used) (c .judge-version .ensures), v .0, c .before .before .if2 .left),
       rw (c .judge-version .ensures) (v .1 _),
       λ ready. version-takes (a .edition) (a .reader) (a .held .now) (a .input .now) (c .judge-version .result) ready (c .before .before .before .enum-told .given .1) (c .before .before .if2 .left) (c .judge-version .ensures),

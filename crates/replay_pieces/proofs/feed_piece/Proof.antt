@@ -14,12 +14,12 @@ use Rattle.replay_pieces.proofs.feed_piece.Statement.{statement}
 use Rattle.replay_pieces.proofs.feed_piece.Tie as tie
 
 abbrev Inv-loop : tie.InvT-loop
-Inv-loop held₀ ring₀ memory₀ piece handed shows slow out₀ now₀ used₀ sum₀ well₀ held ring memory out now used sum well =
+Inv-loop held₀ ring₀ memory₀ piece handed shows slow out₀ now₀ used₀ sum₀ ok₀ held ring memory out now used sum ok =
     (used ≤ length piece) × (65536 ≡ length out) × (length held ≡ length held₀) × (length ring ≡ length ring₀) × (length memory ≡ length memory₀)
     × ((engine : State) (seen text : List ℕ) → Stands engine seen text now₀ held₀ ring₀ memory₀ → handed ≡ handedOf shows text → Feeding (now₀ .edition) engine seen text piece shows used now sum held ring memory)
 
 abbrev μ-loop : tie.MeasureT-loop
-μ-loop held₀ ring₀ memory₀ piece handed shows slow out₀ now₀ used₀ sum₀ well₀ held ring memory out now used sum well = length piece - used
+μ-loop held₀ ring₀ memory₀ piece handed shows slow out₀ now₀ used₀ sum₀ ok₀ held ring memory out now used sum ok = length piece - used
 
 loop-holds : tie.Need-loop-holds Inv-loop μ-loop
 loop-holds c = (search needs, search needs, search needs, search needs, search needs, λ engine seen text S e. feeding-none engine seen text _ _ _ _ _ _ _ S e)
@@ -46,7 +46,7 @@ returns c =
     let l = c .before .loop in
     λ engine seen text S e.
     let G = l .inv .5 engine seen text S e in
-    record { used = l .used; more = G .more; of = G .of; stands = G .stands; counts = G .counts; whole = λ well. all-used (l .used) _ (l .well) (c .loop-test .left) (l .inv .0) well }
+    record { used = l .used; more = G .more; of = G .of; stands = G .stands; counts = G .counts; whole = λ ok. all-used (l .used) _ (l .ok) (c .loop-test .left) (l .inv .0) ok }
 
 returns-2 : tie.Need-returns-2 Inv-loop μ-loop
 returns-2 c =

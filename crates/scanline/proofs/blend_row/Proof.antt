@@ -8,7 +8,7 @@ use Rattle.surface.proofs.Parts.{length-mid}
 use Rattle.rows.specs.Row.{colourIn}
 use Rattle.rows.specs.Mixed.{composite}
 use Rattle.plan.proofs.Factors.{planned-is}
-use Rattle.row_colours.proofs.Parts.{part-colour, mixed-small, part-spelt}
+use Rattle.row_colours.proofs.Parts.{part-colour, mixed-small, holds-part}
 use borrow.Author.Needs.{needs}
 use Rattle.scanline.proofs.blend_row.Statement.{statement}
 use Rattle.scanline.proofs.blend_row.Tie as tie
@@ -34,7 +34,7 @@ returns c =
     let n : ℕ = a .width * 4 - 0 in
     let long : length (midOf 0 n (now (a .destination))) ≡ n = length-mid 0 n (now (a .destination)) (omega (arith, s .pre .1)) in
     λ x l.
-    part-spelt (λ x. composite (a .blending) (a .source-alpha) (a .destination-alpha) (colourIn (now (a .source)) x) (colourIn (midOf 0 n (now (a .destination))) x))
+    holds-part (λ x. composite (a .blending) (a .source-alpha) (a .destination-alpha) (colourIn (now (a .source)) x) (colourIn (midOf 0 n (now (a .destination))) x))
     (now (a .destination)) (f .last .0) (a .width) n (omega arith) (s .pre .1) (f .kept .0 ∙ long) (λ x. mixed-small (a .blending) (a .source-alpha) (a .destination-alpha) _ _) (f .ensures) x l
     ∙ ap (composite (a .blending) (a .source-alpha) (a .destination-alpha) (colourIn (now (a .source)) x)) (part-colour (now (a .destination)) n x (omega arith))
 

@@ -8,7 +8,7 @@ use borrow.Author.Needs.{needs}
 use Rattle.surface.specs.Drawn.{loadPixel}
 use Rattle.rows.specs.Row.{HoldsColours}
 use Rattle.rows.specs.Step.{stridedAddress}
-use Rattle.argb_words.proofs.Words.{more-spelt}
+use Rattle.argb_words.proofs.Words.{holds-step}
 use Rattle.strided_rows.proofs.fetch_each.Statement.{statement}
 use Rattle.strided_rows.proofs.fetch_each.Tie as tie
 
@@ -48,7 +48,7 @@ loop-again c =
     let s = t .before .before .before .before in
     let a = s .args in (
       search needs,
-      more-spelt _ (l .buffer) (d .store-word .last .0) (l .x) (w .load-as-word .result) (omega (arith, t .loop-test .taken, l .inv .2, s .pre .room)) (omega arith) (l .inv .1) (d .store-word .ensures)
+      holds-step _ (l .buffer) (d .store-word .last .0) (l .x) (w .load-as-word .result) (omega (arith, t .loop-test .taken, l .inv .2, s .pre .room)) (omega arith) (l .inv .1) (d .store-word .ensures)
           (w .load-as-word .ensures ∙ ap (loadPixel (a .format) (now (a .memory))) (w .before .strided-address .ensures)),
       d .store-word .kept .0 ∙ l .inv .2,
     )

@@ -73,7 +73,7 @@ returns-2 c =
     let c₁₇ = c₁₃ .before .before .before .before in
     let e = c₁₇ .args in
     let size = length (e .piece .now) in
-    piece-done (e .engine) (e .ring .now) (e .client) (e .piece .now) (c₁₃ .piece-refusal .result) (c₁₃ .piece-refusal .ensures) (c₁₂ .if1 .left) (Accepted (e .engine .next)) (c .finished .result) _
+    piece-done (e .engine) (e .ring .now) (e .client) (e .piece .now) (c₁₃ .piece-refusal .result) (c₁₃ .piece-refusal .ensures) (c₁₂ .if1 .left) (Accepted (e .engine .«next_ticket»)) (c .finished .result) _
     (last-answer (e .engine) size (c .before .if2 .taken))
     (c .finished .ensures ∙ last-record (e .engine) size (c .before .if2 .taken))
     (rw (c₇ .wrap-offset .ensures, c₉ .write-offset .ensures) at (c₅ .copy-in .ensures))

@@ -6,7 +6,7 @@ use Rattle.tasks.proofs.wide_buffered.Tie as tie
 draw-buffered-requires : tie.Need-draw-buffered-requires
 draw-buffered-requires c κs =
     let p = c .before .before .before .before .pre in
-    (p, omega (arith, p .clear .output .narrow), omega (arith, p .clear .output .narrow))
+    (p, omega (arith, p .clear .output .width-max), omega (arith, p .clear .output .width-max))
 
 pub wide-buffered-spec : {M : Type 1} → statement M
 wide-buffered-spec =

@@ -36,7 +36,7 @@ store-at-requires c κs =
     let p = t .before .before .before .before .before .before .pre in
     record {
       inside = omega (arith, row-fits (p .0) _ (t .row-start .ensures), length-window (p .0));
-      room = omega (arith, f .fetch-bytes .kept .0, p .1, p .0 .drawable .clear .output .narrow);
+      room = omega (arith, f .fetch-bytes .kept .0, p .1, p .0 .drawable .clear .output .width-max);
     }
 
 returns : tie.Need-returns

@@ -27,7 +27,7 @@ add-y : tie.Need-add-y Inv-loop μ-loop
 add-y c =
     let t = c .before .before .before .before .before .before .before in
     let s = t .before .before .before .before .before in
-    omega (arith, t .loop-test .taken, s .pre .0 .clear .output .low)
+    omega (arith, t .loop-test .taken, s .pre .0 .clear .output .height-max)
 
 loop-again : tie.Need-loop-again Inv-loop μ-loop
 loop-again c =

@@ -20,18 +20,18 @@ abbrev μ-loop : tie.MeasureT-loop
 
 -- the walk from the start on decides the rules
 decided : (c : tie.Start Inv-loop μ-loop) →
-    walk (c .args .engine .setup .ring) (isOpen (c .args .engine)) (c .args .ready) (c .args .engine .next) (c .args .engine .slots) (c .args .engine .read) (c .args .engine .setup .ring)
+    walk (c .args .engine .setup .ring) (isOpen (c .args .engine)) (c .args .ready) (c .args .engine .«next_ticket») (c .args .engine .slots) (c .args .engine .«read_offset») (c .args .engine .setup .ring)
     ≡ batchRules (c .args .engine)
 decided c = rw (c .pre .2) (walk-rules (c .args .engine) _ _ _ _ _ _)
 
 -- what the test of a batch gives
-told : (c : tie.After-fits-in Inv-loop μ-loop) → let c₇ = c .before .before .before .before .before .before .before in let engine = c₇ .before .before .before .args .engine in
+fits-answer : (c : tie.After-fits-in Inv-loop μ-loop) → let c₇ = c .before .before .before .before .before .before .before in let engine = c₇ .before .before .before .args .engine in
     c .fits-in .result ≡ fitsIn (engine .setup .ring) (isOpen engine) (c₇ .loop .offset) (c₇ .loop .room) (c .before .before .batch-of .result)
-told c = c .fits-in .ensures ∙ rw (c .before .is-open .ensures)
+fits-answer c = c .fits-in .ensures ∙ rw (c .before .is-open .ensures)
 
 fit : (c : tie.Else2 Inv-loop μ-loop) → let c₈ = c .before .before .before .before .before .before .before .before in let engine = c₈ .before .before .before .args .engine in
     fitsIn (engine .setup .ring) (isOpen engine) (c₈ .loop .offset) (c₈ .loop .room) (c .before .before .before .batch-of .result) ≡ true
-fit c = sym (told (c .before)) ∙ not-false _ (c .if2 .left)
+fit c = sym (fits-answer (c .before)) ∙ not-false _ (c .if2 .left)
 
 fits : (c : tie.Else2 Inv-loop μ-loop) → let c₈ = c .before .before .before .before .before .before .before .before in let engine = c₈ .before .before .before .args .engine in
     Fitting (engine .setup .ring) (isOpen engine) (c₈ .loop .offset) (c₈ .loop .room) (c .before .before .before .batch-of .result)
@@ -70,7 +70,7 @@ returns-2 c =
     let c₁₁ = l .before .before .before in
     let p = c .before .before .before .before .before .before .slot-of-age in
     let j = c .before .before .before .batch-of in
-    let e = sym (told (c .before)) ∙ not-true _ (c .if2 .taken) in
+    let e = sym (fits-answer (c .before)) ∙ not-true _ (c .if2 .taken) in
     walk-unfit _ _ _ _ _ _ _ (c₇ .loop-test .taken) (p .result) (p .ensures) (omega (arith, c₁₁ .pre .4)) (j .result) (j .ensures) e ∙ l .loop .inv .3 ∙ decided c₁₁
 
 add-wrap-offset : tie.Need-add-wrap-offset Inv-loop μ-loop

@@ -21,8 +21,8 @@ use Rattle.engine.proofs.Preservation.{run-number, run-refused-no-op}
 use Rattle.answers.specs.Answers.{lastOf, fiveOf}
 use Rattle.record_bytes.specs.Read.{recordOf}
 use Rattle.record_bytes.specs.Written.{bytesOf}
-use Rattle.calls.specs.Calls.{setUpNumber, SetsUp, Told, Opens, Submits, Done as Silent, Begins, HandsOver, Cancels, Closes, Pends, Runs}
-use Rattle.calls.specs.Harmless.{Harmless}
+use Rattle.calls.specs.Calls.{setUpNumber, SetsUp, ValueWritten, Opens, Submits, Done as Silent, Begins, HandsOver, Cancels, Closes, Pends, Runs}
+use Rattle.calls.specs.RefusedNoChange.{RefusedNoChange}
 use Rattle.calls.proofs.Results.{unless-not}
 
 -- what is answered with a refusal
@@ -46,8 +46,8 @@ no-five : (o : Outcome) → (refusalOf o ≡ 0 → ⊥) → fiveOf o ≡ 0 ∷ 0
 no-five (NotRun n) h = refl
 no-five (Completed c) h = absurd (h refl)
 
-told-none : (bytes after : List ℕ) (a : Answer) (number value : ℕ) (bytesNow : List ℕ) → (number ≡ 0 → ⊥) → Told bytes after a number value bytesNow → (value ≡ 0) × (bytesNow ≡ bytes)
-told-none bytes after a number value bytesNow refused t =
+value-written-no-change : (bytes after : List ℕ) (a : Answer) (number value : ℕ) (bytesNow : List ℕ) → (number ≡ 0 → ⊥) → ValueWritten bytes after a number value bytesNow → (value ≡ 0) × (bytesNow ≡ bytes)
+value-written-no-change bytes after a number value bytesNow refused t =
     let z : refusalNumberOf a ≡ 0 → ⊥ = λ e. refused (t .number-is ∙ e) in
     (t .value-is ∙ no-value a z, t .record-is ∙ unless-not bytes after (refusalNumberOf a) z)
 
@@ -61,14 +61,14 @@ module _ (bytes bytesNow : List ℕ) (number : ℕ) (refused : number ≡ 0 → 
 
   open-none : (w : Window) (value : ℕ) → Opens bytes w number value bytesNow → (value ≡ 0) × (bytesNow ≡ bytes)
   unfolding Opens
-  open-none w value s = told-none bytes (bytesOf (openResult (recordOf bytes) w .engine)) (openResult (recordOf bytes) w .answer) number value bytesNow refused s
+  open-none w value s = value-written-no-change bytes (bytesOf (openResult (recordOf bytes) w .engine)) (openResult (recordOf bytes) w .answer) number value bytesNow refused s
 
   submit-none : (ring ringNow : List ℕ) (client : ℕ) (batch : List ℕ) (value : ℕ) → Submits bytes ring client batch number value bytesNow ringNow →
       (value ≡ 0) × (bytesNow ≡ bytes) × (ringNow ≡ ring)
   submit-none ring ringNow client batch value s =
       let r : EngineRecord = recordOf bytes in
-      let t = told-none bytes (bytesOf (submitResult r ring client batch .engine)) (submitResult r ring client batch .answer) number value bytesNow refused (s .told) in
-      let z : submitNumber r ring client batch ≡ 0 → ⊥ = λ e. refused (s .told .number-is ∙ submit-number r ring client batch ∙ e) in
+      let t = value-written-no-change bytes (bytesOf (submitResult r ring client batch .engine)) (submitResult r ring client batch .answer) number value bytesNow refused (s .answered) in
+      let z : submitNumber r ring client batch ≡ 0 → ⊥ = λ e. refused (s .answered .number-is ∙ submit-number r ring client batch ∙ e) in
       (t .0, t .1, s .ring-is ∙ submit-refused-no-op r ring client batch z .1)
 
   begin-none : (ring : List ℕ) (client total : ℕ) → Begins bytes ring client total number bytesNow → bytesNow ≡ bytes
@@ -88,10 +88,10 @@ module _ (bytes bytesNow : List ℕ) (number : ℕ) (refused : number ≡ 0 → 
   piece-none ring ringNow client piece two s =
       let r : EngineRecord = recordOf bytes in
       let a : Answer = pieceResult r ring client piece .answer in
-      let z : refusalNumberOf a ≡ 0 → ⊥ = λ e. refused (s .told .number-is ∙ e) in
-      let n : pieceNumber r ring client piece ≡ 0 → ⊥ = λ e. refused (s .told .number-is ∙ piece-number r ring client piece ∙ e) in (
-        s .told .two-are ∙ ap₂ (λ (x y : ℕ). x ∷ y ∷ []) (no-last a z) (no-value a z),
-        s .told .record-is ∙ unless-not bytes (bytesOf (pieceResult r ring client piece .engine)) (refusalNumberOf a) z,
+      let z : refusalNumberOf a ≡ 0 → ⊥ = λ e. refused (s .answered .number-is ∙ e) in
+      let n : pieceNumber r ring client piece ≡ 0 → ⊥ = λ e. refused (s .answered .number-is ∙ piece-number r ring client piece ∙ e) in (
+        s .answered .two-are ∙ ap₂ (λ (x y : ℕ). x ∷ y ∷ []) (no-last a z) (no-value a z),
+        s .answered .record-is ∙ unless-not bytes (bytesOf (pieceResult r ring client piece .engine)) (refusalNumberOf a) z,
         s .ring-is ∙ piece-refused-no-op r ring client piece n .1,
       )
 
@@ -99,8 +99,8 @@ module _ (bytes bytesNow : List ℕ) (number : ℕ) (refused : number ≡ 0 → 
   close-none memory memoryNow client s =
       let r : EngineRecord = recordOf bytes in
       let reply = closeResult r (length memory) client in
-      let n : closeNumber r memory client ≡ 0 → ⊥ = λ e. refused (s .told .number-is ∙ close-number r (length memory) client ∙ e) in
-      (silent-none bytes (bytesOf (reply .engine)) (reply .answer) number bytesNow refused (s .told), s .memory-is ∙ close-left r memory client n)
+      let n : closeNumber r memory client ≡ 0 → ⊥ = λ e. refused (s .answered .number-is ∙ close-number r (length memory) client ∙ e) in
+      (silent-none bytes (bytesOf (reply .engine)) (reply .answer) number bytesNow refused (s .answered), s .memory-is ∙ close-left r memory client n)
 
   run-none : (ring memory memoryNow five : List ℕ) → Runs bytes ring memory number five bytesNow memoryNow →
       (five ≡ 0 ∷ 0 ∷ 0 ∷ 0 ∷ 0 ∷ []) × (bytesNow ≡ bytes) × (memoryNow ≡ memory)
@@ -114,5 +114,5 @@ module _ (bytes bytesNow : List ℕ) (number : ℕ) (refused : number ≡ 0 → 
   pending-none : (client value : ℕ) → Pends bytes client number value → value ≡ 0
   pending-none client value s = s .value-is ∙ no-value (pendingAnswer (recordOf bytes) client) (λ e. refused (s .number-is ∙ e))
 
-  pub harmless : Harmless bytes bytesNow number refused
-  harmless = record { by-set-up = set-up-none; by-open = open-none; by-submit = submit-none; by-begin = begin-none; by-piece = piece-none; by-cancel = cancel-none; by-close = close-none; by-run = run-none; by-pending = pending-none }
+  pub refused-no-change : RefusedNoChange bytes bytesNow number refused
+  refused-no-change = record { by-set-up = set-up-none; by-open = open-none; by-submit = submit-none; by-begin = begin-none; by-piece = piece-none; by-cancel = cancel-none; by-close = close-none; by-run = run-none; by-pending = pending-none }

@@ -1,5 +1,5 @@
 -- A refused call changes nothing: no byte of the record, the ring and the memory that are lent to it, and what it answers is zeros. Pending is lent
--- everything only to be read. proofs/Harmless.antt proves the promise.
+-- everything only to be read. proofs/RefusedNoChange.antt proves the promise.
 use mathlib.Core.Path.{_≡_}
 use mathlib.Core.List.{List, [], _∷_}
 use Prim.Native.Nat.{ℕ}
@@ -8,7 +8,7 @@ use Rattle.record.specs.declared.Window.{Window}
 use Rattle.calls.specs.Calls.{SetsUp, Opens, Submits, Begins, HandsOver, Cancels, Closes, Pends, Runs}
 
 module _ (bytes bytesNow : List ℕ) (number : ℕ) (refused : number ≡ 0 → ⊥) where
-  pub record Harmless : Type 0 where
+  pub record RefusedNoChange : Type 0 where
     pub by-set-up : (ring memory common : ℕ) (reset : ResetRule) → SetsUp bytes ring memory common reset number bytesNow → bytesNow ≡ bytes
     pub by-open : (w : Window) (value : ℕ) → Opens bytes w number value bytesNow → (value ≡ 0) × (bytesNow ≡ bytes)
     pub by-submit : (ring ringNow : List ℕ) (client : ℕ) (batch : List ℕ) (value : ℕ) → Submits bytes ring client batch number value bytesNow ringNow →
