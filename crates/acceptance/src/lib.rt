@@ -6,7 +6,7 @@ ghost use Rattle.claims.specs.BatchSemantics.{boundsOf};
 ghost use Rattle.lines.specs.Answered.{recordRefusal, replayWindow};
 ghost use Rattle.acceptance.specs.Submitted.{submittedAs};
 use range::Range;
-use rules::Bounds;
+use task_check::Bounds;
 
 // Submit refuses the record, or its batch is run within these bounds.
 pub enum Submitted {

@@ -11,13 +11,13 @@ use Rattle.batch.specs.Batch.{statusWordOf, faultNumberOf as faultOf, faultOffs
 use Rattle.batch.proofs.DecoderCases.{words-fit}
 use Rattle.batch.proofs.Tasks.{status-fits}
 use Rattle.batch.proofs.Offsets.{offset-within}
-use Rattle.record.specs.declared.Batch.{Batch}
-use Rattle.record.specs.declared.EngineRecord.{EngineRecord}
-use Rattle.record.specs.Setup.{badLength}
-use Rattle.record.specs.Tickets.{ticketBefore, batchOfTicket, inTicketOrder}
-use Rattle.record.specs.Queue.{readySlots}
-use Rattle.record.specs.Rules.{lengthsAllowed, valid}
-use Rattle.record.proofs.Rules.{valid-facts, length-good}
+use Rattle.engine_record.specs.declared.Batch.{Batch}
+use Rattle.engine_record.specs.declared.EngineRecord.{EngineRecord}
+use Rattle.engine_record.specs.Setup.{badLength}
+use Rattle.engine_record.specs.Tickets.{ticketBefore, batchOfTicket, inTicketOrder}
+use Rattle.engine_record.specs.Queue.{readySlots}
+use Rattle.engine_record.specs.Rules.{lengthsAllowed, valid}
+use Rattle.engine_record.proofs.Rules.{valid-facts, length-good}
 use Rattle.engine.specs.declared.Outcome.{Outcome}
 use Rattle.engine.specs.declared.Outcome.the-variants.{Completed}
 use Rattle.engine.specs.declared.Completion.{Completion}

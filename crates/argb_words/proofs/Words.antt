@@ -11,7 +11,7 @@ use Rattle.pixel.specs.declared.format.Format.the-variants.{Argb8888}
 use Rattle.pixel.proofs.Stored.{stored-same}
 use Rattle.surface.specs.Drawn.{storePixel}
 use Rattle.surface.proofs.Loaded.{loaded-else, loaded-stored}
-use Rattle.rows.specs.Row.{wordColour, colourIn, HoldsColours}
+use Rattle.row_pixels.specs.Row.{wordColour, colourIn, HoldsColours}
 
 pub holds-step : (p : ℕ → Colour) (buffer buffer′ : List ℕ) (x word : ℕ) → x * 4 + 4 ≤ length buffer → word < 2 ^ 32 → HoldsColours buffer x p →
     buffer′ ≡ storePixel Argb8888 buffer (x * 4) (wordColour word) → wordColour word ≡ p x → HoldsColours buffer′ (x + 1) p

@@ -3,7 +3,7 @@ ghost use mathlib.Core.Path.{_≡_};
 ghost use Prim.Native.Nat.{_+_, _≤_};
 ghost use lib.ListN.{length};
 ghost use Rattle.surface.specs.Drawn.{loadPixel, storePixel};
-ghost use Rattle.rows.specs.Row.{wordColour, rowStored, RowIsWide};
+ghost use Rattle.row_pixels.specs.Row.{wordColour, rowStored, RowIsWide};
 use pixel::Colour;
 use pixel::Format;
 use word::read_le32;

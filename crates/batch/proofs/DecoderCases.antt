@@ -20,10 +20,10 @@ use Rattle.register.specs.Task.{taskOf}
 use Rattle.register.specs.declared.bank.Bank.{Bank}
 use Rattle.register.specs.declared.bank.WriteFault.{WriteFault}
 use Rattle.register.specs.declared.bank.WriteResult.the-variants.{Written, Refused}
-use Rattle.rules.specs.declared.fault.Fault.the-variants.{ReservedBits, GroupLength, OpenTask}
-use Rattle.rules.specs.declared.task.Bounds.{Bounds}
-use Rattle.rules.specs.Faults.{writeFault}
-use Rattle.rules.specs.Rules.{checkTask}
+use Rattle.task_check.specs.declared.fault.Fault.the-variants.{ReservedBits, GroupLength, OpenTask}
+use Rattle.task_check.specs.declared.task.Bounds.{Bounds}
+use Rattle.task_check.specs.Faults.{writeFault}
+use Rattle.task_check.specs.Rules.{checkTask}
 use Rattle.batch.specs.declared.walk.WalkStep.the-variants.{Faulty as Stop, End}
 use Rattle.batch.specs.Batch.{inGroup, reservedBits, badGroupLength, groupOf}
 use Rattle.batch.specs.Walk.{stepAfterCheck, stepHeader, stepWrite, stepFrom, stepAt}

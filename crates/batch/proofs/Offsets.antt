@@ -8,9 +8,9 @@ use lib.ListN.{length}
 use Rattle.register.specs.Bank.{writeRegister}
 use Rattle.register.specs.Task.{taskOf}
 use Rattle.register.specs.declared.bank.Bank.{Bank}
-use Rattle.rules.specs.declared.fault.Fault.{Fault}
-use Rattle.rules.specs.declared.task.Bounds.{Bounds}
-use Rattle.rules.specs.Rules.{checkTask}
+use Rattle.task_check.specs.declared.fault.Fault.{Fault}
+use Rattle.task_check.specs.declared.task.Bounds.{Bounds}
+use Rattle.task_check.specs.Rules.{checkTask}
 use Rattle.batch.specs.declared.verdict.Verdict.{Verdict}
 use Rattle.batch.specs.declared.verdict.Verdict.the-variants.{Faultless, Faulty}
 use Rattle.batch.specs.Batch.{DecodedBatch, BatchEnd, finished, faulty, stopWith, DecoderState, betweenTasks, inGroup, groupOf, decodeHeader, afterTaskCheck, decodeFrom, decodeBatch, verdictAfter, verdictOf, faultOffsetOf}

@@ -12,11 +12,11 @@ use Rattle.register.specs.Task.{taskOf}
 use Rattle.register.specs.declared.bank.Bank.{Bank}
 use Rattle.register.specs.declared.bank.WriteResult.{WriteResult}
 use Rattle.register.specs.declared.bank.WriteResult.the-variants.{Written, Refused}
-use Rattle.rules.specs.declared.fault.Fault.the-variants.{ReservedBits, GroupLength}
-use Rattle.rules.specs.declared.task.Bounds.{Bounds}
-use Rattle.rules.specs.declared.task.TaskCheck.{TaskCheck}
-use Rattle.rules.specs.declared.task.TaskCheck.the-variants.{Valid, Invalid}
-use Rattle.rules.specs.Rules.{checkTask}
+use Rattle.task_check.specs.declared.fault.Fault.the-variants.{ReservedBits, GroupLength}
+use Rattle.task_check.specs.declared.task.Bounds.{Bounds}
+use Rattle.task_check.specs.declared.task.TaskCheck.{TaskCheck}
+use Rattle.task_check.specs.declared.task.TaskCheck.the-variants.{Valid, Invalid}
+use Rattle.task_check.specs.Rules.{checkTask}
 use Rattle.batch.specs.declared.walk.WalkStep.{WalkStep}
 use Rattle.batch.specs.declared.walk.WalkStep.the-variants.{Task as Next, Faulty as Stop, End}
 use Rattle.batch.specs.Batch.{DecodedBatch, faulty, stopWith, DecoderState, betweenTasks, inGroup, reservedBits, badGroupLength, groupOf, decodeHeader, afterWrite, afterTaskCheck, decodeFrom}

@@ -15,14 +15,14 @@ use Rattle.register.specs.Bank.{writeRegister}
 use Rattle.register.specs.Task.{taskOf}
 use Rattle.register.specs.declared.bank.Bank.{Bank}
 use Rattle.register.specs.declared.task.Task.{Task}
-use Rattle.rules.specs.declared.fault.Fault.{Fault}
-use Rattle.rules.specs.declared.fault.Fault.the-variants.{ReservedBits, GroupLength, OpenTask, NotWritable, Forbidden, BadSurface, SizeMismatch, OutOfBounds, Overlap}
-use Rattle.rules.specs.declared.task.Bounds.{Bounds}
-use Rattle.rules.specs.declared.task.TaskCheck.{TaskCheck}
-use Rattle.rules.specs.Faults.{faultStatus}
-use Rattle.rules.specs.Rules.{checkTask}
-use Rattle.rules.proofs.Sound.{Sound, AllSound}
-use Rattle.rules.proofs.Passes.{passes}
+use Rattle.task_check.specs.declared.fault.Fault.{Fault}
+use Rattle.task_check.specs.declared.fault.Fault.the-variants.{ReservedBits, GroupLength, OpenTask, NotWritable, Forbidden, BadSurface, SizeMismatch, OutOfBounds, Overlap}
+use Rattle.task_check.specs.declared.task.Bounds.{Bounds}
+use Rattle.task_check.specs.declared.task.TaskCheck.{TaskCheck}
+use Rattle.task_check.specs.Faults.{faultStatus}
+use Rattle.task_check.specs.Rules.{checkTask}
+use Rattle.task_check.proofs.Sound.{Sound, AllSound}
+use Rattle.task_check.proofs.Passes.{passes}
 use Rattle.batch.specs.declared.walk.WalkStep.{WalkStep}
 use Rattle.batch.specs.declared.walk.WalkStep.the-variants.{Task as Next}
 use Rattle.batch.specs.declared.verdict.Verdict.the-variants.{Faultless}

@@ -12,14 +12,14 @@ use Rattle.register.specs.Task.{taskOf}
 use Rattle.register.specs.declared.bank.Bank.{Bank}
 use Rattle.register.specs.declared.bank.WriteResult.{WriteResult}
 use Rattle.register.specs.declared.bank.WriteResult.the-variants.{Written, Refused}
-use Rattle.rules.specs.declared.fault.Fault.the-variants.{ReservedBits, GroupLength, OpenTask}
-use Rattle.rules.specs.declared.task.Bounds.{Bounds}
-use Rattle.rules.specs.declared.task.TaskCheck.{TaskCheck}
-use Rattle.rules.specs.declared.task.TaskCheck.the-variants.{Valid, Invalid}
+use Rattle.task_check.specs.declared.fault.Fault.the-variants.{ReservedBits, GroupLength, OpenTask}
+use Rattle.task_check.specs.declared.task.Bounds.{Bounds}
+use Rattle.task_check.specs.declared.task.TaskCheck.{TaskCheck}
+use Rattle.task_check.specs.declared.task.TaskCheck.the-variants.{Valid, Invalid}
 use Rattle.batch.specs.declared.walk.WalkStep.{WalkStep}
 use Rattle.batch.specs.declared.walk.WalkStep.the-variants.{Task, Faulty, End}
-use Rattle.rules.specs.Faults.{writeFault}
-use Rattle.rules.specs.Rules.{checkTask}
+use Rattle.task_check.specs.Faults.{writeFault}
+use Rattle.task_check.specs.Rules.{checkTask}
 use Rattle.batch.specs.Batch.{DecodedBatch, finished, faulty, stopWith, consTask, DecoderState, betweenTasks, inGroup, reservedBits, badGroupLength, groupOf, decodeFrom}
 
 -- ---- one step: the reading (specs/Batch) up to the end of a task, the batch's end or a fault

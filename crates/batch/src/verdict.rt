@@ -3,7 +3,7 @@ ghost use mathlib.Core.Path.{_≡_};
 ghost use Prim.Native.Nat.{_%_};
 ghost use Rattle.batch.specs.Batch.{statusWordOf, faultNumberOf, faultOffsetOf};
 use register::Bank;
-use rules::Fault;
+use task_check::Fault;
 
 // How many tasks a batch has; or how many stand before its first fault, that fault and the offset of it.
 pub enum Verdict {

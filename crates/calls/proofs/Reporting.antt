@@ -3,7 +3,7 @@ use mathlib.Core.Path.{_≡_, sym, ap, subst, _∙_}
 use mathlib.Core.List.{List, [], _∷_}
 use Prim.Native.Nat.{ℕ}
 use lib.ListN.{length, getD}
-use Rattle.record.specs.declared.EngineRecord.{EngineRecord}
+use Rattle.engine_record.specs.declared.EngineRecord.{EngineRecord}
 use Rattle.queue.specs.Calls.{unlessRefused}
 use Rattle.engine.specs.declared.Outcome.{Outcome}
 use Rattle.engine.specs.declared.RunResult.{RunResult}

@@ -7,7 +7,7 @@ use Prim.Native.Nat.{ℕ}
 use lib.ListN.{length}
 use lib.Dec.{eqb}
 use Rattle.reset.specs.declared.ResetRule.{ResetRule}
-use Rattle.record.specs.declared.Window.{Window}
+use Rattle.engine_record.specs.declared.Window.{Window}
 use Rattle.queue.specs.declared.Answer.{Answer}
 use Rattle.queue.specs.declared.Reply.{Reply}
 use Rattle.queue.specs.Answers.{refusalNumberOf, valueOf}

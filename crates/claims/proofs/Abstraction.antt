@@ -7,14 +7,14 @@ use native.Mathlib.Omega.{arith}
 use lib.ListN.{length, getD, set}
 use Rattle.ring.specs.Segment.{wrapOffset}
 use Rattle.ring.proofs.Segment.{lies-wrapped, length-segment}
-use Rattle.record.specs.declared.Window.{Window as Span}
-use Rattle.record.specs.declared.Client.{Client}
-use Rattle.record.specs.declared.Batch.{Batch as Ready}
-use Rattle.record.specs.Slots.{sumOver, totalLength, countOf as countIn}
-use Rattle.record.specs.Clients.{noClient, windowsOf, lowestClosed}
-use Rattle.record.specs.Rules.{endToEnd}
-use Rattle.record.proofs.Line.{headed, held}
-use Rattle.record.proofs.Opened.{recounted}
+use Rattle.engine_record.specs.declared.Window.{Window as Span}
+use Rattle.engine_record.specs.declared.Client.{Client}
+use Rattle.engine_record.specs.declared.Batch.{Batch as Ready}
+use Rattle.engine_record.specs.Slots.{sumOver, totalLength, countOf as countIn}
+use Rattle.engine_record.specs.Clients.{noClient, windowsOf, lowestClosed}
+use Rattle.engine_record.specs.Rules.{endToEnd}
+use Rattle.engine_record.proofs.Line.{headed, held}
+use Rattle.engine_record.proofs.Opened.{recounted}
 use Rattle.model.specs.Windows.{Window, window}
 use Rattle.model.specs.State.{Batch, batch, Place, free, taken, isTaken, windowIn, windowsIn, lowestFree, totalBytes, countOf}
 

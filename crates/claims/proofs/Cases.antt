@@ -6,13 +6,13 @@ use Prim.Native.Nat.{ℕ, zero, suc}
 use native.Mathlib.Omega.{arith}
 use lib.ListN.{length}
 use Rattle.ring.specs.Copied.{copiedIn}
-use Rattle.record.specs.declared.Window.{Window as Place}
-use Rattle.record.specs.Slots.{readyBatches as readyOf, countOf}
-use Rattle.record.specs.Clients.{clientAt, lowestClosed}
-use Rattle.record.specs.Queue.{writeOffset}
-use Rattle.record.specs.declared.EngineRecord.{EngineRecord}
+use Rattle.engine_record.specs.declared.Window.{Window as Place}
+use Rattle.engine_record.specs.Slots.{readyBatches as readyOf, countOf}
+use Rattle.engine_record.specs.Clients.{clientAt, lowestClosed}
+use Rattle.engine_record.specs.Queue.{writeOffset}
+use Rattle.engine_record.specs.declared.EngineRecord.{EngineRecord}
 use Rattle.queue.specs.declared.Answer.{Answer as QueueAnswer}
-use Rattle.record.specs.Staged.{noStaged, missingBytes}
+use Rattle.engine_record.specs.Staged.{noStaged, missingBytes}
 use Rattle.queue.specs.declared.Answer.the-variants.{Done, Opened, Accepted, Ready, Missing}
 use Rattle.queue.specs.Answers.{refusalNumberOf, valueOf, answerUnlessRefused as replied}
 use Rattle.queue.specs.Refusals.{firstRefusal}

@@ -5,12 +5,12 @@ use mathlib.Core.Logic.{inl, inr}
 use Prim.Native.Nat.{ℕ, zero, suc, _%_}
 use native.Mathlib.Omega.{arith}
 use lib.ListN.{length, getD}
-use Rattle.record.specs.declared.EngineRecord.{EngineRecord}
-use Rattle.record.specs.declared.Client.{Client}
-use Rattle.record.specs.declared.Batch.{Batch}
-use Rattle.record.specs.Clients.{noClient, windowsOf, pendingCountsMatch}
-use Rattle.record.specs.Queue.{waiting}
-use Rattle.record.specs.Rules.{clientsOpen, valid}
+use Rattle.engine_record.specs.declared.EngineRecord.{EngineRecord}
+use Rattle.engine_record.specs.declared.Client.{Client}
+use Rattle.engine_record.specs.declared.Batch.{Batch}
+use Rattle.engine_record.specs.Clients.{noClient, windowsOf, pendingCountsMatch}
+use Rattle.engine_record.specs.Queue.{waiting}
+use Rattle.engine_record.specs.Rules.{clientsOpen, valid}
 use Rattle.model.specs.Calls.{Setup, Call}
 use Rattle.claims.specs.Engine.{State, mkState, answersOf, memoriesOf}
 use Rattle.claims.specs.Queue.{SameButClosed, withClients, ClosedPlacesFree}

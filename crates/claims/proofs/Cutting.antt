@@ -10,14 +10,14 @@ use Rattle.ring.specs.Segment.{LiesInRing, wrapOffset, segment}
 use Rattle.ring.specs.Copied.{copiedIn}
 use Rattle.ring.proofs.Wrapped.{wrapped-below}
 use Rattle.ring.proofs.Copied.{length-copied}
-use Rattle.record.specs.declared.Staged.{Staged}
-use Rattle.record.specs.declared.EngineRecord.{EngineRecord}
-use Rattle.record.specs.Slots.{lowestFree}
-use Rattle.record.specs.Queue.{readyBytes, writeOffset}
-use Rattle.record.specs.Rules.{valid, stagedRule}
-use Rattle.record.proofs.Pieces.{copied-twice, copied-same}
-use Rattle.record.proofs.Rules.{valid-facts, ready-within}
-use Rattle.record.proofs.Unfinished.{unfinished-kept}
+use Rattle.engine_record.specs.declared.Staged.{Staged}
+use Rattle.engine_record.specs.declared.EngineRecord.{EngineRecord}
+use Rattle.engine_record.specs.Slots.{lowestFree}
+use Rattle.engine_record.specs.Queue.{readyBytes, writeOffset}
+use Rattle.engine_record.specs.Rules.{valid, stagedRule}
+use Rattle.engine_record.proofs.Pieces.{copied-twice, copied-same}
+use Rattle.engine_record.proofs.Rules.{valid-facts, ready-within}
+use Rattle.engine_record.proofs.Unfinished.{unfinished-kept}
 use Rattle.queue.specs.Refusals.{firstRefusal}
 use Rattle.queue.specs.Calls.{newBatch, withBatch, submitted, withStaged, begun, withReceived, pieceAnswer, afterPiece}
 use Rattle.queue.proofs.Refusals.{SubmitAllowed, submit-allowed}

@@ -12,17 +12,17 @@ use Rattle.ring.specs.Segment.{LiesInRing, wrapOffset, segment}
 use Rattle.ring.specs.Copied.{copiedIn}
 use Rattle.ring.proofs.Wrapped.{wrapped-in, wrapped-below}
 use Rattle.ring.proofs.Copied.{length-copied, segment-copied}
-use Rattle.record.specs.declared.Setup.{Setup as Numbers}
-use Rattle.record.specs.declared.Batch.{Batch}
-use Rattle.record.specs.declared.Staged.{Staged}
-use Rattle.record.specs.declared.EngineRecord.{EngineRecord}
-use Rattle.record.specs.Slots.{totalLength}
-use Rattle.record.specs.Staged.{noStaged, missingBytes}
-use Rattle.record.specs.Queue.{readyBytes, writeOffset, waiting}
-use Rattle.record.specs.Rules.{valid}
-use Rattle.record.proofs.Line.{held, held-kept}
-use Rattle.record.proofs.Pieces.{copied-behind}
-use Rattle.record.proofs.Rules.{sum-waiting, ready-within}
+use Rattle.engine_record.specs.declared.Setup.{Setup as Numbers}
+use Rattle.engine_record.specs.declared.Batch.{Batch}
+use Rattle.engine_record.specs.declared.Staged.{Staged}
+use Rattle.engine_record.specs.declared.EngineRecord.{EngineRecord}
+use Rattle.engine_record.specs.Slots.{totalLength}
+use Rattle.engine_record.specs.Staged.{noStaged, missingBytes}
+use Rattle.engine_record.specs.Queue.{readyBytes, writeOffset, waiting}
+use Rattle.engine_record.specs.Rules.{valid}
+use Rattle.engine_record.proofs.Line.{held, held-kept}
+use Rattle.engine_record.proofs.Pieces.{copied-behind}
+use Rattle.engine_record.proofs.Rules.{sum-waiting, ready-within}
 use Rattle.queue.specs.declared.Answer.{Answer as QueueAnswer}
 use Rattle.queue.specs.declared.Answer.the-variants.{Accepted, Missing}
 use Rattle.queue.specs.Calls.{newBatch, withBatch, withStaged, more, isLast, pieceOffset}

@@ -7,15 +7,15 @@ use native.Mathlib.Omega.{arith}
 use lib.ListN.{length}
 use lib.Seq.{getD-set-same, getD-set-other}
 use lib.Dec.{ltb}
-use Rattle.record.specs.declared.Batch.{Batch}
-use Rattle.record.specs.declared.Client.{Client}
-use Rattle.record.specs.Clients.{noClient, clientAt, isOpen, lowestClosed}
-use Rattle.record.specs.Slots.{lowestFree}
-use Rattle.record.specs.Queue.{readySlots, waiting}
-use Rattle.record.proofs.Line.{held}
-use Rattle.record.proofs.Clients.{closed-below, closed-is, closed-least, open-place, place-open}
-use Rattle.record.proofs.Windows.{window-placed}
-use Rattle.record.proofs.Rules.{valid-facts, write-newest, write-first, free-room}
+use Rattle.engine_record.specs.declared.Batch.{Batch}
+use Rattle.engine_record.specs.declared.Client.{Client}
+use Rattle.engine_record.specs.Clients.{noClient, clientAt, isOpen, lowestClosed}
+use Rattle.engine_record.specs.Slots.{lowestFree}
+use Rattle.engine_record.specs.Queue.{readySlots, waiting}
+use Rattle.engine_record.proofs.Line.{held}
+use Rattle.engine_record.proofs.Clients.{closed-below, closed-is, closed-least, open-place, place-open}
+use Rattle.engine_record.proofs.Windows.{window-placed}
+use Rattle.engine_record.proofs.Rules.{valid-facts, write-newest, write-first, free-room}
 use Rattle.queue.specs.Refusals.{firstRefusal}
 use Rattle.queue.specs.Calls.{newBatch, withBatch, withStaged, isLast, withClient, withoutClient}
 use Rattle.queue.proofs.Refusals.{open-allowed, submit-allowed, close-allowed}

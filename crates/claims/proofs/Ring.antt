@@ -13,11 +13,11 @@ use Rattle.ring.specs.Segment.{wrapOffset}
 use Rattle.ring.specs.Copied.{copiedIn}
 use Rattle.ring.proofs.Wrapped.{wrapped-in}
 use Rattle.ring.proofs.Segment.{length-segment}
-use Rattle.record.specs.declared.Setup.{Setup as Numbers}
-use Rattle.record.specs.declared.EngineRecord.{EngineRecord}
-use Rattle.record.specs.Staged.{noStaged, isIdle}
-use Rattle.record.specs.Queue.{readyBytes, writeOffset, waiting}
-use Rattle.record.proofs.Unfinished.{Unfinished, staged-cases}
+use Rattle.engine_record.specs.declared.Setup.{Setup as Numbers}
+use Rattle.engine_record.specs.declared.EngineRecord.{EngineRecord}
+use Rattle.engine_record.specs.Staged.{noStaged, isIdle}
+use Rattle.engine_record.specs.Queue.{readyBytes, writeOffset, waiting}
+use Rattle.engine_record.proofs.Unfinished.{Unfinished, staged-cases}
 use Rattle.queue.specs.Refusals.{firstRefusal, setUpTable}
 use Rattle.queue.specs.Calls.{unlessRefused, initialRecord, setUpResult, withClient, withBatch, withStaged, withoutClient, newBatch, more, isLast, afterPiece, pieceOffset as offsetOfPiece}
 use Rattle.queue.proofs.Refusals.{submit-allowed, piece-allowed}

@@ -9,13 +9,13 @@ use Rattle.word.specs.Word.{words}
 use Rattle.ring.specs.Segment.{segment, wrapOffset}
 use Rattle.ring.proofs.Wrapped.{wrapped-add}
 use Rattle.register.specs.Bank.{resetBank}
-use Rattle.rules.specs.declared.task.Bounds.{Bounds}
+use Rattle.task_check.specs.declared.task.Bounds.{Bounds}
 use Rattle.batch.specs.Batch.{decodeBatch, verdictOf}
-use Rattle.record.specs.declared.Setup.{Setup as Numbers}
-use Rattle.record.specs.declared.EngineRecord.{EngineRecord}
-use Rattle.record.specs.Slots.{sumOver, totalLength}
-use Rattle.record.specs.Queue.{readyBytes, writeOffset, waiting}
-use Rattle.record.proofs.Rules.{valid-facts, sum-waiting, ready-within}
+use Rattle.engine_record.specs.declared.Setup.{Setup as Numbers}
+use Rattle.engine_record.specs.declared.EngineRecord.{EngineRecord}
+use Rattle.engine_record.specs.Slots.{sumOver, totalLength}
+use Rattle.engine_record.specs.Queue.{readyBytes, writeOffset, waiting}
+use Rattle.engine_record.proofs.Rules.{valid-facts, sum-waiting, ready-within}
 use Rattle.queue.proofs.Validity.{few-taken}
 use Rattle.engine.specs.Run.{oldest, boundsOfClient, oldestWords, withoutOldest}
 use Rattle.engine.proofs.Refusals.{RunAllowed, run-allowed}

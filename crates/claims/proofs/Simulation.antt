@@ -3,7 +3,7 @@ use mathlib.Core.Path.{_≡_, refl, ap, ap₂, sym, subst, _∙_}
 use mathlib.Core.List.{List, [], _∷_}
 use Prim.Native.Nat.{ℕ}
 use lib.ListN.{length}
-use Rattle.record.proofs.Line.{held}
+use Rattle.engine_record.proofs.Line.{held}
 use Rattle.queue.specs.Refusals.{firstRefusal, setUpTable}
 use Rattle.queue.specs.Calls.{unlessRefused, initialRecord as freshRecord, setUpResult}
 use Rattle.queue.proofs.Refusals.{set-up-allowed}

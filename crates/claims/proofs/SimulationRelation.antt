@@ -13,16 +13,16 @@ use Rattle.ring.specs.Segment.{wrapOffset, segment}
 use mathlib.Core.Logic.{⊎-elim}
 use Rattle.ring.proofs.Wrapped.{wrapped-in, wrapped-below}
 use Rattle.ring.proofs.Segment.{length-segment}
-use Rattle.record.proofs.Unfinished.{Unfinished, staged-cases}
-use Rattle.record.specs.declared.Setup.{Setup as Numbers}
-use Rattle.record.specs.declared.EngineRecord.{EngineRecord}
-use Rattle.record.specs.Staged.{noStaged, isIdle, stagedBy, stagedSlots, missingBytes}
-use Rattle.record.specs.Slots.{readyBatches, countOf as countIn}
-use Rattle.record.specs.Clients.{isOpen, clientAt}
-use Rattle.record.specs.Queue.{readySlots, readyBytes, writeOffset, waiting}
-use Rattle.record.specs.Rules.{valid}
-use Rattle.record.proofs.Clients.{closed-past, open-place}
-use Rattle.record.proofs.Rules.{Valid, valid-facts, sum-waiting, length-waiting, ready-within}
+use Rattle.engine_record.proofs.Unfinished.{Unfinished, staged-cases}
+use Rattle.engine_record.specs.declared.Setup.{Setup as Numbers}
+use Rattle.engine_record.specs.declared.EngineRecord.{EngineRecord}
+use Rattle.engine_record.specs.Staged.{noStaged, isIdle, stagedBy, stagedSlots, missingBytes}
+use Rattle.engine_record.specs.Slots.{readyBatches, countOf as countIn}
+use Rattle.engine_record.specs.Clients.{isOpen, clientAt}
+use Rattle.engine_record.specs.Queue.{readySlots, readyBytes, writeOffset, waiting}
+use Rattle.engine_record.specs.Rules.{valid}
+use Rattle.engine_record.proofs.Clients.{closed-past, open-place}
+use Rattle.engine_record.proofs.Rules.{Valid, valid-facts, sum-waiting, length-waiting, ready-within}
 use Rattle.queue.proofs.Validity.{Sized, few-taken}
 use Rattle.model.specs.Calls.{Setup}
 use Rattle.model.specs.State.{Model, free, isTaken, Staging, idle, staging, isIdle as isIdleM, stagedBy as stagedByM, stagedSlots as stagedSlotsM, stagedBytes as stagedBytesM, missingBytes as missingBytesM, totalBytes, countOf, windowOf}

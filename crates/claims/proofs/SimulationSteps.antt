@@ -8,13 +8,13 @@ use Prim.Native.Nat.{ℕ, zero, suc, _%_}
 use native.Mathlib.Omega.{arith}
 use lib.ListN.{length, set}
 use Rattle.ring.proofs.Copied.{length-copied}
-use Rattle.record.specs.declared.Batch.{Batch as Ready}
-use Rattle.record.specs.Slots.{lowestFree}
-use Rattle.record.specs.Staged.{noStaged}
-use Rattle.record.specs.Rules.{valid}
-use Rattle.record.proofs.Rules.{length-good}
+use Rattle.engine_record.specs.declared.Batch.{Batch as Ready}
+use Rattle.engine_record.specs.Slots.{lowestFree}
+use Rattle.engine_record.specs.Staged.{noStaged}
+use Rattle.engine_record.specs.Rules.{valid}
+use Rattle.engine_record.proofs.Rules.{length-good}
 use Rattle.ring.specs.Segment.{segment}
-use Rattle.record.specs.Queue.{writeOffset}
+use Rattle.engine_record.specs.Queue.{writeOffset}
 use Rattle.queue.specs.Calls.{unlessRefused, withClient, withoutClient, newBatch, withBatch, submitted, withStaged, begun, beginResult, cancelResult}
 use Rattle.queue.proofs.Refusals.{open-allowed, SubmitAllowed, submit-allowed, CloseAllowed, close-allowed}
 use Rattle.queue.proofs.Validity.{open-sized, open-valid, open-waiting, close-sized, close-valid, close-waiting}

@@ -6,9 +6,9 @@ use mathlib.Core.List.{List, [], _∷_}
 use Prim.Native.Nat.{ℕ, _+_, _*_}
 use lib.ListN.{length}
 use lib.Dec.{ltb}
-use Rattle.record.specs.declared.Setup.{Setup}
-use Rattle.rules.specs.declared.fault.Fault.{Fault}
-use Rattle.rules.specs.Faults.{faultNumber, faultStatus}
+use Rattle.engine_record.specs.declared.Setup.{Setup}
+use Rattle.task_check.specs.declared.fault.Fault.{Fault}
+use Rattle.task_check.specs.Faults.{faultNumber, faultStatus}
 use Rattle.register.specs.declared.task.Task.{Task}
 use Rattle.batch.specs.declared.verdict.Verdict.the-variants.{Faulty}
 use Rattle.batch.specs.Batch.{decodeBatch, tasksDrawn}

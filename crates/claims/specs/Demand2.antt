@@ -6,8 +6,8 @@ use mathlib.Core.List.{List}
 use Prim.Native.Nat.{ℕ, _+_, _*_, _<_, _≤_}
 use lib.ListN.{length, take, drop}
 use Rattle.register.specs.declared.bank.Bank.{Bank}
-use Rattle.rules.specs.declared.fault.Fault.{Fault}
-use Rattle.rules.specs.declared.task.Bounds.{Bounds}
+use Rattle.task_check.specs.declared.fault.Fault.{Fault}
+use Rattle.task_check.specs.declared.task.Bounds.{Bounds}
 use Rattle.batch.specs.declared.verdict.Verdict.the-variants.{Faultless, Faulty}
 use Rattle.batch.specs.Batch.{faulty, betweenTasks, stopWith, decodeFrom, decodeBatch, verdictOf, tasksDrawn}
 use Rattle.batch.specs.Marks.{taskEndCount}

@@ -6,7 +6,7 @@ use mathlib.Core.List.{List, [], _∷_, List·Memᴰ}
 use Prim.Native.Nat.{ℕ, _/_}
 use lib.ListN.{length, take}
 use Rattle.raster.specs.Task.{drawTasks}
-use Rattle.record.specs.Queue.{waiting}
+use Rattle.engine_record.specs.Queue.{waiting}
 use Rattle.queue.specs.Refusals.{firstRefusal}
 use Rattle.engine.specs.Run.{oldest}
 use Rattle.model.specs.Windows.{Window}

@@ -4,7 +4,7 @@ use mathlib.Core.Path.{_≡_}
 use mathlib.Core.List.{List, [], _∷_}
 use Prim.Native.Nat.{ℕ, zero, suc}
 use lib.ListN.{length}
-use Rattle.record.specs.declared.EngineRecord.{EngineRecord}
+use Rattle.engine_record.specs.declared.EngineRecord.{EngineRecord}
 use Rattle.queue.specs.declared.Answer.{Answer as QueueAnswer}
 use Rattle.queue.specs.declared.Answer.the-variants.{Refused, Done, Opened, Accepted, Ready, Missing}
 use Rattle.queue.specs.declared.Reply.{Reply}

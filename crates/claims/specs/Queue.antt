@@ -9,14 +9,14 @@ use Prim.Native.Nat.{ℕ, _+_, _-_, _≤_, _<_}
 use lib.ListN.{length}
 use Rattle.word.specs.Word.{words}
 use Rattle.ring.specs.Segment.{segment, wrapOffset}
-use Rattle.record.specs.declared.Batch.{Batch}
-use Rattle.record.specs.declared.Client.{Client}
-use Rattle.record.specs.declared.EngineRecord.{EngineRecord}
-use Rattle.record.specs.Slots.{totalLength}
-use Rattle.record.specs.Staged.{noStaged}
-use Rattle.record.specs.Clients.{clientAt, isOpen, lowestClosed}
-use Rattle.record.specs.Queue.{freeBytes, writeOffset, waiting}
-use Rattle.record.specs.Rules.{valid}
+use Rattle.engine_record.specs.declared.Batch.{Batch}
+use Rattle.engine_record.specs.declared.Client.{Client}
+use Rattle.engine_record.specs.declared.EngineRecord.{EngineRecord}
+use Rattle.engine_record.specs.Slots.{totalLength}
+use Rattle.engine_record.specs.Staged.{noStaged}
+use Rattle.engine_record.specs.Clients.{clientAt, isOpen, lowestClosed}
+use Rattle.engine_record.specs.Queue.{freeBytes, writeOffset, waiting}
+use Rattle.engine_record.specs.Rules.{valid}
 use Rattle.queue.specs.Refusals.{firstRefusal}
 use Rattle.queue.specs.Calls.{newBatch, begun, more, isLast}
 use Rattle.engine.specs.Run.{oldest, oldestWords}

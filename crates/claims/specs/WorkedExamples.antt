@@ -24,7 +24,7 @@ use Rattle.transform.specs.declared.Point.{Point}
 use Rattle.transform.specs.Transform.{rotatedSize, sourcePixel}
 use Rattle.surface.specs.Surface.{span}
 use Rattle.register.specs.Bank.{resetBank}
-use Rattle.rules.specs.declared.task.Bounds.{Bounds}
+use Rattle.task_check.specs.declared.task.Bounds.{Bounds}
 use Rattle.batch.specs.Batch.{DecoderState, betweenTasks, inGroup, groupOf, decodeBatch, verdictOf, statusWordOf}
 
 -- a row: what is computed, and what the paper says

@@ -2,18 +2,18 @@
 ghost use mathlib.Core.Path.{_≡_};
 ghost use Prim.Native.Nat.{_<_};
 ghost use lib.ListN.{length, getD};
-ghost use Rattle.record.specs.Clients.{noClient, windowRange, lowestClosed};
+ghost use Rattle.engine_record.specs.Clients.{noClient, windowRange, lowestClosed};
 ghost use Rattle.queue.specs.Refusals.{firstRefusal, setUpTable, openTable, closeTable, pendingTable};
 ghost use Rattle.queue.specs.Calls.{initialRecord, setUpResult, withClient, openResult, withoutClient, pendingAnswer};
+use engine_record::Client;
+use engine_record::EngineRecord;
+use engine_record::Setup;
+use engine_record::Slot;
+use engine_record::SlotState;
+use engine_record::Window;
 use queue::Answer;
 use queue::Reply;
 use range::Range;
-use record::Client;
-use record::EngineRecord;
-use record::Setup;
-use record::Slot;
-use record::SlotState;
-use record::Window;
 use reset::ResetRule;
 
 // A place that is not open.
@@ -45,15 +45,15 @@ fn fresh_record(setup: Setup) -> EngineRecord
         slots: slots,
         read_offset: 0,
         next_ticket: 0,
-        staged: record::no_staged(),
+        staged: engine_record::no_staged(),
     }
 }
 
 fn set_up_refusal(setup: Setup) -> u32
     ensures { λ r. ⌜ r ≡ firstRefusal (setUpTable setup) ⌝ }
 {
-    let no2 = queue::first_refusal(record::bad_memory(setup), 2, 0);
-    queue::first_refusal(record::bad_ring(setup), 1, no2)
+    let no2 = queue::first_refusal(engine_record::bad_memory(setup), 2, 0);
+    queue::first_refusal(engine_record::bad_ring(setup), 1, no2)
 }
 
 // Set up with the lengths of ring, memory and common, and the reset rule.

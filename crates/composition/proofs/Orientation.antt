@@ -20,7 +20,7 @@ use Rattle.surface.specs.Rows.{overwriteRows, rowByte}
 use Rattle.surface.specs.Drawn.{loadPixel, drawRectangle, drawSurface}
 use Rattle.surface.proofs.Outside.{drawnOn-ext}
 use Rattle.register.specs.Size.{sizeOf}
-use Rattle.rows.specs.Row.{colourAt, sourcePixelOf}
+use Rattle.row_pixels.specs.Row.{colourAt, sourcePixelOf}
 use Rattle.composition.specs.Twice.{turned, Fits, EqualDrawing, Orientations}
 use Rattle.raster.proofs.RowByRow.{stride-some}
 

@@ -28,7 +28,7 @@ use Rattle.register.specs.declared.task.SourceMode.{SourceMode}
 use Rattle.register.specs.declared.task.SourceMode.the-variants.{Buffer, Colour, GradientX, GradientY}
 use Rattle.register.specs.Task.{isBuffer}
 use Rattle.register.specs.Size.{sizeOf}
-use Rattle.rows.specs.Row.{colourAt, sourcePixelOf}
+use Rattle.row_pixels.specs.Row.{colourAt, sourcePixelOf}
 use Rattle.raster.specs.Task.{sourceModeColour, sourceColour, drawTask}
 use Rattle.composition.specs.Twice.{turned, Fits, Tasks, twice, once, TwoTurns, TwoTasks}
 use Rattle.raster.proofs.RowByRow.{stride-some}

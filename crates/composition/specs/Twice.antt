@@ -20,7 +20,7 @@ use Rattle.surface.specs.Drawn.{drawSurface}
 use Rattle.register.specs.declared.task.Task.{Task}
 use Rattle.register.specs.Task.{isBuffer}
 use Rattle.register.specs.Size.{sizeOf}
-use Rattle.rows.specs.Row.{colourAt, sourcePixelOf}
+use Rattle.row_pixels.specs.Row.{colourAt, sourcePixelOf}
 use Rattle.raster.specs.Task.{drawTask}
 use Rattle.raster.specs.Preconditions.{ValidRectangle, EndsBelow, Drawable}
 

@@ -4,7 +4,7 @@ ghost use Prim.Native.Nat.{_*_, _≤_, _<_};
 ghost use lib.ListN.{length, getD};
 ghost use Rattle.ring.specs.Segment.{batchWords};
 ghost use Rattle.register.specs.Task.{taskOf};
-ghost use Rattle.rules.specs.Rules.{checkTask};
+ghost use Rattle.task_check.specs.Rules.{checkTask};
 ghost use Rattle.batch.specs.Batch.{reservedBits, decodeBatch, validationOf};
 ghost use Rattle.batch.specs.Walk.{stepAfterCheck, stepAt};
 use batch::Validation;
@@ -15,10 +15,10 @@ use register::WriteResult;
 use ring::Read;
 use ring::read_word;
 use ring::word_count;
-use rules::Bounds;
-use rules::Fault;
-use rules::TaskCheck;
-use rules::check_task;
+use task_check::Bounds;
+use task_check::Fault;
+use task_check::TaskCheck;
+use task_check::check_task;
 use word::bits;
 
 // Word k of a batch, 0 past its end.

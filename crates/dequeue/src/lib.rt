@@ -3,22 +3,22 @@ ghost use mathlib.Core.Path.{_≡_};
 ghost use mathlib.Core.Bool.{true};
 ghost use Prim.Native.Nat.{_≤_, _<_};
 ghost use lib.ListN.{length, getD, set};
-ghost use Rattle.record.specs.Slots.{free};
-ghost use Rattle.record.specs.Tickets.{slotOfTicket};
-ghost use Rattle.record.specs.Clients.{noClient};
-ghost use Rattle.record.specs.Queue.{readySlots};
-ghost use Rattle.record.specs.Rules.{valid};
-ghost use Rattle.record.specs.Checking.{checkedOf};
+ghost use Rattle.engine_record.specs.Slots.{free};
+ghost use Rattle.engine_record.specs.Tickets.{slotOfTicket};
+ghost use Rattle.engine_record.specs.Clients.{noClient};
+ghost use Rattle.engine_record.specs.Queue.{readySlots};
+ghost use Rattle.engine_record.specs.Rules.{valid};
+ghost use Rattle.engine_record.specs.Checking.{checkedOf};
 ghost use Rattle.queue.specs.Refusals.{firstRefusal};
 ghost use Rattle.engine.specs.Run.{runTable, oldestTicket, oldest, boundsOfClient, resetOf, pendingLowered, withoutOldest};
-use record::Batch;
-use record::Checked;
-use record::Client;
-use record::EngineRecord;
-use record::Slot;
-use record::SlotState;
+use engine_record::Batch;
+use engine_record::Checked;
+use engine_record::Client;
+use engine_record::EngineRecord;
+use engine_record::Slot;
+use engine_record::SlotState;
 use register::Bank;
-use rules::Bounds;
+use task_check::Bounds;
 
 // What run is refused with, 0 if it takes a batch; `found` is what the check of the record found, `ring` and `memory` are the lengths of what is lent.
 pub fn run_refusal(engine: EngineRecord, found: Checked, ring: usize, memory: usize) -> u32
@@ -108,6 +108,6 @@ pub fn without_oldest(engine: EngineRecord, at: usize, batch: Batch) -> EngineRe
     let mut after = engine;
     after.clients = fewer;
     after.slots = left;
-    after.read_offset = record::wrap_offset(setup.ring, engine.read_offset + batch.length);
+    after.read_offset = engine_record::wrap_offset(setup.ring, engine.read_offset + batch.length);
     after
 }

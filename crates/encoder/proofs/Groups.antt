@@ -14,8 +14,8 @@ use Rattle.register.specs.Bank.{surfaceAfterWrite, stepsAfterWrite, bankAfterWr
 use Rattle.register.specs.Task.{taskOf}
 use Rattle.register.specs.declared.bank.Bank.{Bank}
 use Rattle.register.specs.declared.bank.WriteResult.the-variants.{Written}
-use Rattle.rules.specs.declared.task.Bounds.{Bounds}
-use Rattle.rules.specs.Rules.{checkTask}
+use Rattle.task_check.specs.declared.task.Bounds.{Bounds}
+use Rattle.task_check.specs.Rules.{checkTask}
 use Rattle.batch.specs.Batch.{betweenTasks, inGroup, reservedBits, badGroupLength, afterTaskCheck, decodeFrom}
 use Rattle.encoder.specs.Words.{taskWords, shadedWords}
 

@@ -2,7 +2,7 @@
 use mathlib.Core.Path.{ap, _∙_}
 use Rattle.register.specs.Bank.{resetBank}
 use Rattle.register.specs.declared.bank.Bank.{Bank}
-use Rattle.rules.specs.declared.task.Bounds.{Bounds}
+use Rattle.task_check.specs.declared.task.Bounds.{Bounds}
 use Rattle.batch.specs.Marks.{taskEndCount}
 use Rattle.encoder.specs.Forms.{firstForm}
 use Rattle.encoder.specs.RoundTrip.{expectedDecoding}

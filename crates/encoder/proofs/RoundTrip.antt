@@ -12,8 +12,8 @@ use Rattle.word.proofs.Words.{Below32, words-back}
 use Rattle.gradient.specs.declared.Steps.{Steps}
 use Rattle.register.specs.Bank.{resetSteps}
 use Rattle.register.specs.declared.bank.Bank.{Bank}
-use Rattle.rules.specs.declared.task.Bounds.{Bounds}
-use Rattle.rules.specs.Rules.{checkTask}
+use Rattle.task_check.specs.declared.task.Bounds.{Bounds}
+use Rattle.task_check.specs.Rules.{checkTask}
 use Rattle.batch.specs.Batch.{DecodedBatch, finished, betweenTasks, afterTaskCheck, decodeFrom, decodeBatch}
 use Rattle.batch.specs.Marks.{taskEndCountFrom, taskEndCount}
 use Rattle.encoder.specs.declared.fields.Fields.{Fields}

@@ -8,8 +8,8 @@ use Rattle.word.specs.Word.{words}
 use Rattle.reset.specs.declared.ResetRule.{ResetRule}
 use Rattle.register.specs.Bank.{resetBank, resetSteps}
 use Rattle.register.specs.declared.bank.Bank.{Bank}
-use Rattle.rules.specs.declared.task.Bounds.{Bounds}
-use Rattle.rules.specs.Rules.{checkTask}
+use Rattle.task_check.specs.declared.task.Bounds.{Bounds}
+use Rattle.task_check.specs.Rules.{checkTask}
 use Rattle.batch.specs.Batch.{finished, stopWith, afterTaskCheck, decodeBatch}
 use Rattle.batch.specs.Marks.{taskEndCount}
 use Rattle.encoder.specs.declared.Answer.the-variants.{Written}

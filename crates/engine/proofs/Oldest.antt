@@ -9,23 +9,23 @@ use lib.Dec.{eqb}
 use borrow.Author.Tests.{eq-eqb}
 use Rattle.word.proofs.Tests.{and-true}
 use Rattle.ring.specs.Segment.{wrapOffset}
-use Rattle.rules.specs.declared.task.Bounds.{Bounds}
+use Rattle.task_check.specs.declared.task.Bounds.{Bounds}
 use Rattle.raster.specs.Preconditions.{BoundsInMemory}
-use Rattle.record.specs.declared.Batch.{Batch}
-use Rattle.record.specs.declared.Client.{Client}
-use Rattle.record.specs.declared.Slot.{Slot}
-use Rattle.record.specs.declared.EngineRecord.{EngineRecord}
-use Rattle.record.specs.Slots.{free, readyBatches, sumOver, countOf}
-use Rattle.record.specs.Tickets.{ticketBefore, slotOfTicket, batchOfTicket, ticketsConsecutive, inTicketOrder}
-use Rattle.record.specs.Clients.{isOpen, clientAt}
-use Rattle.record.specs.Queue.{readySlots, waiting}
-use Rattle.record.specs.Rules.{clientsOpen, valid}
-use Rattle.record.proofs.Slots.{ready-most}
-use Rattle.record.proofs.Order.{oldest as is-oldest}
-use Rattle.record.proofs.Rules.{LengthGood, Valid, valid-facts, sum-waiting}
-use Rattle.record.proofs.Taken.{first, waiting-first, first-good}
-use Rattle.record.proofs.Clients.{open-place}
-use Rattle.record.proofs.Windows.{window-placed}
+use Rattle.engine_record.specs.declared.Batch.{Batch}
+use Rattle.engine_record.specs.declared.Client.{Client}
+use Rattle.engine_record.specs.declared.Slot.{Slot}
+use Rattle.engine_record.specs.declared.EngineRecord.{EngineRecord}
+use Rattle.engine_record.specs.Slots.{free, readyBatches, sumOver, countOf}
+use Rattle.engine_record.specs.Tickets.{ticketBefore, slotOfTicket, batchOfTicket, ticketsConsecutive, inTicketOrder}
+use Rattle.engine_record.specs.Clients.{isOpen, clientAt}
+use Rattle.engine_record.specs.Queue.{readySlots, waiting}
+use Rattle.engine_record.specs.Rules.{clientsOpen, valid}
+use Rattle.engine_record.proofs.Slots.{ready-most}
+use Rattle.engine_record.proofs.Order.{oldest as is-oldest}
+use Rattle.engine_record.proofs.Rules.{LengthGood, Valid, valid-facts, sum-waiting}
+use Rattle.engine_record.proofs.Taken.{first, waiting-first, first-good}
+use Rattle.engine_record.proofs.Clients.{open-place}
+use Rattle.engine_record.proofs.Windows.{window-placed}
 use Rattle.queue.proofs.Room.{pending-right}
 use Rattle.engine.specs.Run.{oldestTicket, oldest, boundsOfClient, pendingLowered, withoutOldest}
 

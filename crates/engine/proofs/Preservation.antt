@@ -9,16 +9,16 @@ use lib.ListN.{length, getD, length-set}
 use Rattle.word.specs.Word.{words}
 use Rattle.ring.specs.Segment.{segment, LiesInRing}
 use Rattle.ring.proofs.Segment.{batch-words}
-use Rattle.record.specs.declared.Batch.{Batch}
-use Rattle.record.specs.declared.EngineRecord.{EngineRecord}
-use Rattle.record.specs.Slots.{free}
-use Rattle.record.specs.Tickets.{slotOfTicket}
-use Rattle.record.specs.Clients.{noClient, isOpen}
-use Rattle.record.specs.Queue.{readySlots, waiting}
-use Rattle.record.specs.Rules.{valid}
-use Rattle.record.proofs.Line.{held}
-use Rattle.record.proofs.Rules.{LengthGood, valid-facts}
-use Rattle.record.proofs.Taken.{first, taken, waiting-first, first-at, taken-valid, taken-waiting}
+use Rattle.engine_record.specs.declared.Batch.{Batch}
+use Rattle.engine_record.specs.declared.EngineRecord.{EngineRecord}
+use Rattle.engine_record.specs.Slots.{free}
+use Rattle.engine_record.specs.Tickets.{slotOfTicket}
+use Rattle.engine_record.specs.Clients.{noClient, isOpen}
+use Rattle.engine_record.specs.Queue.{readySlots, waiting}
+use Rattle.engine_record.specs.Rules.{valid}
+use Rattle.engine_record.proofs.Line.{held}
+use Rattle.engine_record.proofs.Rules.{LengthGood, valid-facts}
+use Rattle.engine_record.proofs.Taken.{first, taken, waiting-first, first-at, taken-valid, taken-waiting}
 use Rattle.queue.proofs.Validity.{Sized}
 use Rattle.queue.proofs.Preservation.{unless-keeps}
 use Rattle.engine.specs.declared.Outcome.{Outcome}

@@ -3,22 +3,22 @@ ghost use mathlib.Core.Path.{_≡_};
 ghost use mathlib.Core.Bool.{true};
 ghost use Prim.Native.Nat.{_≤_, _<_};
 ghost use lib.ListN.{getD, set};
-ghost use Rattle.record.specs.Slots.{readyWith};
-ghost use Rattle.record.specs.Tickets.{ticketAfter};
-ghost use Rattle.record.specs.Clients.{noClient, clientAt};
-ghost use Rattle.record.specs.Queue.{readySlots, readyBytes, takenSlots, freeBytes, writeOffset};
-ghost use Rattle.record.specs.Staged.{stagedSlots};
-ghost use Rattle.record.specs.Rules.{valid};
-ghost use Rattle.record.specs.Checking.{checkedOf};
+ghost use Rattle.engine_record.specs.Slots.{readyWith};
+ghost use Rattle.engine_record.specs.Tickets.{ticketAfter};
+ghost use Rattle.engine_record.specs.Clients.{noClient, clientAt};
+ghost use Rattle.engine_record.specs.Queue.{readySlots, readyBytes, takenSlots, freeBytes, writeOffset};
+ghost use Rattle.engine_record.specs.Staged.{stagedSlots};
+ghost use Rattle.engine_record.specs.Rules.{valid};
+ghost use Rattle.engine_record.specs.Checking.{checkedOf};
 ghost use Rattle.queue.specs.Refusals.{firstRefusal, submitTable};
 ghost use Rattle.queue.specs.Calls.{pendingRaised, withBatch};
-use record::Batch;
-use record::Checked;
-use record::Client;
-use record::EngineRecord;
-use record::Slot;
-use record::SlotState;
-use record::Staged;
+use engine_record::Batch;
+use engine_record::Checked;
+use engine_record::Client;
+use engine_record::EngineRecord;
+use engine_record::Slot;
+use engine_record::SlotState;
+use engine_record::Staged;
 
 // The ring bytes that are free; `ready` is how many the ready batches have.
 fn free_bytes(engine: EngineRecord, ready: usize) -> usize
@@ -55,7 +55,7 @@ pub fn write_offset(engine: EngineRecord, ready: usize) -> usize
     ensures { λ r. ⌜ r ≡ writeOffset engine ⌝ }
 {
     let setup = engine.setup;
-    record::wrap_offset(setup.ring, engine.read_offset + ready)
+    engine_record::wrap_offset(setup.ring, engine.read_offset + ready)
 }
 
 // What submit and begin are refused with, 0 if they are not; `found` is what the check of the record found.
@@ -78,7 +78,7 @@ pub fn submit_refusal(
     let taken = taken_slots(engine, found.ready);
     let no8 = queue::first_refusal(free_bytes(engine, found.bytes) < size, 8, 0);
     let no7 = queue::first_refusal(8 <= taken, 7, no8);
-    let no6 = queue::first_refusal(record::bad_length(ring, size), 6, no7);
+    let no6 = queue::first_refusal(engine_record::bad_length(ring, size), 6, no7);
     let no13 = queue::first_refusal(!(staged.total == 0), 13, no6);
     let no5 = queue::first_refusal(!windows::is_open(engine, client), 5, no13);
     queue::first_refusal(!(given == ring), 10, no5)
@@ -133,6 +133,6 @@ pub fn with_batch(engine: EngineRecord, at: usize, batch: Batch) -> EngineRecord
     after.clients = raised;
     after.slots = filled;
     after.next_ticket = next_ticket(engine.next_ticket);
-    after.staged = record::no_staged();
+    after.staged = engine_record::no_staged();
     after
 }

@@ -19,8 +19,8 @@ use register::Bank;
 use register::SurfaceRegisters;
 use reset::ResetRule;
 use ring::word_count;
-use rules::Bounds;
-use rules::Fault;
+use task_check::Bounds;
+use task_check::Fault;
 
 // A group after one more word: a header if none was to come.
 fn onward(group: Group, word: u32) -> Group

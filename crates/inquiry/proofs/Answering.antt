@@ -15,7 +15,7 @@ use Rattle.word.specs.Word.{words}
 use Rattle.word.proofs.Tests.{split}
 use Rattle.ring.specs.Segment.{batchWords}
 use Rattle.lines.specs.Lines.{fileReset}
-use Rattle.rules.specs.declared.task.Bounds.{Bounds}
+use Rattle.task_check.specs.declared.task.Bounds.{Bounds}
 use Rattle.batch.specs.Batch.{decodeBatch, tasksDrawn}
 use Rattle.claims.specs.BatchSemantics.{boundsOf}
 use Rattle.records.specs.declared.Stage.the-variants.{Version}

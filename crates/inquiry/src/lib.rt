@@ -20,7 +20,7 @@ use provenance::Why;
 use records::Edition;
 use records::Found;
 use records::Reader;
-use rules::Bounds;
+use task_check::Bounds;
 
 // What is asked: who drew the byte at this address, and why the batch with this ticket faulted.
 pub struct Question {

@@ -17,8 +17,8 @@ use Rattle.register.specs.declared.task.Source.{Source}
 use Rattle.register.specs.declared.task.SourceMode.{SourceMode}
 use Rattle.register.specs.declared.task.SourceMode.the-variants.{Buffer, Colour, GradientX, GradientY}
 use Rattle.register.specs.declared.task.Task.{Task}
-use Rattle.rules.specs.Rules.{sameFormat}
-use Rattle.rows.specs.Step.{isStraight}
+use Rattle.task_check.specs.Rules.{sameFormat}
+use Rattle.row_pixels.specs.Strided.{isStraight}
 use Rattle.kinds.specs.declared.Finish.{Finish}
 use Rattle.kinds.specs.declared.Finish.the-variants.{Copied, InPlace, Blended}
 use Rattle.kinds.specs.declared.Kind.{Kind}

@@ -16,8 +16,8 @@ use register::Bank;
 use register::SourceMode;
 use register::Task;
 use reset::ResetRule;
-use rules::Bounds;
 use surface::Surface;
+use task_check::Bounds;
 
 // Whether a row of the surface holds a byte.
 fn holds_byte(s: Surface, i: usize) -> bool

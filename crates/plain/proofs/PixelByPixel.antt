@@ -27,7 +27,7 @@ use Rattle.surface.proofs.Outside.{pixel-in-row}
 use Rattle.surface.proofs.Loaded.{loaded-same, more-stored}
 use Rattle.register.specs.declared.task.Task.{Task}
 use Rattle.register.specs.Size.{sizeOf}
-use Rattle.rows.specs.Row.{colourAt}
+use Rattle.row_pixels.specs.Row.{colourAt}
 use Rattle.raster.specs.Task.{pixelColour}
 use Rattle.raster.specs.Preconditions.{TaskInBounds, Drawable}
 use Rattle.raster.specs.Row.{rowDrawn, drawRow}

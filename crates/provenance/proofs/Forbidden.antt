@@ -14,12 +14,12 @@ use Rattle.register.specs.declared.bank.WriteResult.{WriteResult}
 use Rattle.register.specs.declared.bank.WriteResult.the-variants.{Written, Refused}
 use Rattle.register.specs.declared.bank.WriteFault.the-variants.{NotWritable as Unwritable, Forbidden as NotTaken}
 use Rattle.register.specs.declared.task.Task.{Task}
-use Rattle.rules.specs.declared.fault.Fault.{Fault}
-use Rattle.rules.specs.declared.fault.Fault.the-variants.{ReservedBits, GroupLength, OpenTask, NotWritable, Forbidden, BadSurface, SizeMismatch, OutOfBounds, Overlap}
-use Rattle.rules.specs.declared.task.Bounds.{Bounds}
-use Rattle.rules.specs.declared.task.TaskCheck.{TaskCheck}
-use Rattle.rules.specs.declared.task.TaskCheck.the-variants.{Valid, Invalid}
-use Rattle.rules.specs.Rules.{badSurface, sizeMismatch, outOfBounds, outputOverlaps, checkTask}
+use Rattle.task_check.specs.declared.fault.Fault.{Fault}
+use Rattle.task_check.specs.declared.fault.Fault.the-variants.{ReservedBits, GroupLength, OpenTask, NotWritable, Forbidden, BadSurface, SizeMismatch, OutOfBounds, Overlap}
+use Rattle.task_check.specs.declared.task.Bounds.{Bounds}
+use Rattle.task_check.specs.declared.task.TaskCheck.{TaskCheck}
+use Rattle.task_check.specs.declared.task.TaskCheck.the-variants.{Valid, Invalid}
+use Rattle.task_check.specs.Rules.{badSurface, sizeMismatch, outOfBounds, outputOverlaps, checkTask}
 use Rattle.batch.specs.Batch.{DecodedBatch, BatchEnd, finished, faulty, stopWith, consTask, DecoderState, betweenTasks, inGroup, reservedBits, badGroupLength, decodeHeader, afterWrite, afterTaskCheck, groupOf, decodeFrom, decodeBatch}
 use Rattle.batch.proofs.Readings.{onFrom, onWith}
 use Rattle.provenance.specs.declared.Group.{Group}

@@ -10,8 +10,8 @@ use lib.Dec.{eqb}
 use Rattle.records.specs.declared.Edition.the-variants.{First}
 use Rattle.word.specs.Word.{words}
 use Rattle.register.specs.declared.task.Task.{Task}
-use Rattle.rules.specs.declared.task.Bounds.{Bounds}
-use Rattle.rules.proofs.Sound.{AllSound}
+use Rattle.task_check.specs.declared.task.Bounds.{Bounds}
+use Rattle.task_check.proofs.Sound.{AllSound}
 use Rattle.batch.specs.Batch.{tasksDrawn}
 use Rattle.batch.proofs.Tasks.{drawn-sound}
 use Rattle.raster.specs.Task.{drawTasks}

@@ -6,13 +6,13 @@ use borrow.Author.Tests.{eq-eqb, ne-eqb}
 use Prim.Native.Nat.{ℕ, zero, suc, _+_, _-_}
 use lib.ListN.{length}
 use Rattle.ring.specs.Copied.{copiedIn}
-use Rattle.record.specs.declared.Setup.{Setup}
-use Rattle.record.specs.declared.Window.{Window}
-use Rattle.record.specs.declared.EngineRecord.{EngineRecord}
-use Rattle.record.specs.Slots.{readyBatches, countOf}
-use Rattle.record.specs.Clients.{lowestClosed}
-use Rattle.record.specs.Staged.{noStaged}
-use Rattle.record.specs.Queue.{writeOffset}
+use Rattle.engine_record.specs.declared.Setup.{Setup}
+use Rattle.engine_record.specs.declared.Window.{Window}
+use Rattle.engine_record.specs.declared.EngineRecord.{EngineRecord}
+use Rattle.engine_record.specs.Slots.{readyBatches, countOf}
+use Rattle.engine_record.specs.Clients.{lowestClosed}
+use Rattle.engine_record.specs.Staged.{noStaged}
+use Rattle.engine_record.specs.Queue.{writeOffset}
 use Rattle.queue.specs.declared.Answer.{Answer}
 use Rattle.queue.specs.declared.Answer.the-variants.{Refused, Done, Opened, Accepted, Ready, Missing}
 use Rattle.queue.specs.declared.Reply.{Reply}

@@ -6,15 +6,15 @@ use Prim.Native.Nat.{ℕ, zero, suc, _+_}
 use native.Mathlib.Omega.{arith}
 use borrow.Author.Tests.{eqb-false}
 use lib.ListN.{length}
-use Rattle.record.specs.declared.Setup.{Setup}
-use Rattle.record.specs.declared.Window.{Window}
-use Rattle.record.specs.declared.EngineRecord.{EngineRecord}
-use Rattle.record.specs.Slots.{lowestFree}
-use Rattle.record.specs.Clients.{lowestClosed}
-use Rattle.record.specs.Staged.{noStaged, missingBytes}
-use Rattle.record.specs.Rules.{stagedRule, valid}
-use Rattle.record.proofs.Rules.{length-good}
-use Rattle.record.proofs.Unfinished.{unfinished-kept, idle-kept}
+use Rattle.engine_record.specs.declared.Setup.{Setup}
+use Rattle.engine_record.specs.declared.Window.{Window}
+use Rattle.engine_record.specs.declared.EngineRecord.{EngineRecord}
+use Rattle.engine_record.specs.Slots.{lowestFree}
+use Rattle.engine_record.specs.Clients.{lowestClosed}
+use Rattle.engine_record.specs.Staged.{noStaged, missingBytes}
+use Rattle.engine_record.specs.Rules.{stagedRule, valid}
+use Rattle.engine_record.proofs.Rules.{length-good}
+use Rattle.engine_record.proofs.Unfinished.{unfinished-kept, idle-kept}
 use Rattle.queue.specs.declared.Answer.{Answer}
 use Rattle.queue.specs.declared.Answer.the-variants.{Refused, Done, Opened, Accepted, Missing}
 use Rattle.queue.specs.Answers.{refusalNumberOf, answerUnlessRefused}

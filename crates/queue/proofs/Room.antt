@@ -9,16 +9,16 @@ use lib.ListN.{length}
 use Rattle.ring.specs.Segment.{LiesInRing}
 use Rattle.ring.proofs.Wrapped.{wrapped-below}
 use Rattle.ring.proofs.Segment.{lies-wrapped}
-use Rattle.record.specs.declared.EngineRecord.{EngineRecord}
-use Rattle.record.specs.Slots.{readyBatches, countOf}
-use Rattle.record.specs.Clients.{isOpen, clientAt}
-use Rattle.record.specs.Staged.{noStaged, isIdle}
-use Rattle.record.specs.Queue.{readySlots, readyBytes, takenBytes, writeOffset}
-use Rattle.record.specs.Rules.{valid}
-use Rattle.record.proofs.Rules.{Valid, valid-facts, ready-within}
-use Rattle.record.proofs.Clients.{open-place}
-use Rattle.record.proofs.Opened.{counts-at, counts-small}
-use Rattle.record.proofs.Unfinished.{Unfinished, staged-cases}
+use Rattle.engine_record.specs.declared.EngineRecord.{EngineRecord}
+use Rattle.engine_record.specs.Slots.{readyBatches, countOf}
+use Rattle.engine_record.specs.Clients.{isOpen, clientAt}
+use Rattle.engine_record.specs.Staged.{noStaged, isIdle}
+use Rattle.engine_record.specs.Queue.{readySlots, readyBytes, takenBytes, writeOffset}
+use Rattle.engine_record.specs.Rules.{valid}
+use Rattle.engine_record.proofs.Rules.{Valid, valid-facts, ready-within}
+use Rattle.engine_record.proofs.Clients.{open-place}
+use Rattle.engine_record.proofs.Opened.{counts-at, counts-small}
+use Rattle.engine_record.proofs.Unfinished.{Unfinished, staged-cases}
 use Rattle.queue.specs.Calls.{pieceOffset}
 use Rattle.queue.proofs.Refusals.{SubmitAllowed, PieceAllowed}
 

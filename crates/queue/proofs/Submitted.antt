@@ -8,22 +8,22 @@ use lib.ListN.{length, getD, set, length-set}
 use lib.Dec.{eqb}
 use Rattle.ring.specs.Segment.{wrapOffset}
 use Rattle.ring.specs.Copied.{copiedIn}
-use Rattle.record.specs.declared.Batch.{Batch}
-use Rattle.record.specs.declared.Slot.{Slot}
-use Rattle.record.specs.declared.EngineRecord.{EngineRecord}
-use Rattle.record.specs.declared.SlotState.the-variants.{Free}
-use Rattle.record.specs.Setup.{badLength}
-use Rattle.record.specs.Slots.{free, readyWith, readyBatches, totalLength, countOf, lowestFree}
-use Rattle.record.specs.Tickets.{ticketAfter, slotOfTicket, inTicketOrder}
-use Rattle.record.specs.Clients.{isOpen, noClient, openWindows, pendingCountsMatch}
-use Rattle.record.specs.Queue.{readySlots, readyBytes, writeOffset, waiting}
-use Rattle.record.specs.Rules.{numberRules, windowsRule, ticketsRule, endToEndRule, lengthsRule, ownersRule, pendingRule, stagedRule, valid}
-use Rattle.record.proofs.Added.{lowest-below, lowest-free, sum-new, length-new, order-new, given-more, next-absent}
-use Rattle.record.proofs.Line.{sum-snoc, lengths-snoc, open-snoc, end-last, held, held-new}
-use Rattle.record.proofs.Clients.{open-place, place-open}
-use Rattle.record.proofs.Opened.{windows-set, opened-set, open-more, counts-raised}
-use Rattle.record.proofs.Unfinished.{idle-kept}
-use Rattle.record.proofs.Rules.{Valid, valid-facts, valid-made, numbers-kept, sum-waiting, ready-within}
+use Rattle.engine_record.specs.declared.Batch.{Batch}
+use Rattle.engine_record.specs.declared.Slot.{Slot}
+use Rattle.engine_record.specs.declared.EngineRecord.{EngineRecord}
+use Rattle.engine_record.specs.declared.SlotState.the-variants.{Free}
+use Rattle.engine_record.specs.Setup.{badLength}
+use Rattle.engine_record.specs.Slots.{free, readyWith, readyBatches, totalLength, countOf, lowestFree}
+use Rattle.engine_record.specs.Tickets.{ticketAfter, slotOfTicket, inTicketOrder}
+use Rattle.engine_record.specs.Clients.{isOpen, noClient, openWindows, pendingCountsMatch}
+use Rattle.engine_record.specs.Queue.{readySlots, readyBytes, writeOffset, waiting}
+use Rattle.engine_record.specs.Rules.{numberRules, windowsRule, ticketsRule, endToEndRule, lengthsRule, ownersRule, pendingRule, stagedRule, valid}
+use Rattle.engine_record.proofs.Added.{lowest-below, lowest-free, sum-new, length-new, order-new, given-more, next-absent}
+use Rattle.engine_record.proofs.Line.{sum-snoc, lengths-snoc, open-snoc, end-last, held, held-new}
+use Rattle.engine_record.proofs.Clients.{open-place, place-open}
+use Rattle.engine_record.proofs.Opened.{windows-set, opened-set, open-more, counts-raised}
+use Rattle.engine_record.proofs.Unfinished.{idle-kept}
+use Rattle.engine_record.proofs.Rules.{Valid, valid-facts, valid-made, numbers-kept, sum-waiting, ready-within}
 use Rattle.queue.specs.Calls.{newBatch, pendingRaised, withBatch}
 use Rattle.queue.proofs.Refusals.{SubmitAllowed, Own}
 use Rattle.queue.proofs.Validity.{Sized, few-taken}

@@ -7,22 +7,22 @@ use native.Mathlib.Omega.{arith}
 use lib.ListN.{length, length-set}
 use lib.Dec.{eqb, ltb}
 use borrow.Author.Tests.{lt-ltb, le-leb, eq-eqb, eqb-false}
-use Rattle.record.specs.declared.Setup.{Setup}
-use Rattle.record.specs.declared.Window.{Window}
-use Rattle.record.specs.declared.Client.{Client}
-use Rattle.record.specs.declared.EngineRecord.{EngineRecord}
-use Rattle.record.specs.declared.Staged.{Staged}
-use Rattle.record.specs.Slots.{readyBatches, sumOver, totalLength, countOf}
-use Rattle.record.specs.Tickets.{ticketsConsecutive, inTicketOrder}
-use Rattle.record.specs.Clients.{noClient, clientAt, isOpen, openWindows, windowsOf, lowestClosed, badWindow, windowsValid, pendingCountsMatch}
-use Rattle.record.specs.Staged.{stagedBy}
-use Rattle.record.specs.Queue.{readySlots, waiting}
-use Rattle.record.specs.Rules.{numberRules, windowsRule, ticketsRule, endToEnd, endToEndRule, lengthsAllowed, lengthsRule, clientsOpen, ownersRule, pendingRule, stagedRule, valid}
-use Rattle.record.proofs.Slots.{ready-most}
-use Rattle.record.proofs.Clients.{closed-is, open-place, place-open}
-use Rattle.record.proofs.Opened.{opened-more, opened-other, none-put, open-more, open-none, open-fewer, counts-put}
-use Rattle.record.proofs.Unfinished.{staged-stays}
-use Rattle.record.proofs.Rules.{ring-good, Valid, valid-facts, valid-made, numbers-kept, sum-waiting}
+use Rattle.engine_record.specs.declared.Setup.{Setup}
+use Rattle.engine_record.specs.declared.Window.{Window}
+use Rattle.engine_record.specs.declared.Client.{Client}
+use Rattle.engine_record.specs.declared.EngineRecord.{EngineRecord}
+use Rattle.engine_record.specs.declared.Staged.{Staged}
+use Rattle.engine_record.specs.Slots.{readyBatches, sumOver, totalLength, countOf}
+use Rattle.engine_record.specs.Tickets.{ticketsConsecutive, inTicketOrder}
+use Rattle.engine_record.specs.Clients.{noClient, clientAt, isOpen, openWindows, windowsOf, lowestClosed, badWindow, windowsValid, pendingCountsMatch}
+use Rattle.engine_record.specs.Staged.{stagedBy}
+use Rattle.engine_record.specs.Queue.{readySlots, waiting}
+use Rattle.engine_record.specs.Rules.{numberRules, windowsRule, ticketsRule, endToEnd, endToEndRule, lengthsAllowed, lengthsRule, clientsOpen, ownersRule, pendingRule, stagedRule, valid}
+use Rattle.engine_record.proofs.Slots.{ready-most}
+use Rattle.engine_record.proofs.Clients.{closed-is, open-place, place-open}
+use Rattle.engine_record.proofs.Opened.{opened-more, opened-other, none-put, open-more, open-none, open-fewer, counts-put}
+use Rattle.engine_record.proofs.Unfinished.{staged-stays}
+use Rattle.engine_record.proofs.Rules.{ring-good, Valid, valid-facts, valid-made, numbers-kept, sum-waiting}
 use Rattle.queue.specs.Calls.{initialRecord, withClient, withoutClient, withStaged}
 use Rattle.queue.proofs.Refusals.{SetUpAllowed, OpenAllowed, CloseAllowed}
 

@@ -9,17 +9,17 @@ use Rattle.ring.specs.Segment.{wrapOffset}
 use Rattle.reset.specs.declared.ResetRule.{ResetRule}
 use Rattle.reset.specs.declared.ResetRule.the-variants.{Unblended}
 use Rattle.ring.specs.Copied.{copiedIn}
-use Rattle.record.specs.declared.Setup.{Setup}
-use Rattle.record.specs.declared.Window.{Window}
-use Rattle.record.specs.declared.Client.{Client}
-use Rattle.record.specs.declared.Batch.{Batch}
-use Rattle.record.specs.declared.EngineRecord.{EngineRecord}
-use Rattle.record.specs.declared.Staged.{Staged}
-use Rattle.record.specs.Slots.{free, readyWith, readyBatches, countOf, lowestFree}
-use Rattle.record.specs.Tickets.{ticketAfter}
-use Rattle.record.specs.Clients.{noClient, lowestClosed}
-use Rattle.record.specs.Staged.{noStaged, missingBytes}
-use Rattle.record.specs.Queue.{writeOffset}
+use Rattle.engine_record.specs.declared.Setup.{Setup}
+use Rattle.engine_record.specs.declared.Window.{Window}
+use Rattle.engine_record.specs.declared.Client.{Client}
+use Rattle.engine_record.specs.declared.Batch.{Batch}
+use Rattle.engine_record.specs.declared.EngineRecord.{EngineRecord}
+use Rattle.engine_record.specs.declared.Staged.{Staged}
+use Rattle.engine_record.specs.Slots.{free, readyWith, readyBatches, countOf, lowestFree}
+use Rattle.engine_record.specs.Tickets.{ticketAfter}
+use Rattle.engine_record.specs.Clients.{noClient, lowestClosed}
+use Rattle.engine_record.specs.Staged.{noStaged, missingBytes}
+use Rattle.engine_record.specs.Queue.{writeOffset}
 use Rattle.queue.specs.declared.Answer.{Answer}
 use Rattle.queue.specs.declared.Answer.the-variants.{Done, Opened, Accepted, Ready, Missing}
 use Rattle.queue.specs.declared.Reply.{Reply}

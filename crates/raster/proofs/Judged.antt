@@ -1,4 +1,4 @@
--- A task that breaks no rule may be drawn: what crate rules calls sound is what the drawing asks.
+-- A task that breaks no rule may be drawn: what crate task_check calls sound is what the drawing asks.
 use mathlib.Core.Path.{sym}
 use mathlib.Core.Logic.{⊎-elim}
 use Prim.Native.Nat.{ℕ, _≤_}
@@ -6,9 +6,9 @@ use native.Mathlib.Omega.{arith}
 use Rattle.surface.specs.Surface.{span}
 use Rattle.surface.specs.declared.Surface.{Surface}
 use Rattle.register.specs.declared.task.Task.{Task}
-use Rattle.rules.specs.declared.task.Bounds.{Bounds}
-use Rattle.rules.specs.Rules.{commonOf}
-use Rattle.rules.proofs.Sound.{Rows, Within, InReach, Sound}
+use Rattle.task_check.specs.declared.task.Bounds.{Bounds}
+use Rattle.task_check.specs.Rules.{commonOf}
+use Rattle.task_check.proofs.Sound.{Rows, Within, InReach, Sound}
 use Rattle.raster.specs.Preconditions.{ValidRectangle, TaskInBounds, Drawable, EndsBelow}
 
 -- the rectangles that a batch with these bounds may read

@@ -18,10 +18,10 @@ use Rattle.register.specs.Task.{isBuffer}
 use Rattle.register.specs.declared.task.SourceMode.{SourceMode}
 use Rattle.register.specs.declared.task.SourceMode.the-variants.{Buffer, Colour, GradientX, GradientY}
 use Rattle.register.specs.declared.task.Task.{Task}
-use Rattle.rules.specs.Rules.{sameFormat}
-use Rattle.rules.proofs.Passes.{same-format}
-use Rattle.rows.specs.Step.{isStraight}
-use Rattle.rows.proofs.Straight.{straight}
+use Rattle.task_check.specs.Rules.{sameFormat}
+use Rattle.task_check.proofs.Passes.{same-format}
+use Rattle.row_pixels.specs.Strided.{isStraight}
+use Rattle.row_pixels.proofs.Straight.{straight}
 use Rattle.kinds.specs.Kinds.{isUniform, isColour, isPixelMode, isOne, isInverseSourceAlpha, isSrcOver, isMoved, sourceInWindow, isInPlace, isSolid, isBlendedWithin, kindOf, finishOf}
 use Rattle.kinds.specs.declared.Finish.{Finish}
 use Rattle.kinds.specs.declared.Finish.the-variants.{Copied, InPlace, Blended}

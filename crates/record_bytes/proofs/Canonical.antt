@@ -12,8 +12,8 @@ use Rattle.word.proofs.Tests.{and-true}
 use Rattle.word.proofs.Words.{length-words}
 use Rattle.reset.specs.Reset.{isRuleNumber}
 use Rattle.reset.proofs.Numbers.{number-back}
-use Rattle.record.specs.declared.EngineRecord.{EngineRecord}
-use Rattle.record.specs.declared.Slot.{Slot}
+use Rattle.engine_record.specs.declared.EngineRecord.{EngineRecord}
+use Rattle.engine_record.specs.declared.Slot.{Slot}
 use Rattle.record_bytes.specs.declared.Row.{Row}
 use Rattle.record_bytes.specs.Layout.{wordAt, low}
 use Rattle.record_bytes.specs.Written.{headWords, clientsWords, stagedWords, rowOf, rowWords, rowAt, flagOf, wordsOf, bytesOf}

@@ -10,20 +10,20 @@ use borrow.Author.Tests.{ltb-true, lt-ltb, eqb-true, not-true}
 use Rattle.word.proofs.Tests.{and-true}
 use Rattle.ring.specs.Segment.{wrapOffset}
 use Rattle.ring.proofs.Wrapped.{wrapped-below}
-use Rattle.record.specs.declared.Batch.{Batch}
-use Rattle.record.specs.declared.Slot.{Slot}
-use Rattle.record.specs.declared.SlotState.{SlotState}
-use Rattle.record.specs.declared.SlotState.the-variants.{Free, Ready}
-use Rattle.record.specs.declared.EngineRecord.{EngineRecord}
-use Rattle.record.specs.Setup.{badLength}
-use Rattle.record.specs.Slots.{consIfReady, readyBatches, sumOver}
-use Rattle.record.specs.Queue.{readySlots, waiting}
-use Rattle.record.specs.Staged.{noStaged, isIdle}
-use Rattle.record.specs.Rules.{endToEnd, lengthsAllowed, stagedRule, valid}
-use Rattle.record.proofs.Slots.{ready-most}
-use Rattle.record.proofs.Unfinished.{Unfinished, staged-cases}
+use Rattle.engine_record.specs.declared.Batch.{Batch}
+use Rattle.engine_record.specs.declared.Slot.{Slot}
+use Rattle.engine_record.specs.declared.SlotState.{SlotState}
+use Rattle.engine_record.specs.declared.SlotState.the-variants.{Free, Ready}
+use Rattle.engine_record.specs.declared.EngineRecord.{EngineRecord}
+use Rattle.engine_record.specs.Setup.{badLength}
+use Rattle.engine_record.specs.Slots.{consIfReady, readyBatches, sumOver}
+use Rattle.engine_record.specs.Queue.{readySlots, waiting}
+use Rattle.engine_record.specs.Staged.{noStaged, isIdle}
+use Rattle.engine_record.specs.Rules.{endToEnd, lengthsAllowed, stagedRule, valid}
+use Rattle.engine_record.proofs.Slots.{ready-most}
+use Rattle.engine_record.proofs.Unfinished.{Unfinished, staged-cases}
 use mathlib.Core.Logic.{⊎-elim}
-use Rattle.record.proofs.Rules.{length-good, valid-facts, sum-waiting}
+use Rattle.engine_record.proofs.Rules.{length-good, valid-facts, sum-waiting}
 use Rattle.record_bytes.specs.RoundTrip.{AllSlots, StateSmall, Typed, Small, RoundTrip}
 use Rattle.record_bytes.proofs.RoundTrip.{back}
 

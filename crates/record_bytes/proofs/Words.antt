@@ -10,15 +10,15 @@ use Rattle.word.proofs.Words.{Below32, words-back-all}
 use Rattle.reset.specs.declared.ResetRule.{ResetRule}
 use Rattle.reset.specs.declared.ResetRule.the-variants.{Unblended, SrcOver}
 use Rattle.reset.specs.Reset.{numberOf}
-use Rattle.record.specs.declared.Client.{Client}
-use Rattle.record.specs.declared.Slot.{Slot}
-use Rattle.record.specs.declared.SlotState.{SlotState}
-use Rattle.record.specs.declared.SlotState.the-variants.{Free, Ready}
-use Rattle.record.specs.declared.Setup.{Setup}
-use Rattle.record.specs.declared.Staged.{Staged}
-use Rattle.record.specs.declared.EngineRecord.{EngineRecord}
-use Rattle.record.specs.Slots.{free}
-use Rattle.record.specs.Clients.{noClient}
+use Rattle.engine_record.specs.declared.Client.{Client}
+use Rattle.engine_record.specs.declared.Slot.{Slot}
+use Rattle.engine_record.specs.declared.SlotState.{SlotState}
+use Rattle.engine_record.specs.declared.SlotState.the-variants.{Free, Ready}
+use Rattle.engine_record.specs.declared.Setup.{Setup}
+use Rattle.engine_record.specs.declared.Staged.{Staged}
+use Rattle.engine_record.specs.declared.EngineRecord.{EngineRecord}
+use Rattle.engine_record.specs.Slots.{free}
+use Rattle.engine_record.specs.Clients.{noClient}
 use Rattle.record_bytes.specs.declared.Row.{Row}
 use Rattle.record_bytes.specs.Layout.{low}
 use Rattle.record_bytes.specs.Written.{flagOf, rowOf, stagedWords, wordsOf, bytesOf}

@@ -6,12 +6,12 @@ use mathlib.Core.List.{List, [], _∷_}
 use Prim.Native.Nat.{ℕ, _<_, _^_}
 use lib.ListN.{length}
 use Rattle.word.specs.Word.{AllBytes}
-use Rattle.record.specs.declared.Client.{Client}
-use Rattle.record.specs.declared.Slot.{Slot}
-use Rattle.record.specs.declared.SlotState.{SlotState}
-use Rattle.record.specs.declared.SlotState.the-variants.{Free, Ready}
-use Rattle.record.specs.declared.EngineRecord.{EngineRecord}
-use Rattle.record.specs.Rules.{valid}
+use Rattle.engine_record.specs.declared.Client.{Client}
+use Rattle.engine_record.specs.declared.Slot.{Slot}
+use Rattle.engine_record.specs.declared.SlotState.{SlotState}
+use Rattle.engine_record.specs.declared.SlotState.the-variants.{Free, Ready}
+use Rattle.engine_record.specs.declared.EngineRecord.{EngineRecord}
+use Rattle.engine_record.specs.Rules.{valid}
 use Rattle.record_bytes.specs.Written.{bytesOf}
 use Rattle.record_bytes.specs.Read.{isRecord, recordOf}
 

@@ -5,14 +5,14 @@ ghost use lib.ListN.{length};
 ghost use Rattle.word.specs.Word.{words};
 ghost use Rattle.record_bytes.specs.Layout.{wordAt};
 ghost use Rattle.record_bytes.specs.Read.{slotRight, slotsRight, fixedRight, isRecord, setupIn, clientIn, batchIn, slotIn, clientsIn, slotsIn, stagedIn, recordIn, noRecord, recordOf};
-use record::Batch;
-use record::Client;
-use record::EngineRecord;
-use record::Setup;
-use record::Slot;
-use record::SlotState;
-use record::Staged;
-use record::Window;
+use engine_record::Batch;
+use engine_record::Client;
+use engine_record::EngineRecord;
+use engine_record::Setup;
+use engine_record::Slot;
+use engine_record::SlotState;
+use engine_record::Staged;
+use engine_record::Window;
 use reset::ResetRule;
 
 fn word_at(bytes: &[u8], k: usize) -> u32
@@ -201,7 +201,7 @@ fn no_record() -> EngineRecord
         slots: slots,
         read_offset: 0,
         next_ticket: 0,
-        staged: record::no_staged(),
+        staged: engine_record::no_staged(),
     }
 }
 

@@ -12,7 +12,7 @@ use Rattle.records.specs.declared.Found.the-variants.{Nothing, Record as OneRec
 use Rattle.records.specs.declared.Taken.{Taken}
 use Rattle.records.specs.Records.{badVersion, badRecord, cutRecord}
 use Rattle.records.specs.Reading.{entryIn, Ready, Takes, endingAt, takenBy, heldAfter}
-use Rattle.record.specs.declared.EngineRecord.{EngineRecord}
+use Rattle.engine_record.specs.declared.EngineRecord.{EngineRecord}
 use Rattle.claims.specs.Engine.{State, mkState}
 use Rattle.lines.specs.Lines.{endingLine, recordLine, recordAfter}
 use Rattle.replay.specs.declared.Replay.{Replay}

@@ -8,7 +8,7 @@ ghost use Rattle.records.specs.Reading.{Lies};
 ghost use Rattle.replay.specs.Calls.{atStart, foundText, foundState, FeedContract, finishedText};
 ghost use Rattle.record_lines.specs.Prints.{Prints};
 ghost use Rattle.serving.specs.Serves.{Serves};
-use record::EngineRecord;
+use engine_record::EngineRecord;
 use records::Edition;
 use records::Found;
 use records::Reader;

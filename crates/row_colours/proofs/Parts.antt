@@ -24,8 +24,8 @@ use Rattle.surface.proofs.Rows.{next}
 use Rattle.surface.proofs.Loaded.{loaded-bytes, loaded-shift}
 use Rattle.register.specs.declared.task.Alpha.{Alpha}
 use Rattle.register.specs.declared.task.Blending.{Blending}
-use Rattle.rows.specs.Row.{colourIn, HoldsColours, rowStored}
-use Rattle.rows.specs.Mixed.{composite}
+use Rattle.row_pixels.specs.Row.{colourIn, HoldsColours, rowStored}
+use Rattle.row_pixels.specs.Composite.{composite}
 use Rattle.pixel.proofs.Kept.{word-colour}
 use Rattle.lanes.specs.Lanes.{Done}
 use Rattle.row_colours.proofs.Colours.{Row, colour-is, row-is}

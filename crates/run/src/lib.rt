@@ -4,7 +4,7 @@ ghost use Rattle.engine.specs.Run.{runResult, runMemory, RunBy};
 use engine::Completion;
 use engine::Outcome;
 use engine::RunResult;
-use record::EngineRecord;
+use engine_record::EngineRecord;
 
 // Takes the oldest batch: it is judged and drawn, the tasks before a fault too, and its slot and ring bytes are free again. The slow engine (02, request
 // 13), which is there to check the fast one by, draws each pixel by itself; what it promises is the same.
@@ -21,7 +21,7 @@ pub fn run_by(engine: EngineRecord, ring: &[u8], memory: &mut [u8], slow: bool) 
     }
     let slots = engine.slots;
     let at = dequeue::oldest_slot(engine, found.ready);
-    let batch = record::batch_of(slots[at]);
+    let batch = engine_record::batch_of(slots[at]);
     let bounds = dequeue::bounds_for(engine, batch.client);
     let verdict = walk::run_batch(
         memory,

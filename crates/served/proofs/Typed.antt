@@ -5,20 +5,20 @@ use mathlib.Core.List.{List, [], _∷_}
 use Prim.Native.Nat.{ℕ, zero, suc, _+_, _-_, _%_, _≤_, _<_, _^_}
 use native.Mathlib.Omega.{arith}
 use lib.ListN.{length, getD, set}
-use Rattle.record.specs.declared.Setup.{Setup}
-use Rattle.record.specs.declared.Window.{Window}
-use Rattle.record.specs.declared.Client.{Client}
-use Rattle.record.specs.declared.Batch.{Batch}
-use Rattle.record.specs.declared.Slot.{Slot}
-use Rattle.record.specs.declared.SlotState.{SlotState}
-use Rattle.record.specs.declared.SlotState.the-variants.{Free, Ready}
-use Rattle.record.specs.declared.Staged.{Staged}
-use Rattle.record.specs.declared.EngineRecord.{EngineRecord}
-use Rattle.record.specs.Slots.{free, lowestFree}
-use Rattle.record.specs.Clients.{isOpen, noClient, lowestClosed}
-use Rattle.record.specs.Staged.{noStaged}
-use Rattle.record.specs.Queue.{readySlots}
-use Rattle.record.specs.Rules.{valid}
+use Rattle.engine_record.specs.declared.Setup.{Setup}
+use Rattle.engine_record.specs.declared.Window.{Window}
+use Rattle.engine_record.specs.declared.Client.{Client}
+use Rattle.engine_record.specs.declared.Batch.{Batch}
+use Rattle.engine_record.specs.declared.Slot.{Slot}
+use Rattle.engine_record.specs.declared.SlotState.{SlotState}
+use Rattle.engine_record.specs.declared.SlotState.the-variants.{Free, Ready}
+use Rattle.engine_record.specs.declared.Staged.{Staged}
+use Rattle.engine_record.specs.declared.EngineRecord.{EngineRecord}
+use Rattle.engine_record.specs.Slots.{free, lowestFree}
+use Rattle.engine_record.specs.Clients.{isOpen, noClient, lowestClosed}
+use Rattle.engine_record.specs.Staged.{noStaged}
+use Rattle.engine_record.specs.Queue.{readySlots}
+use Rattle.engine_record.specs.Rules.{valid}
 use Rattle.queue.specs.Refusals.{firstRefusal, openTable, submitTable, cancelTable, closeTable}
 use Rattle.queue.specs.Calls.{initialRecord, withClient, openResult, newBatch, withBatch, submitted, submitNumber, submitResult, withStaged, begun, beginResult, more, isLast, pieceNumber, afterPiece, pieceResult, cancelResult, withoutClient, closeResult}
 use Rattle.queue.proofs.Refusals.{submit-allowed, piece-allowed}

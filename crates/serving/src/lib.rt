@@ -8,8 +8,8 @@ ghost use Rattle.records.specs.declared.Found.the-variants.{Record as OneRecord
 ghost use Rattle.records.specs.Reading.{entryIn, Lies};
 ghost use Rattle.lines.specs.Lines.{entryLine, submitAndRun, recordLine, recordAfter};
 ghost use Rattle.serving.specs.Serves.{Serves};
+use engine_record::EngineRecord;
 use queue::Answer;
-use record::EngineRecord;
 use records::Edition;
 use text::line;
 

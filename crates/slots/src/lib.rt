@@ -3,12 +3,12 @@ ghost use mathlib.Core.Path.{_≡_};
 ghost use mathlib.Core.List.{[]};
 ghost use Prim.Native.Nat.{_+_, _%_, _≤_, _<_};
 ghost use lib.ListN.{length};
-ghost use Rattle.record.specs.Slots.{consIfReady, readyBatches, sumOver, amountOf, totalLength, countOf, isFreeState, lowestFree};
-ghost use Rattle.record.specs.Tickets.{ticketBefore, hasTicket, slotOfTicket};
-use record::Amount;
-use record::Batch;
-use record::Slot;
-use record::SlotState;
+ghost use Rattle.engine_record.specs.Slots.{consIfReady, readyBatches, sumOver, amountOf, totalLength, countOf, isFreeState, lowestFree};
+ghost use Rattle.engine_record.specs.Tickets.{ticketBefore, hasTicket, slotOfTicket};
+use engine_record::Amount;
+use engine_record::Batch;
+use engine_record::Slot;
+use engine_record::SlotState;
 
 pub fn is_free(slot: Slot) -> bool
     ensures { λ r. ⌜ r ≡ isFreeState (slot .state) ⌝ }

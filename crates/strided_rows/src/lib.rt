@@ -4,13 +4,13 @@ ghost use Prim.Native.Nat.{_+_, _≤_};
 ghost use lib.ListN.{length};
 ghost use Rattle.pixel.specs.Formats.{bytesPerPixel};
 ghost use Rattle.surface.specs.Drawn.{loadPixel};
-ghost use Rattle.rows.specs.Row.{wordColour, HoldsColours};
-ghost use Rattle.rows.specs.Step.{stridedAddress, StridedFetchInBounds};
+ghost use Rattle.row_pixels.specs.Row.{wordColour, HoldsColours};
+ghost use Rattle.row_pixels.specs.Strided.{stridedAddress, StridedFetchInBounds};
 use argb_words::load_word;
 use argb_words::store_word;
 use argb_words::word_of;
 use pixel::Format;
-use rows::strided_address;
+use row_pixels::strided_address;
 use surface::load;
 
 // The word of the pixel at an address.

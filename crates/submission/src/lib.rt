@@ -2,18 +2,18 @@
 ghost use mathlib.Core.Path.{_≡_};
 ghost use Prim.Native.Nat.{_≤_, _<_};
 ghost use lib.ListN.{length};
-ghost use Rattle.record.specs.Clients.{clientAt};
-ghost use Rattle.record.specs.Queue.{writeOffset};
-ghost use Rattle.record.specs.Staged.{missingBytes};
-ghost use Rattle.record.specs.Checking.{checkedOf};
+ghost use Rattle.engine_record.specs.Clients.{clientAt};
+ghost use Rattle.engine_record.specs.Queue.{writeOffset};
+ghost use Rattle.engine_record.specs.Staged.{missingBytes};
+ghost use Rattle.engine_record.specs.Checking.{checkedOf};
 ghost use Rattle.queue.specs.Refusals.{firstRefusal, pieceTable, cancelTable};
 ghost use Rattle.queue.specs.Calls.{newBatch, withBatch, submitResult, submitRing, withStaged, withReceived, beginResult, pieceResult, pieceRing, cancelResult};
+use engine_record::Batch;
+use engine_record::Checked;
+use engine_record::EngineRecord;
+use engine_record::Staged;
 use queue::Answer;
 use queue::Reply;
-use record::Batch;
-use record::Checked;
-use record::EngineRecord;
-use record::Staged;
 
 // Puts a batch into the ring and the queue. What it says is not looked at.
 pub fn submit(engine: EngineRecord, ring: &mut [u8], client: u32, batch: &[u8]) -> Reply
@@ -156,7 +156,7 @@ pub fn piece(engine: EngineRecord, ring: &mut [u8], client: u32, piece: &[u8]) -
     let setup = engine.setup;
     let staged = engine.staged;
     let offset = enqueue::write_offset(engine, found.bytes);
-    let at = record::wrap_offset(setup.ring, offset + staged.received);
+    let at = engine_record::wrap_offset(setup.ring, offset + staged.received);
     ring::copy_in(ring, at, piece);
     let received = staged.received + size;
     let total = staged.total;
@@ -196,6 +196,6 @@ pub fn cancel(engine: EngineRecord, client: u32) -> Reply
     }
     Reply {
         answer: Answer::Done,
-        engine: with_staged(engine, record::no_staged()),
+        engine: with_staged(engine, engine_record::no_staged()),
     }
 }

@@ -23,7 +23,7 @@ use Rattle.totals.specs.declared.Answer.{Answer}
 use Rattle.totals.specs.Totals.{largest, Position, Added, AddsTotals}
 use Rattle.totals.specs.Files.{Files, nil, cons}
 use Rattle.totals.proofs.Adding.{Names, adds-named}
-use Rattle.rules.specs.declared.fault.Fault.the-variants.{ReservedBits, GroupLength, OpenTask, NotWritable, Forbidden, BadSurface, SizeMismatch, OutOfBounds, Overlap}
+use Rattle.task_check.specs.declared.fault.Fault.the-variants.{ReservedBits, GroupLength, OpenTask, NotWritable, Forbidden, BadSurface, SizeMismatch, OutOfBounds, Overlap}
 use Rattle.tally.specs.Counts.{Count, batches, tasks, outputPixels, blendedPixels, faulted, withoutScore, countOver, batchOf, fileCount, position}
 use Rattle.tally.proofs.Sums.{few}
 use Rattle.tally.specs.Tally.{totalOf, Adds}

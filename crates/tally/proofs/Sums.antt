@@ -11,8 +11,8 @@ use lib.Dec.{eqb, leb, eqb-refl}
 use borrow.Author.Tests.{le-leb, lt-leb, eqb-true, eqb-false, eq-eqb, ne-eqb}
 use Rattle.word.proofs.Tests.{split}
 use Rattle.register.specs.declared.task.Task.{Task}
-use Rattle.rules.specs.declared.fault.Fault.{Fault}
-use Rattle.rules.specs.Faults.{faultNumber}
+use Rattle.task_check.specs.declared.fault.Fault.{Fault}
+use Rattle.task_check.specs.Faults.{faultNumber}
 use Rattle.batch.specs.Batch.{BatchEnd, finished, faulty, DecodedBatch, tasksDrawn}
 use Rattle.records.specs.declared.Edition.{Edition}
 use Rattle.records.specs.declared.Edition.the-variants.{First, Second}

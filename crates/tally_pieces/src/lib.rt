@@ -6,7 +6,7 @@ ghost use Prim.Native.Nat.{ℕ, _-_, _*_, _≤_, _<_};
 ghost use lib.ListN.{length};
 ghost use Rattle.ring.specs.Segment.{batchWords};
 ghost use Rattle.register.specs.Bank.{resetBank};
-ghost use Rattle.rules.specs.Faults.{faultNumber};
+ghost use Rattle.task_check.specs.Faults.{faultNumber};
 ghost use Rattle.batch.specs.Batch.{decodeBatch};
 ghost use Rattle.records.specs.declared.Found.the-variants.{Record as OneRecord};
 ghost use Rattle.records.specs.Reading.{entryIn, Lies};
@@ -22,11 +22,11 @@ use records::Found;
 use register::Bank;
 use register::Task;
 use reset::ResetRule;
-use rules::Bounds;
-use rules::Fault;
 use tally::FeedResult;
 use tally::Running;
 use tally::Tally;
+use task_check::Bounds;
+use task_check::Fault;
 
 // ---- counting
 

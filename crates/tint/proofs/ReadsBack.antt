@@ -18,7 +18,7 @@ use Rattle.pixel.proofs.Kept.{word-colour}
 use Rattle.division.proofs.Products.{scaled-byte}
 use Rattle.gradient.specs.declared.Steps.{Steps}
 use Rattle.register.specs.declared.bank.Bank.{Bank}
-use Rattle.rules.specs.declared.task.Bounds.{Bounds}
+use Rattle.task_check.specs.declared.task.Bounds.{Bounds}
 use Rattle.batch.specs.Batch.{decodeBatch}
 use Rattle.batch.specs.Marks.{taskEndCount}
 use Rattle.encoder.specs.declared.Answer.{Answer}

@@ -19,7 +19,7 @@ use Rattle.register.specs.declared.task.Alpha.{Alpha}
 use Rattle.register.specs.declared.task.Source.{Source}
 use Rattle.register.specs.declared.task.SourceMode.the-variants.{Colour}
 use Rattle.register.specs.declared.task.Task.{Task}
-use Rattle.rules.specs.declared.task.Bounds.{Bounds}
+use Rattle.task_check.specs.declared.task.Bounds.{Bounds}
 use Rattle.batch.specs.Batch.{decodeBatch}
 use Rattle.batch.specs.Marks.{taskEndCount}
 use Rattle.encoder.specs.declared.Answer.the-variants.{Written}

@@ -33,8 +33,8 @@ use Rattle.register.specs.declared.task.Task.{Task}
 use Rattle.register.specs.Size.{sizeOf}
 use Rattle.kinds.specs.Kinds.{sourceInWindow}
 use Rattle.raster.proofs.Parts.{MovedTask}
-use Rattle.rows.specs.Row.{colourAt, sourcePixelOf}
-use Rattle.rows.proofs.Straight.{upright-x, upright-y, side-by-side}
+use Rattle.row_pixels.specs.Row.{colourAt, sourcePixelOf}
+use Rattle.row_pixels.proofs.Straight.{upright-x, upright-y, side-by-side}
 use Rattle.raster.specs.Task.{sourceModeColour, sourceColour, pixelColour}
 use Rattle.raster.specs.Row.{RowDrawable, rowDrawn}
 use Rattle.raster.proofs.Pixel.{pixel-plain}

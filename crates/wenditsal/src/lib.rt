@@ -6,7 +6,7 @@ ghost use Rattle.reset.specs.Reset.{ruleOf};
 ghost use Rattle.orientation.specs.Compose.{compose, inverse};
 ghost use Rattle.orientation.specs.Bits.{settingOf, bitsOf};
 ghost use Rattle.encoder.specs.Encoder.{encodeRefusalOf, answerOf, bufferAfter};
-ghost use Rattle.session.specs.Played.{ScriptResult};
+ghost use Rattle.script_player.specs.Played.{ScriptResult};
 ghost use Rattle.calls.specs.Calls.{SetsUp, Opens, Submits, Begins, HandsOver, Cancels, Closes, Pends, Runs};
 ghost use Rattle.tint.specs.Tint.{numberOf as tintNumber, answerOf as tintAnswer, bufferAfter as tintBuffer};
 use encoder::Fields;
@@ -32,7 +32,7 @@ pub extern "C" fn wenditsal_play(
         (now (ring .entry)) (now (memory .entry)) (now (script .entry)) (now (answers .entry))
         r (now (ring .exit)) (now (memory .exit)) (now (answers .exit)) ⌝ }
 {
-    session::play(
+    script_player::play(
         ring_length,
         memory_length,
         common_length,

@@ -3,12 +3,12 @@ ghost use mathlib.Core.Path.{_≡_};
 ghost use Prim.Native.Nat.{_≤_, _<_};
 ghost use lib.ListN.{length, drop};
 ghost use lib.Dec.{leb};
-ghost use Rattle.record.specs.Clients.{isOpen, windowsOf, lowestClosed, overlapsAny, badWindow, misplaced, windowsValid};
+ghost use Rattle.engine_record.specs.Clients.{isOpen, windowsOf, lowestClosed, overlapsAny, badWindow, misplaced, windowsValid};
+use engine_record::Client;
+use engine_record::EngineRecord;
+use engine_record::Setup;
+use engine_record::Window;
 use range::Range;
-use record::Client;
-use record::EngineRecord;
-use record::Setup;
-use record::Window;
 
 // Whether some of the bytes are in the window of an open client, from the place `from` on.
 fn overlaps_any(clients: [Client; 4], from: usize, bytes: Range) -> bool

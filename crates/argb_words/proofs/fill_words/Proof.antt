@@ -5,7 +5,7 @@ use lib.ListN.{length}
 use denote.Ref.{now}
 use borrow.Author.Needs.{needs}
 use Rattle.pixel.specs.declared.format.Format.the-variants.{Argb8888}
-use Rattle.rows.specs.Row.{wordColour}
+use Rattle.row_pixels.specs.Row.{wordColour}
 use Rattle.argb_words.proofs.RowPrefix.{prefix, none-begun, prefix-step, prefix-all}
 use Rattle.argb_words.proofs.fill_words.Statement.{statement}
 use Rattle.argb_words.proofs.fill_words.Tie as tie

@@ -1,6 +1,6 @@
 use mathlib.Core.Path.{ap, _∙_}
 use denote.Ref.{now}
-use Rattle.rows.specs.Row.{wordColour}
+use Rattle.row_pixels.specs.Row.{wordColour}
 use Rattle.argb_words.proofs.Moved.{word-loaded}
 use borrow.Author.Needs.{needs}
 use Rattle.argb_words.proofs.load_word.Statement.{statement}

@@ -1,6 +1,6 @@
 use mathlib.Core.Path.{ap, _∙_}
 use native.Mathlib.Omega.{arith}
-use Rattle.rows.specs.Row.{wordColour}
+use Rattle.row_pixels.specs.Row.{wordColour}
 use Rattle.pixel.proofs.Kept.{word-colour}
 use borrow.Author.Needs.{needs}
 use Rattle.argb_words.proofs.word_of.Statement.{statement}

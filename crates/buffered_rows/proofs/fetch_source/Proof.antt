@@ -2,7 +2,7 @@ use mathlib.Core.Path.{sym, ap, _∙_}
 use denote.Ref.{now}
 use Rattle.register.specs.Task.{isBuffer}
 use Rattle.register.specs.declared.task.SourceMode.{SourceMode}
-use Rattle.rows.specs.Row.{sourcePixelOf}
+use Rattle.row_pixels.specs.Row.{sourcePixelOf}
 use Rattle.raster.specs.Task.{sourceModeColour, sourceColour}
 use Rattle.kinds.specs.Kinds.{isUniform}
 use Rattle.raster.specs.Row.{uniformColour}

@@ -4,8 +4,8 @@ use native.Mathlib.Omega.{arith}
 use denote.Ref.{now}
 use Rattle.pixel.specs.Formats.{bytesPerPixel}
 use Rattle.surface.specs.Drawn.{loadPixel}
-use Rattle.rows.specs.Row.{colourAt}
-use Rattle.rows.specs.Mixed.{composite}
+use Rattle.row_pixels.specs.Row.{colourAt}
+use Rattle.row_pixels.specs.Composite.{composite}
 use Rattle.kinds.specs.declared.Finish.the-variants.{Blended}
 use Rattle.raster.proofs.Parts.{of-finish}
 use Rattle.raster.specs.Task.{destinationColour}

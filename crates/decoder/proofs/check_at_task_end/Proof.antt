@@ -1,7 +1,7 @@
 use mathlib.Core.Path.{ap, sym, _∙_}
 use Rattle.register.specs.declared.task.Task.{Task}
 use Rattle.batch.specs.declared.walk.WalkStep.the-variants.{Task as Next}
-use Rattle.rules.specs.Rules.{checkTask}
+use Rattle.task_check.specs.Rules.{checkTask}
 use borrow.Author.Needs.{needs}
 use Rattle.decoder.proofs.check_at_task_end.Statement.{statement}
 use Rattle.decoder.proofs.check_at_task_end.Tie as tie

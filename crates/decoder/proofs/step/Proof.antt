@@ -11,8 +11,8 @@ use Rattle.word.specs.Field.{field}
 use Rattle.word.proofs.Tests.{or-false}
 use Rattle.ring.specs.Segment.{batchWords}
 use Rattle.register.specs.Task.{taskOf}
-use Rattle.rules.specs.declared.fault.Fault.{Fault}
-use Rattle.rules.specs.Rules.{checkTask}
+use Rattle.task_check.specs.declared.fault.Fault.{Fault}
+use Rattle.task_check.specs.Rules.{checkTask}
 use Rattle.batch.specs.declared.walk.WalkStep.{WalkStep}
 use Rattle.batch.specs.declared.walk.WalkStep.the-variants.{Faulty as Stop}
 use Rattle.batch.specs.Batch.{inGroup, reservedBits, groupOf}

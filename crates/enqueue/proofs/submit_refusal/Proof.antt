@@ -1,8 +1,8 @@
 use mathlib.Core.Path.{_≡_, sym, _∙_}
 use mathlib.Core.Bool.{true}
 use borrow.Author.Tests.{not-true, not-false}
-use Rattle.record.specs.Rules.{valid}
-use Rattle.record.proofs.Checking.{checked-valid, checked-ready, checked-bytes}
+use Rattle.engine_record.specs.Rules.{valid}
+use Rattle.engine_record.proofs.Checking.{checked-valid, checked-ready, checked-bytes}
 use Rattle.queue.proofs.Refusals.{eleven}
 use Rattle.queue.specs.Refusals.{firstRefusal}
 use borrow.Author.Needs.{needs}

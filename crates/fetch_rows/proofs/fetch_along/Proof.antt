@@ -1,5 +1,5 @@
 use mathlib.Core.Path.{sym, _∙_}
-use Rattle.rows.proofs.Straight.{straight}
+use Rattle.row_pixels.proofs.Straight.{straight}
 use borrow.Author.Needs.{needs}
 use Rattle.fetch_rows.proofs.fetch_along.Statement.{statement}
 use Rattle.fetch_rows.proofs.fetch_along.Tie as tie

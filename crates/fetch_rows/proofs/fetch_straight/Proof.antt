@@ -2,8 +2,8 @@ use mathlib.Core.Path.{sym, ap, _∙_}
 use native.Mathlib.Nat.{not-suc-le-zero}
 use denote.Ref.{now}
 use Rattle.surface.specs.Drawn.{loadPixel}
-use Rattle.rows.specs.Row.{colourAt}
-use Rattle.rows.proofs.Straight.{side-by-side, side-by-side-in}
+use Rattle.row_pixels.specs.Row.{colourAt}
+use Rattle.row_pixels.proofs.Straight.{side-by-side, side-by-side-in}
 use borrow.Author.Needs.{needs}
 use Rattle.fetch_rows.proofs.fetch_straight.Statement.{statement}
 use Rattle.fetch_rows.proofs.fetch_straight.Tie as tie

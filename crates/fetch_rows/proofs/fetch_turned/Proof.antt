@@ -6,8 +6,8 @@ use denote.Ref.{now}
 use Rattle.transform.specs.Transform.{InPicture, rotatedSize}
 use Rattle.surface.specs.Drawn.{loadPixel}
 use Rattle.register.specs.Size.{sizeOf}
-use Rattle.rows.specs.Row.{colourAt}
-use Rattle.rows.proofs.Stepping.{origin-stepped, origin-above, stepped-in}
+use Rattle.row_pixels.specs.Row.{colourAt}
+use Rattle.row_pixels.proofs.Stepping.{origin-stepped, origin-above, stepped-in}
 use borrow.Author.Needs.{needs}
 use Rattle.fetch_rows.proofs.fetch_turned.Statement.{statement}
 use Rattle.fetch_rows.proofs.fetch_turned.Tie as tie

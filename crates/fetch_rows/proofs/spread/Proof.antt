@@ -6,7 +6,7 @@ use denote.Ref.{now}
 use borrow.Rule.Slice.PartMut.{midOf}
 use Rattle.pixel.specs.declared.format.Format.the-variants.{Argb8888}
 use Rattle.surface.proofs.Parts.{length-mid}
-use Rattle.rows.specs.Row.{wordColour}
+use Rattle.row_pixels.specs.Row.{wordColour}
 use Rattle.row_colours.proofs.Parts.{unpacked-small, holds-part}
 use borrow.Author.Needs.{needs}
 use Rattle.fetch_rows.proofs.spread.Statement.{statement}

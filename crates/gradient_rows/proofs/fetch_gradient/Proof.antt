@@ -7,7 +7,7 @@ use borrow.Author.Needs.{needs}
 use Rattle.transform.specs.Transform.{mirrored}
 use Rattle.transform.proofs.Inside.{mirrored-below}
 use Rattle.gradient.specs.Gradient.{gradientColour}
-use Rattle.rows.specs.Row.{HoldsColours}
+use Rattle.row_pixels.specs.Row.{HoldsColours}
 use Rattle.argb_words.proofs.Words.{holds-step}
 use Rattle.gradient_rows.proofs.fetch_gradient.Statement.{statement}
 use Rattle.gradient_rows.proofs.fetch_gradient.Tie as tie

@@ -1,7 +1,7 @@
 use mathlib.Core.Path.{ap, _∙_}
 use denote.Ref.{now}
 use Rattle.surface.specs.Drawn.{loadPixel}
-use Rattle.rows.specs.Row.{colourAt}
+use Rattle.row_pixels.specs.Row.{colourAt}
 use Rattle.raster.specs.Task.{destinationColour}
 use Rattle.plain.proofs.Inside.{destination-read}
 use borrow.Author.Needs.{needs}

@@ -1,6 +1,6 @@
 use mathlib.Core.Path.{sym, ap₂, _∙_}
 use denote.Ref.{now}
-use Rattle.rows.specs.Mixed.{composite}
+use Rattle.row_pixels.specs.Composite.{composite}
 use Rattle.raster.proofs.Pixel.{pixel-blended, pixel-plain}
 use Rattle.plain.proofs.Inside.{source-pixel, destination-pixel}
 use borrow.Author.Needs.{needs}

@@ -4,7 +4,7 @@ use borrow.Author.Needs.{needs}
 use Rattle.transform.specs.Transform.{InPicture}
 use Rattle.transform.specs.declared.Point.{Point}
 use Rattle.register.specs.Size.{sizeOf}
-use Rattle.rows.proofs.Straight.{point-within}
+use Rattle.row_pixels.proofs.Straight.{point-within}
 use Rattle.plain.proofs.row_of.Statement.{statement}
 use Rattle.plain.proofs.row_of.Tie as tie
 

@@ -5,7 +5,7 @@ use Rattle.gradient.specs.Gradient.{gradientColour}
 use Rattle.surface.specs.Drawn.{loadPixel}
 use Rattle.register.specs.Task.{isBuffer}
 use Rattle.register.specs.declared.task.SourceMode.{SourceMode}
-use Rattle.rows.specs.Row.{colourAt, sourcePixelOf}
+use Rattle.row_pixels.specs.Row.{colourAt, sourcePixelOf}
 use Rattle.raster.specs.Task.{sourceModeColour, sourceColour}
 use Rattle.plain.proofs.Inside.{source-read}
 use borrow.Author.Needs.{needs}

@@ -4,8 +4,8 @@ use Prim.Native.Nat.{ℕ, _+_, _-_, _*_}
 use native.Mathlib.Omega.{arith}
 use lib.ListN.{getD}
 use borrow.Author.Needs.{needs}
-use Rattle.record.specs.declared.Client.{Client}
-use Rattle.record.specs.Clients.{noClient}
+use Rattle.engine_record.specs.declared.Client.{Client}
+use Rattle.engine_record.specs.Clients.{noClient}
 use Rattle.record_bytes.specs.Written.{clientWords}
 use Rattle.record_bytes.proofs.Parts.{joined, PartsWritten, parts-none, parts-turn}
 use Rattle.record_encoder.proofs.write_clients.Statement.{statement}

@@ -3,7 +3,7 @@ use mathlib.Core.List.{List}
 use Prim.Native.Nat.{ℕ, _+_, _-_, _*_}
 use native.Mathlib.Omega.{arith}
 use borrow.Author.Needs.{needs}
-use Rattle.record.specs.declared.Slot.{Slot}
+use Rattle.engine_record.specs.declared.Slot.{Slot}
 use Rattle.record_bytes.specs.Written.{rowWords, rowAt}
 use Rattle.record_bytes.proofs.Parts.{joined, PartsWritten, parts-none, parts-turn}
 use Rattle.record_encoder.proofs.write_slots.Statement.{statement}

@@ -3,8 +3,8 @@ use native.Mathlib.Nat.{not-suc-le-zero}
 use lib.ListN.{length}
 use denote.Ref.{now}
 use Rattle.surface.specs.Drawn.{loadPixel}
-use Rattle.rows.specs.Row.{colourAt}
-use Rattle.rows.proofs.Straight.{side-by-side, side-by-side-in}
+use Rattle.row_pixels.specs.Row.{colourAt}
+use Rattle.row_pixels.proofs.Straight.{side-by-side, side-by-side-in}
 use Rattle.row_copy.proofs.Bytes.{narrower}
 use borrow.Author.Needs.{needs}
 use Rattle.row_copy.proofs.fetch_bytes.Statement.{statement}

@@ -3,8 +3,8 @@ use native.Mathlib.Omega.{arith}
 use lib.ListN.{length}
 use denote.Ref.{now}
 use Prim.Native.Nat.{_<_}
-use Rattle.record.specs.declared.Batch.{Batch}
-use Rattle.record.proofs.Checking.{checked-ready}
+use Rattle.engine_record.specs.declared.Batch.{Batch}
+use Rattle.engine_record.proofs.Checking.{checked-ready}
 use Rattle.engine.specs.Run.{oldest}
 use Rattle.engine.proofs.Oldest.{slot-below, owner-small, oldest-room}
 use Rattle.engine.proofs.Refusals.{RunAllowed, run-allowed}

@@ -5,8 +5,8 @@ use lib.ListN.{length}
 use denote.Ref.{now}
 use borrow.Rule.Slice.PartMut.{midOf}
 use Rattle.surface.proofs.Parts.{length-mid}
-use Rattle.rows.specs.Row.{colourIn}
-use Rattle.rows.specs.Mixed.{composite}
+use Rattle.row_pixels.specs.Row.{colourIn}
+use Rattle.row_pixels.specs.Composite.{composite}
 use Rattle.plan.proofs.Factors.{planned-is}
 use Rattle.row_colours.proofs.Parts.{part-colour, mixed-small, holds-part}
 use borrow.Author.Needs.{needs}

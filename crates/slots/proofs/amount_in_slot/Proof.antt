@@ -1,5 +1,5 @@
 use native.Mathlib.Omega.{arith}
-use Rattle.record.specs.Slots.{sumOver}
+use Rattle.engine_record.specs.Slots.{sumOver}
 use borrow.Author.Needs.{needs}
 use Rattle.slots.proofs.amount_in_slot.Statement.{statement}
 use Rattle.slots.proofs.amount_in_slot.Tie as tie

@@ -1,6 +1,6 @@
 use native.Mathlib.Omega.{arith}
 use lib.Dec.{eqb}
-use Rattle.record.proofs.Slots.{count-most}
+use Rattle.engine_record.proofs.Slots.{count-most}
 use borrow.Author.Needs.{needs}
 use Rattle.slots.proofs.count_of.Statement.{statement}
 use Rattle.slots.proofs.count_of.Tie as tie

@@ -1,5 +1,5 @@
 use native.Mathlib.Omega.{arith}
-use Rattle.record.proofs.Slots.{age-ticket}
+use Rattle.engine_record.proofs.Slots.{age-ticket}
 use borrow.Author.Needs.{needs}
 use Rattle.slots.proofs.has_age.Statement.{statement}
 use Rattle.slots.proofs.has_age.Tie as tie

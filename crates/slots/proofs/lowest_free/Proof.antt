@@ -3,8 +3,8 @@ use Prim.Native.Nat.{ℕ, _+_, _-_, _≤_, _<_}
 use lib.ListN.{length, drop}
 use native.Mathlib.Omega.{arith}
 use borrow.Author.Needs.{needs}
-use Rattle.record.specs.Slots.{lowestFree}
-use Rattle.record.proofs.Slots.{lowest-step, lowest-end}
+use Rattle.engine_record.specs.Slots.{lowestFree}
+use Rattle.engine_record.proofs.Slots.{lowest-step, lowest-end}
 use Rattle.slots.proofs.lowest_free.Statement.{statement}
 use Rattle.slots.proofs.lowest_free.Tie as tie
 

@@ -1,6 +1,6 @@
 use native.Mathlib.Omega.{arith}
-use Rattle.record.specs.Slots.{readyBatches}
-use Rattle.record.proofs.Slots.{length-sum, ready-most}
+use Rattle.engine_record.specs.Slots.{readyBatches}
+use Rattle.engine_record.proofs.Slots.{length-sum, ready-most}
 use Rattle.slots.proofs.ready_slots.Statement.{statement}
 use Rattle.slots.proofs.ready_slots.Tie as tie
 

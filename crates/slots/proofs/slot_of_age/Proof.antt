@@ -3,8 +3,8 @@ use Prim.Native.Nat.{ℕ, _+_, _-_, _≤_, _<_}
 use lib.ListN.{length, drop}
 use native.Mathlib.Omega.{arith}
 use borrow.Author.Needs.{needs}
-use Rattle.record.specs.Tickets.{ticketBefore, slotOfTicket}
-use Rattle.record.proofs.Slots.{place-step, place-end}
+use Rattle.engine_record.specs.Tickets.{ticketBefore, slotOfTicket}
+use Rattle.engine_record.proofs.Slots.{place-step, place-end}
 use Rattle.slots.proofs.slot_of_age.Statement.{statement}
 use Rattle.slots.proofs.slot_of_age.Tie as tie
 

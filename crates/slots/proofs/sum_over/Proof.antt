@@ -3,8 +3,8 @@ use Prim.Native.Nat.{ℕ, _+_, _-_, _≤_, _<_}
 use lib.ListN.{length, drop}
 use native.Mathlib.Omega.{arith}
 use borrow.Author.Needs.{needs}
-use Rattle.record.specs.Slots.{readyBatches, sumOver, amountOf}
-use Rattle.record.proofs.Slots.{sum-step, sum-end}
+use Rattle.engine_record.specs.Slots.{readyBatches, sumOver, amountOf}
+use Rattle.engine_record.proofs.Slots.{sum-step, sum-end}
 use Rattle.slots.proofs.sum_over.Statement.{statement}
 use Rattle.slots.proofs.sum_over.Tie as tie
 

@@ -6,8 +6,8 @@ use denote.Ref.{now}
 use borrow.Author.Count.{below-none}
 use borrow.Author.Needs.{needs}
 use Rattle.surface.specs.Drawn.{loadPixel}
-use Rattle.rows.specs.Row.{HoldsColours}
-use Rattle.rows.specs.Step.{stridedAddress}
+use Rattle.row_pixels.specs.Row.{HoldsColours}
+use Rattle.row_pixels.specs.Strided.{stridedAddress}
 use Rattle.argb_words.proofs.Words.{holds-step}
 use Rattle.strided_rows.proofs.fetch_each.Statement.{statement}
 use Rattle.strided_rows.proofs.fetch_each.Tie as tie

@@ -2,8 +2,8 @@ use mathlib.Core.Path.{refl, sym, _∙_}
 use Prim.Native.Nat.{_≤_}
 use lib.ListN.{length}
 use native.Mathlib.Omega.{arith}
-use Rattle.record.specs.Queue.{readySlots}
-use Rattle.record.proofs.Checking.{checked-bytes}
+use Rattle.engine_record.specs.Queue.{readySlots}
+use Rattle.engine_record.proofs.Checking.{checked-bytes}
 use Rattle.queue.specs.declared.Answer.the-variants.{Accepted}
 use Rattle.queue.proofs.Calls.{piece-refused, piece-done, last-answer, last-record, more-answer, more-record}
 use Rattle.queue.proofs.Refusals.{PieceAllowed, piece-allowed}

@@ -1,5 +1,5 @@
 use Rattle.queue.specs.Refusals.{firstRefusal}
-use Rattle.record.proofs.Checking.{checked-valid}
+use Rattle.engine_record.proofs.Checking.{checked-valid}
 use borrow.Author.Needs.{needs}
 use Rattle.submission.proofs.piece_refusal.Statement.{statement}
 use Rattle.submission.proofs.piece_refusal.Tie as tie

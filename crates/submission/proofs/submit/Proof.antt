@@ -2,8 +2,8 @@ use mathlib.Core.Path.{sym, _∙_}
 use Prim.Native.Nat.{_<_}
 use lib.ListN.{length}
 use native.Mathlib.Omega.{arith}
-use Rattle.record.proofs.Added.{lowest-below}
-use Rattle.record.proofs.Checking.{checked-bytes}
+use Rattle.engine_record.proofs.Added.{lowest-below}
+use Rattle.engine_record.proofs.Checking.{checked-bytes}
 use Rattle.queue.proofs.Calls.{submit-refused, submit-done}
 use Rattle.queue.proofs.Refusals.{SubmitAllowed, submit-allowed}
 use Rattle.queue.proofs.Room.{client-small, pending-small, submit-lies}

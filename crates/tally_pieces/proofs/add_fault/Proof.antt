@@ -8,7 +8,7 @@ use Rattle.tally_pieces.proofs.add_fault.Statement.{statement}
 use Rattle.tally_pieces.proofs.add_fault.Tie as tie
 use Rattle.tally_pieces.proofs.add_fault.Reads as reads
 use Rattle.tally_pieces.proofs.add_fault.Lts as lts
-use Rattle.rules.proofs.fault.Fault.number.Reads as number-reads
+use Rattle.task_check.proofs.fault.Fault.number.Reads as number-reads
 use Rattle.tally_pieces.proofs.add.Reads as add-reads
 
 sub-add : tie.Need-sub-add

@@ -4,9 +4,9 @@ use Prim.Native.Nat.{ℕ, _+_, _-_, _≤_, _<_}
 use native.Mathlib.Omega.{arith}
 use borrow.Author.Needs.{needs}
 use borrow.Author.Tests.{not-true, not-false}
-use Rattle.record.proofs.Walk.{walk, walk-missing, walk-unfit, walk-next, walk-done, Fitting, fitting, fitsIn, walk-rules}
-use Rattle.record.specs.Clients.{isOpen}
-use Rattle.record.specs.Rules.{batchRules}
+use Rattle.engine_record.proofs.Walk.{walk, walk-missing, walk-unfit, walk-next, walk-done, Fitting, fitting, fitsIn, walk-rules}
+use Rattle.engine_record.specs.Clients.{isOpen}
+use Rattle.engine_record.specs.Rules.{batchRules}
 use Rattle.ring.specs.Segment.{wrapOffset}
 use Rattle.ring.proofs.Wrapped.{wrapped-below}
 use Rattle.validity.proofs.batches_valid.Statement.{statement}

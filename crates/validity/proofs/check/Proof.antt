@@ -4,10 +4,10 @@ use Prim.Native.Nat.{_≤_}
 use native.Mathlib.Omega.{arith}
 use borrow.Author.Needs.{needs}
 use borrow.Author.Tests.{not-true, not-false}
-use Rattle.record.specs.Queue.{readySlots}
-use Rattle.record.specs.Rules.{valid}
-use Rattle.record.proofs.Rules.{valid-facts, ready-within}
-use Rattle.record.proofs.Checking.{checked-broken, checked-kept}
+use Rattle.engine_record.specs.Queue.{readySlots}
+use Rattle.engine_record.specs.Rules.{valid}
+use Rattle.engine_record.proofs.Rules.{valid-facts, ready-within}
+use Rattle.engine_record.proofs.Checking.{checked-broken, checked-kept}
 use Rattle.validity.proofs.check.Statement.{statement}
 use Rattle.validity.proofs.check.Tie as tie
 

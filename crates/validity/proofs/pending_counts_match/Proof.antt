@@ -3,9 +3,9 @@ use Prim.Native.Nat.{_-_}
 use lib.ListN.{drop}
 use native.Mathlib.Omega.{arith}
 use borrow.Author.Needs.{needs}
-use Rattle.record.specs.Slots.{readyBatches}
-use Rattle.record.specs.Clients.{pendingCountsMatch}
-use Rattle.record.proofs.Clients.{counts-found, counts-next, counts-end}
+use Rattle.engine_record.specs.Slots.{readyBatches}
+use Rattle.engine_record.specs.Clients.{pendingCountsMatch}
+use Rattle.engine_record.proofs.Clients.{counts-found, counts-next, counts-end}
 use Rattle.validity.proofs.pending_counts_match.Statement.{statement}
 use Rattle.validity.proofs.pending_counts_match.Tie as tie
 

@@ -2,10 +2,10 @@ use mathlib.Core.Path.{_≡_, sym, _∙_}
 use mathlib.Core.Bool.{true, _&&_}
 use borrow.Author.Needs.{needs}
 use borrow.Author.Tests.{not-true, not-false}
-use Rattle.record.proofs.Rules.{numbers, valid-not, valid-not-settled, valid-rest, settled}
+use Rattle.engine_record.proofs.Rules.{numbers, valid-not, valid-not-settled, valid-rest, settled}
 use Rattle.word.proofs.Tests.{and-true}
-use Rattle.record.specs.declared.EngineRecord.{EngineRecord}
-use Rattle.record.specs.Rules.{numberRules, windowsRule, batchRules, pendingRule}
+use Rattle.engine_record.specs.declared.EngineRecord.{EngineRecord}
+use Rattle.engine_record.specs.Rules.{numberRules, windowsRule, batchRules, pendingRule}
 use Rattle.validity.proofs.rules_kept.Statement.{statement}
 use Rattle.validity.proofs.rules_kept.Tie as tie
 

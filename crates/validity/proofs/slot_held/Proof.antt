@@ -1,7 +1,7 @@
 use native.Mathlib.Omega.{arith}
 use mathlib.Core.Path.{_∙_}
 use borrow.Author.Needs.{needs}
-use Rattle.record.proofs.Unfinished.{slot-out, slot-in}
+use Rattle.engine_record.proofs.Unfinished.{slot-out, slot-in}
 use Rattle.validity.proofs.slot_held.Statement.{statement}
 use Rattle.validity.proofs.slot_held.Tie as tie
 

@@ -1,7 +1,7 @@
 use native.Mathlib.Omega.{arith}
 use borrow.Author.Needs.{needs}
-use Rattle.record.proofs.Unfinished.{none-test, unfinished-test}
-use Rattle.record.proofs.Rules.{numbers, settled-bytes}
+use Rattle.engine_record.proofs.Unfinished.{none-test, unfinished-test}
+use Rattle.engine_record.proofs.Rules.{numbers, settled-bytes}
 use Rattle.validity.proofs.staged_valid.Statement.{statement}
 use Rattle.validity.proofs.staged_valid.Tie as tie
 

@@ -1,4 +1,4 @@
-use Rattle.record.proofs.Clients.{bad-made}
+use Rattle.engine_record.proofs.Clients.{bad-made}
 use borrow.Author.Needs.{needs}
 use Rattle.windows.proofs.bad_window.Statement.{statement}
 use Rattle.windows.proofs.bad_window.Tie as tie

@@ -1,7 +1,7 @@
 use lib.ListN.{getD}
 use borrow.Author.Needs.{needs}
 use borrow.Author.Tests.{not-true, not-false}
-use Rattle.record.specs.Clients.{noClient}
+use Rattle.engine_record.specs.Clients.{noClient}
 use Rattle.windows.proofs.is_misplaced.Statement.{statement}
 use Rattle.windows.proofs.is_misplaced.Tie as tie
 

@@ -5,8 +5,8 @@ use lib.ListN.{drop, getD}
 use lib.Dec.{leb}
 use native.Mathlib.Omega.{arith}
 use borrow.Author.Tests.{not-true, not-false}
-use Rattle.record.specs.Clients.{noClient, lowestClosed}
-use Rattle.record.proofs.Clients.{closed-step, closed-end, closed-full}
+use Rattle.engine_record.specs.Clients.{noClient, lowestClosed}
+use Rattle.engine_record.proofs.Clients.{closed-step, closed-end, closed-full}
 use Rattle.windows.proofs.lowest_closed.Statement.{statement}
 use Rattle.windows.proofs.lowest_closed.Tie as tie
 

@@ -3,8 +3,8 @@ use Prim.Native.Nat.{_-_}
 use lib.ListN.{drop}
 use native.Mathlib.Omega.{arith}
 use borrow.Author.Needs.{needs}
-use Rattle.record.specs.Clients.{windowsOf, overlapsAny}
-use Rattle.record.proofs.Clients.{shares-found, shares-next, overlaps-end}
+use Rattle.engine_record.specs.Clients.{windowsOf, overlapsAny}
+use Rattle.engine_record.proofs.Clients.{shares-found, shares-next, overlaps-end}
 use Rattle.windows.proofs.overlaps_any.Statement.{statement}
 use Rattle.windows.proofs.overlaps_any.Tie as tie
 

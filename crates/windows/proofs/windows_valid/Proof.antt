@@ -2,8 +2,8 @@ use mathlib.Core.Path.{_≡_, refl, sym, _∙_}
 use Prim.Native.Nat.{_-_}
 use lib.ListN.{drop}
 use native.Mathlib.Omega.{arith}
-use Rattle.record.specs.Clients.{windowsOf, windowsValid}
-use Rattle.record.proofs.Clients.{none-found, none-next, none-end}
+use Rattle.engine_record.specs.Clients.{windowsOf, windowsValid}
+use Rattle.engine_record.proofs.Clients.{none-found, none-next, none-end}
 use Rattle.windows.proofs.windows_valid.Statement.{statement}
 use Rattle.windows.proofs.windows_valid.Tie as tie
 
