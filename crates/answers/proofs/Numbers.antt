@@ -23,17 +23,17 @@ use Rattle.engine.specs.declared.Outcome.the-variants.{Completed}
 use Rattle.engine.specs.declared.Completion.{Completion}
 use Rattle.engine.specs.Run.{runNumber, oldest, boundsOfClient, oldestWords, resetOf, oldestVerdict, outcomeUnlessRefused, runResult}
 use Rattle.engine.proofs.Refusals.{run-allowed}
-use Rattle.answers.specs.Answers.{outcomeWords, Small}
+use Rattle.answers.specs.Answers.{runWords, OutcomeFitsWords}
 
 -- ---- the words
 
 pub completed-words : (o : Outcome) (d : Completion) (status fault offset : ℕ) → o ≡ Completed d → status ≡ statusWordOf (d .verdict) → fault ≡ faultOf (d .verdict) → offset ≡ faultOffsetOf (d .verdict) →
-    (0 ∷ d .client ∷ d .ticket ∷ status ∷ fault ∷ offset ∷ []) ≡ outcomeWords o
+    (0 ∷ d .client ∷ d .ticket ∷ status ∷ fault ∷ offset ∷ []) ≡ runWords o
 completed-words o d status fault offset e s f p = rw (e, s, f, p)
 
 -- ---- run's numbers
 
-pub completed-small : (o : Outcome) (d : Completion) → o ≡ Completed d → Small o → (statusWordOf (d .verdict) ≤ 4294967295) × (faultOffsetOf (d .verdict) ≤ 4294967295)
+pub completed-small : (o : Outcome) (d : Completion) → o ≡ Completed d → OutcomeFitsWords o → (statusWordOf (d .verdict) ≤ 4294967295) × (faultOffsetOf (d .verdict) ≤ 4294967295)
 completed-small o d e s = let q = rw e at s in (q .status, q .offset)
 
 pub word-whole : (n : ℕ) → n ≤ 4294967295 → n % 4294967296 ≡ n
@@ -54,12 +54,12 @@ oldest-short engine ok some = go (readySlots engine) refl some
         let good = length-good (engine .setup .ring) (b .length) (not-true bad first) in
         rw e (omega (arith, good .within, v .numbers .ring .small))
 
-pub run-small : (engine : EngineRecord) (ring memory : List ℕ) → Small (runResult engine ring memory .outcome)
+pub run-small : (engine : EngineRecord) (ring memory : List ℕ) → OutcomeFitsWords (runResult engine ring memory .outcome)
 unfolding runResult outcomeUnlessRefused
 run-small engine ring memory = go (runNumber engine ring memory) refl
   where
     go : (n : ℕ) → runNumber engine ring memory ≡ n →
-        Small (outcomeUnlessRefused n (Completed (record { client = oldest engine .client; ticket = oldest engine .ticket; verdict = oldestVerdict engine ring })))
+        OutcomeFitsWords (outcomeUnlessRefused n (Completed (record { client = oldest engine .client; ticket = oldest engine .ticket; verdict = oldestVerdict engine ring })))
     go (suc n) e = record { status = omega arith; offset = omega arith }
     go zero e =
         let a = run-allowed engine (length ring) (length memory) e in

@@ -11,7 +11,7 @@ use lib.Seq.{drop-cons}
 use Rattle.word.specs.Field.{field}
 use Rattle.word.proofs.Tests.{split}
 use Rattle.ring.specs.declared.Read.the-variants.{Word, OutOfRange}
-use Rattle.ring.specs.Read.{wordAt}
+use Rattle.ring.specs.Read.{readWord}
 use Rattle.ring.proofs.Reading.{read-in, read-past}
 use Rattle.ring.specs.Segment.{liesInRing, batchWords}
 use Rattle.ring.proofs.Segment.{lies-in, no-words, count-words}
@@ -37,10 +37,10 @@ words-fit ring offset size = go (liesInRing ring offset size) refl
     go false e = omega (arith, ap length (no-words ring offset size e))
 
 -- what the reader says of word k, as an element of the list
-pub word-read : (ws : List ℕ) (k w : ℕ) → wordAt ws k ≡ Word w → w ≡ getD ws k 0
+pub word-read : (ws : List ℕ) (k w : ℕ) → readWord ws k ≡ Word w → w ≡ getD ws k 0
 word-read ws k w e = ⊎-elim (λ (h : k < length ws). cc (read-in ws k h)) (λ (h : length ws ≤ k). cc (read-past ws k h)) (split k (length ws))
 
-pub word-past : (ws : List ℕ) (k : ℕ) → wordAt ws k ≡ OutOfRange → 0 ≡ getD ws k 0
+pub word-past : (ws : List ℕ) (k : ℕ) → readWord ws k ≡ OutOfRange → 0 ≡ getD ws k 0
 word-past ws k e =
     ⊎-elim (λ (h : k < length ws). cc (read-in ws k h)) (λ (h : length ws ≤ k). sym (List·getD-eq-default ws 0 h)) (split k (length ws))
 

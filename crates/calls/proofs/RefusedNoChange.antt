@@ -21,7 +21,7 @@ use Rattle.engine.proofs.Preservation.{run-number, run-refused-no-op}
 use Rattle.answers.specs.Answers.{lastOf, fiveOf}
 use Rattle.record_bytes.specs.Read.{recordOf}
 use Rattle.record_bytes.specs.Written.{bytesOf}
-use Rattle.calls.specs.Calls.{setUpNumber, SetsUp, ValueWritten, Opens, Submits, Done as Silent, Begins, HandsOver, Cancels, Closes, Pends, Runs}
+use Rattle.calls.specs.Calls.{setUpNumber, SetsUp, ValueWritten, Opens, Submits, NumberWritten, Begins, HandsOver, Cancels, Closes, Pends, Runs}
 use Rattle.calls.specs.RefusedNoChange.{RefusedNoChange}
 use Rattle.calls.proofs.Results.{unless-not}
 
@@ -51,8 +51,8 @@ value-written-no-change bytes after a number value bytesNow refused t =
     let z : refusalNumberOf a ≡ 0 → ⊥ = λ e. refused (t .number-is ∙ e) in
     (t .value-is ∙ no-value a z, t .record-is ∙ unless-not bytes after (refusalNumberOf a) z)
 
-silent-none : (bytes after : List ℕ) (a : Answer) (number : ℕ) (bytesNow : List ℕ) → (number ≡ 0 → ⊥) → Silent bytes after a number bytesNow → bytesNow ≡ bytes
-silent-none bytes after a number bytesNow refused t = t .record-is ∙ unless-not bytes after (refusalNumberOf a) (λ e. refused (t .number-is ∙ e))
+number-written-no-change : (bytes after : List ℕ) (a : Answer) (number : ℕ) (bytesNow : List ℕ) → (number ≡ 0 → ⊥) → NumberWritten bytes after a number bytesNow → bytesNow ≡ bytes
+number-written-no-change bytes after a number bytesNow refused t = t .record-is ∙ unless-not bytes after (refusalNumberOf a) (λ e. refused (t .number-is ∙ e))
 
 module _ (bytes bytesNow : List ℕ) (number : ℕ) (refused : number ≡ 0 → ⊥) where
   set-up-none : (ring memory common : ℕ) (reset : ResetRule) → SetsUp bytes ring memory common reset number bytesNow → bytesNow ≡ bytes
@@ -75,13 +75,13 @@ module _ (bytes bytesNow : List ℕ) (number : ℕ) (refused : number ≡ 0 → 
   unfolding Begins
   begin-none ring client total s =
       let reply = beginResult (recordOf bytes) (length ring) client total in
-      silent-none bytes (bytesOf (reply .engine)) (reply .answer) number bytesNow refused s
+      number-written-no-change bytes (bytesOf (reply .engine)) (reply .answer) number bytesNow refused s
 
   cancel-none : (client : ℕ) → Cancels bytes client number bytesNow → bytesNow ≡ bytes
   unfolding Cancels
   cancel-none client s =
       let reply = cancelResult (recordOf bytes) client in
-      silent-none bytes (bytesOf (reply .engine)) (reply .answer) number bytesNow refused s
+      number-written-no-change bytes (bytesOf (reply .engine)) (reply .answer) number bytesNow refused s
 
   piece-none : (ring ringNow : List ℕ) (client : ℕ) (piece two : List ℕ) → HandsOver bytes ring client piece number two bytesNow ringNow →
       (two ≡ 0 ∷ 0 ∷ []) × (bytesNow ≡ bytes) × (ringNow ≡ ring)
@@ -100,7 +100,7 @@ module _ (bytes bytesNow : List ℕ) (number : ℕ) (refused : number ≡ 0 → 
       let r : EngineRecord = recordOf bytes in
       let reply = closeResult r (length memory) client in
       let n : closeNumber r memory client ≡ 0 → ⊥ = λ e. refused (s .answered .number-is ∙ close-number r (length memory) client ∙ e) in
-      (silent-none bytes (bytesOf (reply .engine)) (reply .answer) number bytesNow refused (s .answered), s .memory-is ∙ close-left r memory client n)
+      (number-written-no-change bytes (bytesOf (reply .engine)) (reply .answer) number bytesNow refused (s .answered), s .memory-is ∙ close-left r memory client n)
 
   run-none : (ring memory memoryNow five : List ℕ) → Runs bytes ring memory number five bytesNow memoryNow →
       (five ≡ 0 ∷ 0 ∷ 0 ∷ 0 ∷ 0 ∷ []) × (bytesNow ≡ bytes) × (memoryNow ≡ memory)

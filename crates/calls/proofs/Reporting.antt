@@ -11,7 +11,7 @@ use Rattle.engine.specs.Outcome.{runRefusalOf as refusalOf}
 use Rattle.engine.specs.Run.{runResult, runMemory}
 use Rattle.engine.proofs.Refusals.{run-allowed}
 use Rattle.engine.proofs.Preservation.{run-number}
-use Rattle.answers.specs.Answers.{outcomeWords, Small}
+use Rattle.answers.specs.Answers.{runWords, OutcomeFitsWords}
 use Rattle.answers.proofs.Numbers.{run-small}
 use Rattle.record_bytes.specs.Read.{recordOf}
 use Rattle.record_bytes.specs.Written.{bytesOf, written}
@@ -21,7 +21,7 @@ use Rattle.calls.proofs.Results.{unless-not, unless-zero, whole, fits}
 abbrev rest : List ℕ → List ℕ
 rest words = getD words 1 0 ∷ getD words 2 0 ∷ getD words 3 0 ∷ getD words 4 0 ∷ getD words 5 0 ∷ []
 
-module _ (bytes after words : List ℕ) (o : Outcome) (are : words ≡ outcomeWords o) where
+module _ (bytes after words : List ℕ) (o : Outcome) (are : words ≡ runWords o) where
   pub reported-done : (bytesNow : List ℕ) → getD words 0 0 ≡ 0 → bytesNow ≡ after → Reports bytes after o (getD words 0 0) (rest words) bytesNow
   reported-done bytesNow z e = record {
     number-is = rw are;
@@ -36,7 +36,7 @@ module _ (bytes after words : List ℕ) (o : Outcome) (are : words ≡ outcomeWo
     record-is = sym (unless-not bytes after (refusalOf o) (rw are at z));
   }
 
-pub ran-small : (engine : EngineRecord) (ring memory : List ℕ) (ran : RunResult) → ran ≡ runResult engine ring memory → Small (ran .outcome)
+pub ran-small : (engine : EngineRecord) (ring memory : List ℕ) (ran : RunResult) → ran ≡ runResult engine ring memory → OutcomeFitsWords (ran .outcome)
 ran-small engine ring memory ran e = rw e (run-small engine ring memory)
 
 pub run-answered : (bytes ring memory : List ℕ) (engine : EngineRecord) (ran : RunResult) (number : ℕ) (five bytesNow memoryNow : List ℕ) → engine ≡ recordOf bytes → ran ≡ runResult engine ring memory →

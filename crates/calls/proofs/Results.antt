@@ -20,7 +20,7 @@ use Rattle.answers.specs.Answers.{shortAnswer, pieceWords}
 use Rattle.record_bytes.specs.Read.{recordOf}
 use Rattle.record_bytes.specs.Written.{bytesOf, written}
 use Rattle.record_bytes.proofs.Cases.{valid-record, record-size, written-whole}
-use Rattle.calls.specs.Calls.{SetsUp, ValueWritten, Opens, Submits, Done, Begins, ProgressWritten, HandsOver, Cancels, Closes, Pends}
+use Rattle.calls.specs.Calls.{SetsUp, ValueWritten, Opens, Submits, NumberWritten, Begins, ProgressWritten, HandsOver, Cancels, Closes, Pends}
 
 -- ---- what the words of an answer mean, refused or not
 
@@ -83,7 +83,7 @@ value-written-whole bytes reply number value bytesNow h t = record {
 
 -- and of a call whose value is left out
 done-whole : (bytes : List ℕ) (reply : Reply) (number value : ℕ) (bytesNow : List ℕ) → (refusalNumberOf (reply .answer) ≡ 0 → length bytes ≡ 272) →
-    ValueWritten bytes (written (reply .engine) bytes) (reply .answer) number value bytesNow → Done bytes (bytesOf (reply .engine)) (reply .answer) number bytesNow
+    ValueWritten bytes (written (reply .engine) bytes) (reply .answer) number value bytesNow → NumberWritten bytes (bytesOf (reply .engine)) (reply .answer) number bytesNow
 done-whole bytes reply number value bytesNow h t =
     let s = value-written-whole bytes reply number value bytesNow h t in
     record { number-is = s .number-is; record-is = s .record-is }

@@ -59,7 +59,7 @@ pub record Pends (bytes : List ℕ) (client number value : ℕ) : Type 0 where
 -- ---- begin, pieces, cancel (02, 6)
 
 -- a call that answers nothing
-pub record Done (bytes after : List ℕ) (answer : Answer) (number : ℕ) (bytesNow : List ℕ) : Type 0 where
+pub record NumberWritten (bytes after : List ℕ) (answer : Answer) (number : ℕ) (bytesNow : List ℕ) : Type 0 where
   pub number-is : number ≡ refusalNumberOf answer
   pub record-is : bytesNow ≡ unlessRefused (refusalNumberOf answer) bytes after
 
@@ -67,12 +67,12 @@ pub record Done (bytes after : List ℕ) (answer : Answer) (number : ℕ) (bytes
 unfoldable pub Begins : (bytes ring : List ℕ) → (client total number : ℕ) → (bytesNow : List ℕ) → Type 0
 Begins bytes ring client total =
     let reply : Reply = beginResult (recordOf bytes) (length ring) client total in
-    Done bytes (bytesOf (reply .engine)) (reply .answer)
+    NumberWritten bytes (bytesOf (reply .engine)) (reply .answer)
 
 unfoldable pub Cancels : (bytes : List ℕ) → (client number : ℕ) → (bytesNow : List ℕ) → Type 0
 Cancels bytes client =
     let reply : Reply = cancelResult (recordOf bytes) client in
-    Done bytes (bytesOf (reply .engine)) (reply .answer)
+    NumberWritten bytes (bytesOf (reply .engine)) (reply .answer)
 
 -- a piece answers two numbers: 0 and the bytes still to come, or, of the last, 1 and the ticket
 pub record ProgressWritten (bytes after : List ℕ) (answer : Answer) (number : ℕ) (two bytesNow : List ℕ) : Type 0 where
@@ -91,7 +91,7 @@ pub record HandsOver (bytes ring : List ℕ) (client : ℕ) (piece : List ℕ) (
 pub record Closes (bytes memory : List ℕ) (client number : ℕ) (bytesNow memoryNow : List ℕ) : Type 0 where
   pub answered :
       let reply : Reply = closeResult (recordOf bytes) (length memory) client in
-      Done bytes (bytesOf (reply .engine)) (reply .answer) number bytesNow
+      NumberWritten bytes (bytesOf (reply .engine)) (reply .answer) number bytesNow
   pub memory-is : memoryNow ≡ closeMemory (recordOf bytes) memory client
 
 -- ---- run

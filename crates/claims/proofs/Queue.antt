@@ -29,7 +29,7 @@ use Rattle.model.proofs.Locality.{zero-local, zero-in}
 use Rattle.claims.specs.Engine.{State, mkState, performCall}
 use Rattle.claims.specs.Demand1.{refusalTableOf}
 use Rattle.claims.specs.Demand3.{finalState}
-use Rattle.claims.specs.Queue.{bytesSoFar, contents, Submitted, Begun, Continued, Finished, Cancelled, Taken, SameQueue, Opened, Closed, Queue, Promise}
+use Rattle.claims.specs.Queue.{bytesSoFar, contents, Submitted, Begun, Continued, Finished, Cancelled, Taken, SameQueue, Opened, Closed, Queue, QueueHolds}
 use Rattle.claims.proofs.Cases.{given, done, either, by-number}
 use Rattle.claims.proofs.SimulationRelation.{Sound, facts}
 use Rattle.claims.proofs.Pieces.{may, copied, filled, kept, come, whole, addable}
@@ -224,5 +224,5 @@ module _ (setup : Setup) (n : ℕ) (s : State) (S : Sound setup n s) where
     free = free-room (s .engine) (facts setup n s S) few;
   }
 
-pub promise : Promise
+pub promise : QueueHolds
 promise setup ring A calls memory = queue setup (length ring) (finalState setup ring calls memory) (at-end setup ring A calls memory .sound)

@@ -1,5 +1,5 @@
 -- The queue (01, "Engine, desks, queue"; 02, 6), of the engine after any list of calls from an accepted set up: where a batch is put, whole or by
--- pieces, which one run takes, and that the others wait on with their bytes. proofs/Queue.antt proves `Promise`, and
+-- pieces, which one run takes, and that the others wait on with their bytes. proofs/Queue.antt proves `QueueHolds`, and
 -- proofs/ClosedPlaces.antt `ClosedPlacesFree`.
 use mathlib.Core.Path.{_≡_}
 use mathlib.Core.Bool.{true, false}
@@ -165,5 +165,5 @@ pub record Queue (s : State) : Type 0 where
   -- "free ring bytes are the ring less the waiting lengths", the staged total among them (02, 6)
   pub free : freeBytes (s .engine) ≡ s .engine .setup .ring - (totalLength (waiting (s .engine)) + s .engine .staged .total)
 
-abbrev pub Promise : Type 0
-Promise = (setup : Setup) (ring : List ℕ) → SetUpAccepted setup → (calls : List Call) (memory : List ℕ) → Queue (finalState setup ring calls memory)
+abbrev pub QueueHolds : Type 0
+QueueHolds = (setup : Setup) (ring : List ℕ) → SetUpAccepted setup → (calls : List Call) (memory : List ℕ) → Queue (finalState setup ring calls memory)

@@ -115,12 +115,12 @@ fn with_client(engine: EngineRecord, id: usize, w: Window) -> EngineRecord
 }
 
 // Opens a client with a window.
-pub fn open(engine: EngineRecord, start: u32, length: u32) -> Reply
-    ensures { λ r. ⌜ r ≡ openResult engine (record { start = start; length = length }) ⌝ }
+pub fn open(engine: EngineRecord, start: u32, size: u32) -> Reply
+    ensures { λ r. ⌜ r ≡ openResult engine (record { start = start; length = size }) ⌝ }
 {
     let w = Window {
         start: start,
-        length: length,
+        length: size,
     };
     let number = open_refusal(engine, w);
     if number != 0 {

@@ -57,7 +57,7 @@ pub fn bank_for(engine: EngineRecord) -> Bank
 }
 
 // One batch fewer pending for a client.
-fn lower(clients: [Client; 4], client: u32) -> [Client; 4]
+fn lower_pending(clients: [Client; 4], client: u32) -> [Client; 4]
     requires { ⌜ (client < 4) × (1 ≤ getD clients client noClient .pending) ⌝ }
     ensures { λ r. ⌜ r ≡ pendingLowered clients client ⌝ }
 {
@@ -83,7 +83,7 @@ pub fn oldest_slot(engine: EngineRecord, ready: usize) -> usize
 }
 
 // The slots with one of them free.
-fn freed(slots: [Slot; 8], at: usize) -> [Slot; 8]
+fn with_slot_free(slots: [Slot; 8], at: usize) -> [Slot; 8]
     requires { ⌜ at < 8 ⌝ }
     ensures { λ r. ⌜ r ≡ set slots at free ⌝ }
 {
@@ -103,8 +103,8 @@ pub fn without_oldest(engine: EngineRecord, at: usize, batch: Batch) -> EngineRe
     let setup = engine.setup;
     let clients = engine.clients;
     let slots = engine.slots;
-    let fewer = lower(clients, batch.client);
-    let left = freed(slots, at);
+    let fewer = lower_pending(clients, batch.client);
+    let left = with_slot_free(slots, at);
     let mut after = engine;
     after.clients = fewer;
     after.slots = left;

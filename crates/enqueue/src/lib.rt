@@ -85,7 +85,7 @@ pub fn submit_refusal(
 }
 
 // One batch more pending for a client.
-fn raise(clients: [Client; 4], client: u32) -> [Client; 4]
+fn raise_pending(clients: [Client; 4], client: u32) -> [Client; 4]
     requires { ⌜ (client < 4) × (getD clients client noClient .pending ≤ 8) ⌝ }
     ensures { λ r. ⌜ r ≡ pendingRaised clients client ⌝ }
 {
@@ -102,7 +102,7 @@ fn raise(clients: [Client; 4], client: u32) -> [Client; 4]
 }
 
 // The batch in a slot.
-fn fill(slots: [Slot; 8], at: usize, batch: Batch) -> [Slot; 8]
+fn with_slot_ready(slots: [Slot; 8], at: usize, batch: Batch) -> [Slot; 8]
     requires { ⌜ at < 8 ⌝ }
     ensures { λ r. ⌜ r ≡ set slots at (readyWith batch) ⌝ }
 {
@@ -127,8 +127,8 @@ pub fn with_batch(engine: EngineRecord, at: usize, batch: Batch) -> EngineRecord
 {
     let clients = engine.clients;
     let slots = engine.slots;
-    let raised = raise(clients, batch.client);
-    let filled = fill(slots, at, batch);
+    let raised = raise_pending(clients, batch.client);
+    let filled = with_slot_ready(slots, at, batch);
     let mut after = engine;
     after.clients = raised;
     after.slots = filled;

@@ -23,7 +23,7 @@ use Rattle.records.specs.declared.Found.{Found}
 use Rattle.records.specs.declared.Found.the-variants.{Nothing, Record, BadVersion, BadRecord}
 use Rattle.records.specs.declared.Taken.{Taken}
 use Rattle.records.specs.Records.{Entry, File, records}
-use Rattle.records.specs.Reading.{fileAt, entryIn, onto, Ready, Takes}
+use Rattle.records.specs.Reading.{fileAt, entryIn, onto, ReaderReady, Takes}
 use Rattle.records.proofs.Onward.{ends-here}
 use Rattle.acceptance.proofs.Taken.{taken-facts, whole-words}
 use Rattle.lines.specs.Answered.{recordRefusal, replayWindow, countAfter}
@@ -37,7 +37,7 @@ use Rattle.provenance.specs.Drawn.{Drawn, numbered, drawnBy, drawnFrom}
 use Rattle.provenance.specs.Touched.{lastFrom, touchedBy}
 use Rattle.provenance.specs.Faulted.{explained, whyFrom, faultedBy}
 use Rattle.provenance.specs.Answers.{answerTouched, answerFault, touchedAnswer, faultAnswer}
-use Rattle.inquiry.specs.Inquiry.{findingAfter, findingFrom, nothingYet, Answers, answersOf, Stands, Feeds, findingNext, findingOn}
+use Rattle.inquiry.specs.Inquiry.{findingAfter, findingFrom, nothingYet, Answers, answersOf, Stands, InquiryFeedContract, findingNext, findingOn}
 
 -- ---- one record more
 
@@ -143,7 +143,7 @@ module _ (q : Question) where
 
   pub feeds-by : (seen held input held′ : List ℕ) (s : Inquiry) (t : Taken) (fed : FeedResult) (g : Finding) → g ≡ findingOn q (s .finding) (t .found) held′
       → fed ≡ record { inquiry = record { reader = t .reader; finding = g }; used = t .used }
-      → (Ready First (s .reader) held → Takes First (s .reader) held input t held′) → Stands q seen s held → Feeds q seen input fed held′
+      → (ReaderReady First (s .reader) held → Takes First (s .reader) held input t held′) → Stands q seen s held → InquiryFeedContract q seen input fed held′
   feeds-by seen held input held′ s t fed g g-is fed-is takes S =
       let T = takes (S .ready) in
       let bytes : List ℕ = take (t .used) input in
@@ -194,7 +194,7 @@ module _ (q : Question) (seen piece : List ℕ) (used : ℕ) (fed : FeedResult) 
   left-is : left ≡ drop used piece
   left-is = take-all (length piece - used) (drop used piece) (omega (arith, length-drop used piece))
 
-  pub piece-again : Feeds q (seen ++ take used piece) left fed held′ → Stands q (seen ++ take (used + fed .used) piece) (fed .inquiry) held′
+  pub piece-again : InquiryFeedContract q (seen ++ take used piece) left fed held′ → Stands q (seen ++ take (used + fed .used) piece) (fed .inquiry) held′
   piece-again F =
       let bytes : (seen ++ take used piece) ++ take (fed .used) left ≡ seen ++ take (used + fed .used) piece =
       append-assoc seen (take used piece) (take (fed .used) left)
@@ -202,7 +202,7 @@ module _ (q : Question) (seen piece : List ℕ) (used : ℕ) (fed : FeedResult) 
       ∙ ap (λ (xs : List ℕ). seen ++ xs) (sym (take-add used (fed .used) piece)) in
       subst (λ (xs : List ℕ). Stands q xs (fed .inquiry) held′) bytes (F .stands)
 
-  pub piece-some : used < length piece → Feeds q (seen ++ take used piece) left fed held′ → fed .used ≡ 0 → ⊥
+  pub piece-some : used < length piece → InquiryFeedContract q (seen ++ take used piece) left fed held′ → fed .used ≡ 0 → ⊥
   piece-some more F none = let some : 1 ≤ fed .used = F .some (rw left-is (omega (arith, length-drop used piece))) in omega arith
 
 pub piece-none : (q : Question) (seen piece : List ℕ) (s : Inquiry) (held : List ℕ) → Stands q seen s held → Stands q (seen ++ take 0 piece) s held

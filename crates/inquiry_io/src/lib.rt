@@ -2,7 +2,7 @@
 // or what it does with those that it is to write; that the inquiry stands for some bytes is proved, that the lent line holds the text of the
 // answer, and that as many bytes are handed over to be written.
 ghost use Rattle.answer_lines.specs.Lines.{touchedLine, faultLine, Types};
-ghost use Rattle.inquiry_io.specs.Reached.{Reached, Reads};
+ghost use Rattle.inquiry_io.specs.Reached.{Reached, ReachedUnlessFailed};
 use command::Printed;
 use inquiry::Inquiry;
 use inquiry::Question;
@@ -70,7 +70,7 @@ pub enum Asked {
 }
 
 pub fn ask(question: Question) -> Asked
-    ensures { λ r. ⌜ Reads question r ⌝ }
+    ensures { λ r. ⌜ ReachedUnlessFailed question r ⌝ }
 {
     let mut held = [0u8; 32773];
     let mut path = io::buffer();

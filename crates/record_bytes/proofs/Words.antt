@@ -9,7 +9,7 @@ use Rattle.word.specs.Word.{words}
 use Rattle.word.proofs.Words.{Below32, words-back-all}
 use Rattle.reset.specs.declared.ResetRule.{ResetRule}
 use Rattle.reset.specs.declared.ResetRule.the-variants.{Unblended, SrcOver}
-use Rattle.reset.specs.Reset.{numberOf}
+use Rattle.reset.specs.Reset.{resetNumberOf}
 use Rattle.engine_record.specs.declared.Client.{Client}
 use Rattle.engine_record.specs.declared.Slot.{Slot}
 use Rattle.engine_record.specs.declared.SlotState.{SlotState}
@@ -47,7 +47,7 @@ slot-at P n [] h i = n
 slot-at P n (s ∷ ss) h zero = h .0
 slot-at P n (s ∷ ss) h (suc i) = slot-at P n ss (h .1) i
 
-number-below : (rule : ResetRule) → numberOf rule < 2 ^ 32
+number-below : (rule : ResetRule) → resetNumberOf rule < 2 ^ 32
 number-below Unblended = zero-below
 number-below SrcOver = one-below
 

@@ -42,25 +42,25 @@ pub record Typed (r : EngineRecord) : Type 0 where
 
 -- ---- the other numbers fit in words too
 
-abbrev pub StateSmall : SlotState → Type 0
-StateSmall Free = Unit {0}
-StateSmall (Ready b) = (b .offset < 2 ^ 32) × (b .length < 2 ^ 32)
+abbrev pub SlotFitsWords : SlotState → Type 0
+SlotFitsWords Free = Unit {0}
+SlotFitsWords (Ready b) = (b .offset < 2 ^ 32) × (b .length < 2 ^ 32)
 
-pub record Small (r : EngineRecord) : Type 0 where
+pub record RecordFitsWords (r : EngineRecord) : Type 0 where
   pub ring : r .setup .ring < 2 ^ 32
   pub memory : r .setup .memory < 2 ^ 32
   pub common : r .setup .common < 2 ^ 32
   pub read-offset : r .«read_offset» < 2 ^ 32
-  pub slots : AllSlots StateSmall (r .slots)
+  pub slots : AllSlots SlotFitsWords (r .slots)
   pub staged : (r .staged .slot < 2 ^ 32) × (r .staged .total < 2 ^ 32) × (r .staged .received < 2 ^ 32)
 
 -- ---- the promises
 
 pub record RoundTrip (r : EngineRecord) : Type 0 where
   -- every record whose numbers fit
-  pub back : Typed r → Small r → recordOf (bytesOf r) ≡ r
+  pub back : Typed r → RecordFitsWords r → recordOf (bytesOf r) ≡ r
   -- those of a valid record do
-  pub fits : Typed r → valid r ≡ true → Small r
+  pub fits : Typed r → valid r ≡ true → RecordFitsWords r
 
 -- ---- the other way: what is taken for a record is the bytes of that record, so that one record has one form
 

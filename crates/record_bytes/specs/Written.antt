@@ -4,7 +4,7 @@ use mathlib.Core.List.{List, [], _∷_, _++_}
 use Prim.Native.Nat.{ℕ}
 use lib.ListN.{length, getD}
 use lib.Dec.{eqb}
-use Rattle.reset.specs.Reset.{numberOf}
+use Rattle.reset.specs.Reset.{resetNumberOf}
 use Rattle.word.specs.Word.{wordsBytes}
 use Rattle.engine_record.specs.declared.Client.{Client}
 use Rattle.engine_record.specs.declared.Batch.{Batch}
@@ -20,7 +20,7 @@ use Rattle.record_bytes.specs.declared.Row.{Row}
 use Rattle.record_bytes.specs.Layout.{low}
 
 abbrev pub headWords : EngineRecord → List ℕ
-headWords r = low (r .setup .ring) ∷ low (r .setup .memory) ∷ low (r .setup .common) ∷ numberOf (r .setup .reset) ∷ 0 ∷ low (r .«read_offset») ∷ r .«next_ticket» ∷ 0 ∷ []
+headWords r = low (r .setup .ring) ∷ low (r .setup .memory) ∷ low (r .setup .common) ∷ resetNumberOf (r .setup .reset) ∷ 0 ∷ low (r .«read_offset») ∷ r .«next_ticket» ∷ 0 ∷ []
 
 -- open or not
 abbrev pub flagOf : Bool → ℕ

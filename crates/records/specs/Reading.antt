@@ -45,15 +45,15 @@ onto BadRecord held rest = record { entries = rest .entries; ending = badRecord 
 -- ---- a reader that may go on
 
 -- how many bytes are missing to the next thing to decide
-unfoldable pub missing : Edition → List ℕ → ℕ
-missing edition bytes =
+unfoldable pub bytesWanted : Edition → List ℕ → ℕ
+bytesWanted edition bytes =
     cond (ltb (length bytes) 4) (4 - length bytes)
     (cond (badSize edition (lengthField bytes)) 0
     (4 + lengthField bytes - length bytes))
 
 abbrev pub Due : Edition → Stage → List ℕ → Type 0
 Due edition Version bytes = Unit {0}
-Due edition Records bytes = 0 < missing edition bytes
+Due edition Records bytes = 0 < bytesWanted edition bytes
 Due edition Ended bytes = Unit {0}
 
 -- the bytes of the longest record and of its length
@@ -62,7 +62,7 @@ roomOf First = 32773
 roomOf Second = 32777
 
 -- the longest record and its length have room, and nothing that could be decided is left undecided
-pub record Ready (edition : Edition) (r : Reader) (held : List ℕ) : Type 0 where
+pub record ReaderReady (edition : Edition) (r : Reader) (held : List ℕ) : Type 0 where
   pub room : roomOf edition ≤ length held
   pub few : r .buffered < roomOf edition
   pub due : Due edition (r .stage) (take (r .buffered) held)
@@ -70,17 +70,17 @@ pub record Ready (edition : Edition) (r : Reader) (held : List ℕ) : Type 0 whe
 -- ---- one step
 
 -- a file that ended so is not looked at any more
-abbrev pub Over : Found → Stage → Type 0
-Over Nothing stage = Unit {0}
-Over (Record end) stage = Unit {0}
-Over BadVersion stage = stage ≡ Ended
-Over BadRecord stage = stage ≡ Ended
+abbrev pub EndedIfBad : Found → Stage → Type 0
+EndedIfBad Nothing stage = Unit {0}
+EndedIfBad (Record end) stage = Unit {0}
+EndedIfBad BadVersion stage = stage ≡ Ended
+EndedIfBad BadRecord stage = stage ≡ Ended
 
 pub record Takes (edition : Edition) (r : Reader) (held input : List ℕ) (t : Taken) (held′ : List ℕ) : Type 0 where
   -- the bytes that it used, whatever follows them
   pub file : (rest : List ℕ) → fileAt edition r held (take (t .used) input ++ rest) ≡ onto (t .found) held′ (fileAt edition (t .reader) held′ rest)
-  pub over : Over (t .found) (t .reader .stage)
-  pub ready : Ready edition (t .reader) held′
+  pub over : EndedIfBad (t .found) (t .reader .stage)
+  pub ready : ReaderReady edition (t .reader) held′
   pub some : 1 ≤ length input → 1 ≤ t .used
 
 -- Internal: where the batch begins in the buffer: behind the length and the client, and in edition 2 behind the score
@@ -106,14 +106,14 @@ endingAt Ended have = whole
 
 -- what comes of the bytes of a record that are there
 
-abbrev pub undecided : (have used : ℕ) → Taken
-undecided have used = record { reader = record { stage = Records; buffered = have }; used = used; found = Nothing }
+abbrev pub waitForMore : (have used : ℕ) → Taken
+waitForMore have used = record { reader = record { stage = Records; buffered = have }; used = used; found = Nothing }
 
-unfoldable pub decided : Edition → List ℕ → (used : ℕ) → Taken
-decided edition bytes used =
-    cond (ltb (length bytes) 4) (undecided (length bytes) used)
+unfoldable pub afterRecordBytes : Edition → List ℕ → (used : ℕ) → Taken
+afterRecordBytes edition bytes used =
+    cond (ltb (length bytes) 4) (waitForMore (length bytes) used)
     (cond (badSize edition (lengthField bytes)) (record { reader = record { stage = Ended; buffered = 0 }; used = used; found = BadRecord })
-    (cond (ltb (length bytes) (4 + lengthField bytes)) (undecided (length bytes) used)
+    (cond (ltb (length bytes) (4 + lengthField bytes)) (waitForMore (length bytes) used)
     (record { reader = record { stage = Records; buffered = 0 }; used = used; found = Record (4 + lengthField bytes) })))
 
 abbrev pub versionTaken : Edition → (version : ℕ) → Taken
@@ -128,11 +128,11 @@ nothingTaken r used = record { reader = r; used = used; found = Nothing }
 -- the bytes that it keeps behind those of an unfinished record
 abbrev pub keptIn : Edition → Stage → (bytes input : List ℕ) → List ℕ
 keptIn edition Version bytes input = []
-keptIn edition Records bytes input = take (missing edition bytes) input
+keptIn edition Records bytes input = take (bytesWanted edition bytes) input
 keptIn edition Ended bytes input = []
 
 abbrev pub recordTaken : Edition → (bytes input : List ℕ) → Taken
-recordTaken edition bytes input = decided edition (bytes ++ keptIn edition Records bytes input) (length (keptIn edition Records bytes input))
+recordTaken edition bytes input = afterRecordBytes edition (bytes ++ keptIn edition Records bytes input) (length (keptIn edition Records bytes input))
 
 -- after the end of the file all input is used up
 abbrev pub takenIn : Edition → Stage → Reader → (bytes input : List ℕ) → Taken

@@ -19,7 +19,7 @@ use Rattle.records.specs.declared.Found.{Found}
 use Rattle.records.specs.declared.Found.the-variants.{Nothing, Record as OneRecord, BadVersion, BadRecord}
 use Rattle.records.specs.declared.Taken.{Taken}
 use Rattle.records.specs.Records.{Entry, File, records}
-use Rattle.records.specs.Reading.{roomOf, entryIn, fileIn, fileAt, onto, Over, Ready, Takes, endingAt}
+use Rattle.records.specs.Reading.{roomOf, entryIn, fileIn, fileAt, onto, EndedIfBad, ReaderReady, Takes, endingAt}
 use Rattle.records.proofs.Bytes.{room-between}
 use Rattle.records.proofs.Onward.{file-ends, ends-here}
 use Rattle.editions.specs.Editions.{scoreHolds, submission, scored, submissions}
@@ -51,7 +51,7 @@ more-left Second entry entries s = go (scoreHolds Second entry) refl
     go false e = rw e
 
 module _ (edition : Edition) where
-  found-prints : (found : Found) (g : Stage) (bytes held rest : List ℕ) (s : State) → Over found g
+  found-prints : (found : Found) (g : Stage) (bytes held rest : List ℕ) (s : State) → EndedIfBad found g
       → linesFrom edition s (onto found held (fileIn edition g bytes rest)) ≡ foundText edition found held s ++ linesFrom edition (foundState edition found held s) (fileIn edition g bytes rest)
   unfolding printedFrom endingLine
   found-prints Nothing g bytes held rest s over = refl

@@ -12,7 +12,7 @@ use Rattle.records.specs.declared.Found.{Found}
 use Rattle.records.specs.declared.Found.the-variants.{Nothing, Record, BadVersion, BadRecord}
 use Rattle.records.specs.declared.Taken.{Taken}
 use Rattle.records.specs.Records.{badVersion, badRecord}
-use Rattle.records.specs.Reading.{entryIn, Ready, Takes, endingAt, nothingTaken, takenBy, heldAfter}
+use Rattle.records.specs.Reading.{entryIn, ReaderReady, Takes, endingAt, nothingTaken, takenBy, heldAfter}
 use Rattle.lines.specs.Lines.{endingLine, recordLine, recordAfter, replayStart}
 use Rattle.replay.specs.declared.Replay.{Replay}
 use Rattle.replay.specs.declared.FeedResult.{FeedResult}
@@ -59,7 +59,7 @@ pub record FeedContract (r : Replay) (held ring memory input line : List ℕ) (f
   pub prints : Prints (foundText (r .edition) (fedStep r held input line .found) held′ (stateOf r ring memory)) line (f .written) line′
   -- so the file goes on from there, whatever follows
   pub within : f .used ≤ length input
-  pub takes : 128 ≤ length line → Ready (r .edition) (r .reader) held → Takes (r .edition) (r .reader) held input (fedStep r held input line) held′
+  pub takes : 128 ≤ length line → ReaderReady (r .edition) (r .reader) held → Takes (r .edition) (r .reader) held input (fedStep r held input line) held′
 
 -- ---- finish
 

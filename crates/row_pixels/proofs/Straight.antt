@@ -15,7 +15,7 @@ use Rattle.surface.specs.declared.Surface.{Surface}
 use Rattle.surface.proofs.Outside.{row-in-span}
 use Rattle.register.specs.Size.{sizeOf}
 use Rattle.row_pixels.specs.Row.{sourcePixelOf}
-use Rattle.row_pixels.specs.Strided.{isStraight}
+use Rattle.row_pixels.specs.Strided.{isIdentityRow}
 
 -- the source pixel of an output pixel is one of the surface's
 pub point-within : (s : Surface) (t : Transform) (x y : ℕ) → InPicture (rotatedSize (t .rotation) (sizeOf s)) (record { x = x; y = y }) → InPicture (sizeOf s) (sourcePixelOf s t x y)
@@ -54,10 +54,10 @@ module _ (s : Surface) (t : Transform) (upright : t .rotation ≡ Rotate0) (kept
       rw (upright, kept)
       (omega (arith, row-in-span s z (mirrored-below (t .flip .vertical) (s .height) y u), mul-le-mul-right (bytesPerPixel (s .format)) w))
 
-pub straight : (t : Transform) → isStraight (t .rotation) (t .flip) ≡ true → (t .rotation ≡ Rotate0) × (t .flip .horizontal ≡ false)
+pub straight : (t : Transform) → isIdentityRow (t .rotation) (t .flip) ≡ true → (t .rotation ≡ Rotate0) × (t .flip .horizontal ≡ false)
 straight t e = go (t .rotation) (t .flip .horizontal) e
   where
-    go : (r : Rotation) (h : Bool) → isStraight r (record { horizontal = h; vertical = t .flip .vertical }) ≡ true → (r ≡ Rotate0) × (h ≡ false)
+    go : (r : Rotation) (h : Bool) → isIdentityRow r (record { horizontal = h; vertical = t .flip .vertical }) ≡ true → (r ≡ Rotate0) × (h ≡ false)
     go Rotate0 false e = (refl, refl)
     go Rotate0 true e = absurd (false≢true e)
     go Rotate90 h e = absurd (false≢true e)

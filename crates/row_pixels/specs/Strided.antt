@@ -37,8 +37,8 @@ pub record StridedFetchInBounds (memory buffer : List ℕ) (start step : ℕ) (b
   pub room : width * 4 ≤ length buffer
 
 -- output rows are rows of the source, in the same order of pixels
-abbrev pub isStraight : Rotation → Flip → Bool
-isStraight Rotate0 f = not (f .horizontal)
-isStraight Rotate90 f = false
-isStraight Rotate180 f = false
-isStraight Rotate270 f = false
+abbrev pub isIdentityRow : Rotation → Flip → Bool
+isIdentityRow Rotate0 f = not (f .horizontal)
+isIdentityRow Rotate90 f = false
+isIdentityRow Rotate180 f = false
+isIdentityRow Rotate270 f = false

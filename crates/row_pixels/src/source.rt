@@ -6,7 +6,7 @@ ghost use Rattle.transform.specs.Transform.{InPicture, rotatedSize};
 ghost use Rattle.surface.specs.Surface.{pixelStart};
 ghost use Rattle.register.specs.Size.{sizeOf};
 ghost use Rattle.row_pixels.specs.Row.{sourcePixelOf};
-ghost use Rattle.row_pixels.specs.Strided.{stridedAddress, pixelStride, isReversed, isStraight};
+ghost use Rattle.row_pixels.specs.Strided.{stridedAddress, pixelStride, isReversed, isIdentityRow};
 use surface::Surface;
 use transform::Point;
 use transform::Rotation;
@@ -37,7 +37,7 @@ pub fn origin(s: Surface, transform: Transform, x: usize, y: usize) -> usize
 
 // Whether output rows are rows of the source, in the same order of pixels.
 pub fn is_identity_row(transform: Transform) -> bool
-    ensures { λ r. ⌜ r ≡ isStraight (transform .rotation) (transform .flip) ⌝ }
+    ensures { λ r. ⌜ r ≡ isIdentityRow (transform .rotation) (transform .flip) ⌝ }
 {
     let flip = transform.flip;
     let rotation = transform.rotation;

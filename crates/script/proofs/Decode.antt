@@ -8,7 +8,7 @@ use lib.Seq.{drop-drop, take-append-seam, drop-append-seam}
 use Rattle.word.specs.Word.{AllBytes, byteOf, le32At, leBytes}
 use Rattle.word.proofs.Words.{le32-bytes}
 use Rattle.model.specs.Calls.{Call, opens, submit, run, pending, begin, piece, cancel, close}
-use Rattle.script.specs.Script.{parsed, parseCall, decode, encodeOne, encode, CallFits, CallsFit, EncodeDecodeRoundTrip}
+use Rattle.script.specs.Script.{parsed, parseCall, decode, encodeOne, encode, CallFits, CallsFit, ScriptRoundTrip}
 use Rattle.script.proofs.Parsing.{open-long, bytes-long, client-long, begin-long, next-open, next-submit, next-pending, next-begin, next-piece, next-cancel, next-close}
 
 -- bytes that begin with a call's
@@ -74,5 +74,5 @@ unfolding encode
 calls-bytes [] fits = tt
 calls-bytes (call ∷ calls) fits = all-append (encodeOne call) (encode calls) (call-bytes call (fits .0)) (calls-bytes calls (fits .1))
 
-pub decodes : (calls : List Call) → CallsFit calls → EncodeDecodeRoundTrip calls
+pub decodes : (calls : List Call) → CallsFit calls → ScriptRoundTrip calls
 decodes calls fits = record { bytes = calls-bytes calls fits; back = decode-encode calls fits }

@@ -14,7 +14,7 @@ use Rattle.script.specs.Script.{Parsed, ended, parsed}
 
 -- a batch or a piece is the bytes `from` to `to`
 abbrev pub callOf : List ℕ → Request → Call
-callOf bytes (Open start length) = opens (record { start = start; length = length })
+callOf bytes (Open start size) = opens (record { start = start; length = size })
 callOf bytes (Submit client from to) = submit client (take (to - from) (drop from bytes))
 callOf bytes Run = run
 callOf bytes (Pending client) = pending client
@@ -36,7 +36,7 @@ requestOf CloseOf client = Close client
 
 -- these bytes lie inside the script
 abbrev pub BatchInBounds : (size : ℕ) → Request → Type 0
-BatchInBounds size (Open start length) = Unit {0}
+BatchInBounds size (Open start bytes) = Unit {0}
 BatchInBounds size (Submit client from to) = (from ≤ to) × (to ≤ size)
 BatchInBounds size Run = Unit {0}
 BatchInBounds size (Pending client) = Unit {0}

@@ -105,6 +105,6 @@ CallsFit [] = Unit {0}
 CallsFit (call ∷ calls) = CallFits call × CallsFit calls
 
 -- The promise: every list of calls whose numbers fit has a script that is decoded to it. proofs/Decode.antt proves it.
-pub record EncodeDecodeRoundTrip (calls : List Call) : Type 0 where
+pub record ScriptRoundTrip (calls : List Call) : Type 0 where
   pub bytes : AllBytes (encode calls)
   pub back : (n : ℕ) → length calls ≤ n → decode n (encode calls) ≡ calls

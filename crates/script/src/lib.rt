@@ -43,9 +43,9 @@ fn open_in(bytes: &[u8]) -> ParseResult
         return ParseResult::End;
     }
     let start = word::read_le32(bytes, 1);
-    let length = word::read_le32(bytes, 5);
+    let size = word::read_le32(bytes, 5);
     ParseResult::Call(ParsedCall {
-        request: Request::Open(start, length),
+        request: Request::Open(start, size),
         size: 9,
     })
 }

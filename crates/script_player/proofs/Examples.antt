@@ -3,7 +3,7 @@ use mathlib.Core.Path.{_≡_, refl}
 use mathlib.Core.List.{[], _∷_}
 use Rattle.word.specs.Word.{byteOf, leBytes, wordsBytes}
 use Rattle.model.specs.Calls.{run, piece, accepted, completed, missing, refused}
-use Rattle.script_player.specs.Answers.{plainWords, pieceWords, answerBytes}
+use Rattle.script_player.specs.Answers.{plainWords, pieceAnswerWords, answerBytes}
 
 -- a completion, and a refusal
 answered :
@@ -18,5 +18,5 @@ pieces :
     answerBytes (piece 0 [] ∷ piece 0 [] ∷ []) (missing 7 ∷ accepted 3 ∷ [])
     ≡ 0 ∷ 0 ∷ 0 ∷ 0 ∷ 0 ∷ 0 ∷ 0 ∷ 0 ∷ 7 ∷ 0 ∷ 0 ∷ 0 ∷ 0 ∷ 0 ∷ 0 ∷ 0 ∷ 0 ∷ 0 ∷ 0 ∷ 0 ∷ 0 ∷ 0 ∷ 0 ∷ 0
     ∷ 0 ∷ 0 ∷ 0 ∷ 0 ∷ 1 ∷ 0 ∷ 0 ∷ 0 ∷ 3 ∷ 0 ∷ 0 ∷ 0 ∷ 0 ∷ 0 ∷ 0 ∷ 0 ∷ 0 ∷ 0 ∷ 0 ∷ 0 ∷ 0 ∷ 0 ∷ 0 ∷ 0 ∷ []
-unfolding answerBytes pieceWords wordsBytes leBytes byteOf
+unfolding answerBytes pieceAnswerWords wordsBytes leBytes byteOf
 pieces = refl

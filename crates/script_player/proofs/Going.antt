@@ -16,7 +16,7 @@ use Rattle.script.specs.declared.ParseResult.{ParseResult}
 use Rattle.script.specs.declared.ParseResult.the-variants.{End, Call as Begins}
 use Rattle.script.specs.Script.{parsed, parseCall, decode}
 use Rattle.script.specs.Parsing.{callOf, ParsesAs}
-use Rattle.script_player.specs.Answers.{plainWords, pieceWords, answerWords, answerBytes}
+use Rattle.script_player.specs.Answers.{plainWords, pieceAnswerWords, answerWords, answerBytes}
 use Rattle.script_player.specs.Contracts.{CallMatches, CallsMatch}
 
 -- ---- an answer has six words
@@ -31,8 +31,8 @@ plain-six (missing n) = refl
 plain-six done = refl
 plain-six (refused n) = refl
 
-piece-six : (a : Answer) → length (pieceWords a) ≡ 6
-unfolding pieceWords plainWords
+piece-six : (a : Answer) → length (pieceAnswerWords a) ≡ 6
+unfolding pieceAnswerWords plainWords
 piece-six (opened c) = refl
 piece-six (accepted t) = refl
 piece-six (completed c t v) = refl

@@ -10,8 +10,8 @@ use Rattle.engine.specs.declared.Outcome.the-variants.{Refused, Completed}
 use Rattle.engine.specs.Outcome.{runRefusalOf as refusalOf, valuesOf}
 use Rattle.model.specs.Calls.{Answer, done}
 use Rattle.claims.specs.Engine.{answerOrRefusal, modelAnswerOf, completion}
-use Rattle.answers.specs.Answers.{shortAnswer, pieceWords as twoWords, outcomeWords}
-use Rattle.script_player.specs.Answers.{plainWords, pieceWords}
+use Rattle.answers.specs.Answers.{shortAnswer, pieceWords, runWords}
+use Rattle.script_player.specs.Answers.{plainWords, pieceAnswerWords}
 
 -- an answer of one number
 pub value-words : (a : QueueAnswer) (f : ℕ → Answer) → ((v : ℕ) → plainWords (f v) ≡ shortAnswer 0 v) → plainWords (answerOrRefusal (refusalNumberOf a) (f (valueOf a))) ≡ shortAnswer (refusalNumberOf a) (valueOf a)
@@ -32,15 +32,15 @@ silent-words (suc n) = refl
 
 -- a piece's two
 pub two-words : (n : ℕ) (b : Bool) (ticket left : ℕ) →
-    pieceWords (answerOrRefusal (refusalNumberOf (answerUnlessRefused n (cond b (Accepted ticket) (Missing left)))) (modelAnswerOf (answerUnlessRefused n (cond b (Accepted ticket) (Missing left)))))
-    ≡ twoWords (answerUnlessRefused n (cond b (Accepted ticket) (Missing left)))
-unfolding plainWords pieceWords answerOrRefusal answerUnlessRefused
+    pieceAnswerWords (answerOrRefusal (refusalNumberOf (answerUnlessRefused n (cond b (Accepted ticket) (Missing left)))) (modelAnswerOf (answerUnlessRefused n (cond b (Accepted ticket) (Missing left)))))
+    ≡ pieceWords (answerUnlessRefused n (cond b (Accepted ticket) (Missing left)))
+unfolding plainWords pieceAnswerWords answerOrRefusal answerUnlessRefused
 two-words zero true ticket left = refl
 two-words zero false ticket left = refl
 two-words (suc n) b ticket left = refl
 
 -- run's
-pub run-words : (o : Outcome) → plainWords (answerOrRefusal (refusalOf o) (completion (valuesOf o))) ≡ outcomeWords o
+pub run-words : (o : Outcome) → plainWords (answerOrRefusal (refusalOf o) (completion (valuesOf o))) ≡ runWords o
 unfolding plainWords answerOrRefusal
 run-words (Refused zero) = refl
 run-words (Refused (suc n)) = refl

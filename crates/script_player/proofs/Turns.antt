@@ -13,7 +13,7 @@ use Rattle.queue.specs.Calls.{openResult, submitResult, submitRing, beginResult
 use Rattle.engine.specs.declared.RunResult.{RunResult}
 use Rattle.engine.specs.Run.{runResult, runMemory}
 use Rattle.engine.specs.Close.{closeMemory}
-use Rattle.answers.specs.Answers.{shortAnswer, pieceWords as twoWords, outcomeWords}
+use Rattle.answers.specs.Answers.{shortAnswer, pieceWords, runWords}
 use Rattle.model.specs.Calls.{opens, submit, run, pending, begin, piece, cancel, close, opened, accepted, ready}
 use Rattle.claims.specs.Engine.{mkState, performCall}
 use Rattle.script.specs.declared.Request.{Request}
@@ -56,7 +56,7 @@ module _ (engine : EngineRecord) (ring memory : List ℕ) where
   submit-plays client batch r words ring′ after e q w g = record { answer = rw (← e) (w ∙ sym (value-words (r .answer) accepted accepted-words)); state = rw (g, e, q) }
 
   pub run-plays : (r : RunResult) (words memory′ : List ℕ) (after : EngineRecord) → r ≡ runResult engine ring memory → memory′ ≡ runMemory engine ring memory →
-      words ≡ outcomeWords (r .outcome) → after ≡ r .engine →
+      words ≡ runWords (r .outcome) → after ≡ r .engine →
       CallMatches run (mkState engine ring memory) (mkState after ring memory′) words
   unfolding performCall
   run-plays r words memory′ after e q w g = record { answer = rw (← e) (w ∙ sym (run-words (r .outcome))); state = rw (g, e, q) }
@@ -68,7 +68,7 @@ module _ (engine : EngineRecord) (ring memory : List ℕ) where
   begin-plays client total r words after e w g = record { answer = w ∙ rw e (sym (silent-words (firstRefusal (submitTable engine (length ring) client total)))); state = rw (g, e) }
 
   pub piece-plays : (client : ℕ) (bytes : List ℕ) (r : Reply) (words ring′ : List ℕ) (after : EngineRecord) → r ≡ pieceResult engine ring client bytes →
-      ring′ ≡ pieceRing engine ring client bytes → words ≡ twoWords (r .answer) → after ≡ r .engine →
+      ring′ ≡ pieceRing engine ring client bytes → words ≡ pieceWords (r .answer) → after ≡ r .engine →
       CallMatches (piece client bytes) (mkState engine ring memory) (mkState after ring′ memory) words
   unfolding performCall pieceResult
   piece-plays client bytes r words ring′ after e q w g = record {

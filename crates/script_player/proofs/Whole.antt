@@ -33,7 +33,7 @@ use Rattle.script.specs.Script.{decode}
 use Rattle.answers.specs.Answers.{shortAnswer}
 use Rattle.script_player.specs.Answers.{answerBytes}
 use Rattle.script_player.specs.Contracts.{CallsMatch}
-use Rattle.script_player.specs.Played.{setUpNumber, playedCalls, answerOutput, memoryAfter, ringAfter, ScriptResult}
+use Rattle.script_player.specs.Played.{setUpRefusalOf, playedCalls, answerOutput, memoryAfter, ringAfter, ScriptResult}
 use Rattle.script_player.proofs.Going.{rest-is, decode-none}
 
 -- ---- set up's own answer
@@ -48,7 +48,7 @@ unfolding setUpResult
 set-up-value ring memory common reset = value-set (firstRefusal (setUpTable (record { ring = ring; memory = memory; common = common; reset = reset })))
 
 pub set-up-words : (setup : Setup) (r : Reply) (words : List ℕ) → r ≡ setUpResult (setup .ring) (setup .memory) (setup .common) (setup .reset) →
-    words ≡ shortAnswer (refusalNumberOf (r .answer)) (valueOf (r .answer)) → words ≡ shortAnswer (setUpNumber setup) 0
+    words ≡ shortAnswer (refusalNumberOf (r .answer)) (valueOf (r .answer)) → words ≡ shortAnswer (setUpRefusalOf setup) 0
 set-up-words setup r words e w = w ∙ rw (e, set-up-value (setup .ring) (setup .memory) (setup .common) (setup .reset), set-up-number (numbersIn setup))
 
 -- ---- no call is played
@@ -69,7 +69,7 @@ module _ (setup : Setup) (ring memory script buffer : List ℕ) where
 
   none-short : length buffer < 24 → playedCalls setup (length buffer) script ≡ []
   unfolding playedCalls
-  none-short h = rw (decode-none (length buffer / 24 - 1) script (omega arith)) (same (eqb (setUpNumber setup) 0))
+  none-short h = rw (decode-none (length buffer / 24 - 1) script (omega arith)) (same (eqb (setUpRefusalOf setup) 0))
     where
       same : (t : Bool) → _≡_ {A = List Call} (cond t [] []) []
       same true = refl
@@ -84,16 +84,16 @@ module _ (setup : Setup) (ring memory script buffer : List ℕ) where
       record { returned = rw t; bytes = rw t; memory-end = n .0; ring-end = n .1 }
 
   -- set up is refused
-  pub played-refused : (words after : List ℕ) → 24 ≤ length buffer → words ≡ shortAnswer (setUpNumber setup) 0 → (getD words 0 0 ≡ 0 → ⊥) → after ≡ spliced 0 (wordsBytes words) buffer →
+  pub played-refused : (words after : List ℕ) → 24 ≤ length buffer → words ≡ shortAnswer (setUpRefusalOf setup) 0 → (getD words 0 0 ≡ 0 → ⊥) → after ≡ spliced 0 (wordsBytes words) buffer →
       ScriptResult setup ring memory script buffer 24 ring memory after
   unfolding answerOutput playedCalls answers answerBytes spliced
   played-refused words after room w bad e =
       let t = le-ltb (length buffer) 24 room in
-      let number : setUpNumber setup ≡ 0 → ⊥ = rw w at bad in
-      let f = ne-eqb (setUpNumber setup) 0 number in
+      let number : setUpRefusalOf setup ≡ 0 → ⊥ = rw w at bad in
+      let f = ne-eqb (setUpRefusalOf setup) 0 number in
       let n = nothing (rw f) in
       let from : 0 + length (wordsBytes words) ≡ length (wordsBytes words) = omega arith in
-      let long : length (wordsBytes (shortAnswer (setUpNumber setup) 0)) ≡ 24 = length-bytes (shortAnswer (setUpNumber setup) 0) in
+      let long : length (wordsBytes (shortAnswer (setUpRefusalOf setup) 0)) ≡ 24 = length-bytes (shortAnswer (setUpRefusalOf setup) 0) in
       record {
         returned = rw (t, f, append-nil) (sym long);
         bytes = e ∙ rw (from, t, f, append-nil, w);
@@ -103,7 +103,7 @@ module _ (setup : Setup) (ring memory script buffer : List ℕ) where
 
 -- ---- the calls are played
 
-module _ (setup : Setup) (ring memory script buffer : List ℕ) (room : 24 ≤ length buffer) (ok : setUpNumber setup ≡ 0) where
+module _ (setup : Setup) (ring memory script buffer : List ℕ) (room : 24 ≤ length buffer) (ok : setUpRefusalOf setup ≡ 0) where
   accepted : SetUpAccepted setup
   accepted = set-up-number (numbersIn setup) ∙ ok
 
@@ -111,7 +111,7 @@ module _ (setup : Setup) (ring memory script buffer : List ℕ) (room : 24 ≤ l
   unfolding playedCalls
   played-are =
       let left : length buffer / 24 - 1 ≡ length (drop 24 buffer) / 24 = rw length-drop (omega arith) in
-      rw (eq-eqb (setUpNumber setup) 0 ok, left)
+      rw (eq-eqb (setUpRefusalOf setup) 0 ok, left)
 
   -- what is written, in the engine's answers
   output-words : answerOutput setup ring memory script buffer ≡ wordsBytes (shortAnswer 0 0) ++ answerBytes (decode (length (drop 24 buffer) / 24) script) (answersOf (decode (length (drop 24 buffer) / 24) script) (initialState setup ring memory))
@@ -138,7 +138,7 @@ module _ (setup : Setup) (ring memory script buffer : List ℕ) (room : 24 ≤ l
 
   -- the same in the code's values: the buffer `answered` after set up's answer, and the part of it after that, which is lent
   pub played-done : (words answerUnlessRefused : List ℕ) (r : Reply) (count : ℕ) (ring′ memory′ rest′ : List ℕ) → r ≡ setUpResult (setup .ring) (setup .memory) (setup .common) (setup .reset) →
-      words ≡ shortAnswer (setUpNumber setup) 0 → answerUnlessRefused ≡ spliced 0 (wordsBytes words) buffer →
+      words ≡ shortAnswer (setUpRefusalOf setup) 0 → answerUnlessRefused ≡ spliced 0 (wordsBytes words) buffer →
       CallsMatch (decode (length (take (length answerUnlessRefused - 24) (drop 24 answerUnlessRefused)) / 24) script) (mkState (r .engine) ring memory) (take (length answerUnlessRefused - 24) (drop 24 answerUnlessRefused)) count ring′ memory′ rest′ →
       ScriptResult setup ring memory script buffer (24 + count) ring′ memory′ (putMid 24 (length answerUnlessRefused - 24) answerUnlessRefused rest′)
   played-done words answerUnlessRefused r count ring′ memory′ rest′ e w a P =

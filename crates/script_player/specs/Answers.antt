@@ -15,14 +15,14 @@ plainWords done = shortAnswer 0 0
 plainWords (refused number) = shortAnswer number 0
 
 -- a piece: 0 and the bytes still to come, or, of the last, 1 and the ticket (02, 6)
-unfoldable pub pieceWords : Answer → List ℕ
-pieceWords (opened client) = plainWords (opened client)
-pieceWords (accepted ticket) = 0 ∷ 1 ∷ ticket ∷ 0 ∷ 0 ∷ 0 ∷ []
-pieceWords (completed client ticket v) = plainWords (completed client ticket v)
-pieceWords (ready count) = plainWords (ready count)
-pieceWords (missing bytes) = 0 ∷ 0 ∷ bytes ∷ 0 ∷ 0 ∷ 0 ∷ []
-pieceWords done = plainWords done
-pieceWords (refused number) = plainWords (refused number)
+unfoldable pub pieceAnswerWords : Answer → List ℕ
+pieceAnswerWords (opened client) = plainWords (opened client)
+pieceAnswerWords (accepted ticket) = 0 ∷ 1 ∷ ticket ∷ 0 ∷ 0 ∷ 0 ∷ []
+pieceAnswerWords (completed client ticket v) = plainWords (completed client ticket v)
+pieceAnswerWords (ready count) = plainWords (ready count)
+pieceAnswerWords (missing bytes) = 0 ∷ 0 ∷ bytes ∷ 0 ∷ 0 ∷ 0 ∷ []
+pieceAnswerWords done = plainWords done
+pieceAnswerWords (refused number) = plainWords (refused number)
 
 -- what a call is answered
 abbrev pub answerWords : Call → Answer → List ℕ
@@ -31,7 +31,7 @@ answerWords (submit client bytes) = plainWords
 answerWords run = plainWords
 answerWords (pending client) = plainWords
 answerWords (begin client total) = plainWords
-answerWords (piece client bytes) = pieceWords
+answerWords (piece client bytes) = pieceAnswerWords
 answerWords (cancel client) = plainWords
 answerWords (close client) = plainWords
 

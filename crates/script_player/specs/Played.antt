@@ -18,13 +18,13 @@ use Rattle.script.specs.Script.{decode}
 use Rattle.script_player.specs.Answers.{answerBytes}
 
 -- what set up is refused with, 0 if it is accepted
-abbrev pub setUpNumber : Setup → ℕ
-setUpNumber setup = firstRefusal (setUpTable (record { ring = setup .ring; memory = setup .memory; common = setup .common; reset = setup .reset }))
+abbrev pub setUpRefusalOf : Setup → ℕ
+setUpRefusalOf setup = firstRefusal (setUpTable (record { ring = setup .ring; memory = setup .memory; common = setup .common; reset = setup .reset }))
 
 -- The calls that are played, in a buffer of `room` bytes. An answer has 24 bytes; of n + 1 answers that fit, the first is set up's own, and
 -- n are left for calls. A call whose answer would not fit is not played. If set up is refused, no call is.
 unfoldable pub playedCalls : Setup → (room : ℕ) → (script : List ℕ) → List Call
-playedCalls setup room script = cond (eqb (setUpNumber setup) 0) (decode (room / 24 - 1) script) []
+playedCalls setup room script = cond (eqb (setUpRefusalOf setup) 0) (decode (room / 24 - 1) script) []
 
 module _ (setup : Setup) (ring memory script buffer : List ℕ) where
   abbrev pub played : List Call
@@ -34,7 +34,7 @@ module _ (setup : Setup) (ring memory script buffer : List ℕ) where
   unfoldable pub answerOutput : List ℕ
   answerOutput =
       cond (ltb (length buffer) 24) []
-      (wordsBytes (shortAnswer (setUpNumber setup) 0) ++ answerBytes played (answers (batchSemantics setup) setup (length ring) played (initialModel memory)))
+      (wordsBytes (shortAnswer (setUpRefusalOf setup) 0) ++ answerBytes played (answers (batchSemantics setup) setup (length ring) played (initialModel memory)))
 
   -- memory after it is the model's
   unfoldable pub memoryAfter : List ℕ

@@ -5,7 +5,7 @@ ghost use mathlib.Core.Path.{_≡_};
 ghost use Prim.Native.Nat.{_/_};
 ghost use lib.ListN.{length};
 ghost use Rattle.queue.specs.Answers.{refusalNumberOf, valueOf};
-ghost use Rattle.answers.specs.Answers.{shortAnswer, pieceWords, outcomeWords, Small};
+ghost use Rattle.answers.specs.Answers.{shortAnswer, pieceWords, runWords, OutcomeFitsWords};
 ghost use Rattle.claims.specs.Engine.{mkState};
 ghost use Rattle.script.specs.Script.{decode};
 ghost use Rattle.script.specs.Parsing.{callOf, BatchInBounds};
@@ -47,13 +47,13 @@ fn step_of_piece(reply: Reply) -> CallOutput
 }
 
 fn step_of_run(ran: RunResult) -> CallOutput
-    requires { ⌜ Small (ran .outcome) ⌝ }
-    ensures { λ r. ⌜ (r .words ≡ outcomeWords (ran .outcome)) × (r .engine ≡ ran .engine) ⌝ }
+    requires { ⌜ OutcomeFitsWords (ran .outcome) ⌝ }
+    ensures { λ r. ⌜ (r .words ≡ runWords (ran .outcome)) × (r .engine ≡ ran .engine) ⌝ }
 {
     let outcome = ran.outcome;
     let engine = ran.engine;
     CallOutput {
-        words: answers::outcome_words(outcome),
+        words: answers::run_words(outcome),
         engine: engine,
     }
 }
@@ -71,7 +71,7 @@ fn play_call(
         (mkState (r .engine) (now (ring .exit)) (now (memory .exit))) (r .words) ⌝ }
 {
     match request {
-        Request::Open(start, length) => step_of(clients::open(engine, start, length)),
+        Request::Open(start, size) => step_of(clients::open(engine, start, size)),
         Request::Submit(client, from, to) => step_of(submission::submit(
             engine,
             ring,

@@ -26,7 +26,7 @@ fn load_as_word(memory: &[u8], at: usize, format: Format) -> u32
 }
 
 // Fetches pixels that lie one step apart, the first of them at an address.
-fn fetch_each(
+fn fetch_strided_pixels(
     buffer: &mut [u8],
     width: usize,
     memory: &[u8],
@@ -50,7 +50,7 @@ fn fetch_each(
 }
 
 // The same, with a loop for each format.
-pub fn fetch_steps(
+pub fn fetch_strided(
     buffer: &mut [u8],
     width: usize,
     memory: &[u8],
@@ -64,15 +64,15 @@ pub fn fetch_steps(
 {
     match format {
         Format::Argb8888 => {
-            fetch_each(buffer, width, memory, start, step, back, Format::Argb8888);
+            fetch_strided_pixels(buffer, width, memory, start, step, back, Format::Argb8888);
             return;
         }
         Format::Rgb888 => {
-            fetch_each(buffer, width, memory, start, step, back, Format::Rgb888);
+            fetch_strided_pixels(buffer, width, memory, start, step, back, Format::Rgb888);
             return;
         }
         Format::Rgb565 => {
-            fetch_each(buffer, width, memory, start, step, back, Format::Rgb565);
+            fetch_strided_pixels(buffer, width, memory, start, step, back, Format::Rgb565);
             return;
         }
     }

@@ -33,7 +33,7 @@ use Rattle.score.specs.Coverage.{isScore, coverageOf}
 use Rattle.tint.specs.declared.Tint.{Tint}
 use Rattle.tint.specs.declared.Answer.the-variants.{BadScore, Encoded}
 use Rattle.tint.specs.Tint.{tintColour, tintFields, fieldsOf, answerOf, bufferAfter}
-use Rattle.tint.specs.ReadsBack.{tintTask, Handed, ReadsBack}
+use Rattle.tint.specs.ReadsBack.{tintTask, Handed, TintRoundTrip}
 use Rattle.tint.proofs.Cases.{scored}
 
 coverage-byte : (score : Float) → coverageOf score ≤ 255
@@ -83,7 +83,7 @@ module _ (score : Float) (tint : Tint) (output : SurfaceFields) (h : Handed tint
   after : (buffer : List ℕ) → isScore score ≡ true → bufferAfter score tint output buffer ≡ encoder.bufferAfter (firstForm (fieldsOf score tint output)) buffer
   after buffer e = sym (scored score tint output buffer e .1)
 
-  pub tint-reads-back : (bounds : Bounds) (bank : Bank) → ReadsBack bounds bank score tint output
+  pub tint-reads-back : (bounds : Bounds) (bank : Bank) → TintRoundTrip bounds bank score tint output
   unfolding allBytes
   tint-reads-back bounds bank = record {
     one-task = λ buffer e.

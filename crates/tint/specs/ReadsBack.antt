@@ -63,7 +63,7 @@ pub record Handed (tint : Tint) (output : SurfaceFields) : Type 0 where
   pub blue : tint .blue < 256
   pub address : output .address < 2 ^ 32
 
-pub record ReadsBack (bounds : Bounds) (bank : Bank) (score : Float) (tint : Tint) (output : SurfaceFields) : Type 0 where
+pub record TintRoundTrip (bounds : Bounds) (bank : Bank) (score : Float) (tint : Tint) (output : SurfaceFields) : Type 0 where
   -- what is left in a buffer that was written is read as the one task with these fields, and 25 to 28 are judged of them
   pub one-task : (buffer : List ℕ) → answerOf score tint output (length buffer) ≡ Encoded Written →
       decodeBatch bounds bank (words (take 80 (bufferAfter score tint output buffer))) ≡ expectedDecoding bounds bank 0 (firstForm (fieldsOf score tint output) ∷ [])

@@ -14,8 +14,8 @@ use Rattle.buffered_rows.proofs.fetch_source.Tie as tie
 enum-told : tie.Need-enum-told
 enum-told c = search needs
 
-fetch-along-requires : tie.Need-fetch-along-requires
-fetch-along-requires c κs =
+fetch-transformed-requires : tie.Need-fetch-transformed-requires
+fetch-transformed-requires c κs =
     let p = c .before .before .before .before .before .pre in
     record { inside = p .inside (ap isBuffer (c .before .enum-told .given .1)); across = p .across; down = p .down; room = p .room }
 
@@ -25,7 +25,7 @@ returns c =
     let t = c .before .before .before .before in
     let a = t .before .before .before .before .args in
     λ x z.
-    c .before .before .fetch-along .ensures x z
+    c .before .before .fetch-transformed .ensures x z
     ∙ sym (ap (λ (m : SourceMode). sourceModeColour m (a .source) (now (a .memory)) (sourcePixelOf (a .source .surface) (a .source .transform) x (a .y))) (t .enum-told .given .1))
 
 returns-2 : tie.Need-returns-2
@@ -34,7 +34,7 @@ returns-2 c =
     let s = t .before .before .before .before in
     let a = s .args in
     λ x z.
-    c .before .before .spread .ensures x z
+    c .before .before .fill-buffer .ensures x z
     ∙ (sym (ap (λ (m : SourceMode). uniformColour m (a .source) (a .y)) (t .enum-told2 .given .1))
     ∙ source-uniform (a .source) (now (a .memory)) x (a .y) (ap isUniform (t .enum-told2 .given .1)) (s .pre .upright))
 
@@ -64,7 +64,7 @@ returns-4 c =
     let s = t .before .before .before .before in
     let a = s .args in
     λ x z.
-    c .before .before .spread2 .ensures x z
+    c .before .before .fill-buffer2 .ensures x z
     ∙ (c .before .before .before .shaded-colour .ensures
     ∙ (sym (ap (λ (m : SourceMode). uniformColour m (a .source) (a .y)) (t .enum-told4 .given .1))
     ∙ source-uniform (a .source) (now (a .memory)) x (a .y) (ap isUniform (t .enum-told4 .given .1)) (s .pre .upright)))
@@ -74,7 +74,7 @@ fetch-source-spec =
     tie.close
     (tie.spec
     enum-told
-    fetch-along-requires
+    fetch-transformed-requires
     (λ c. search needs)
     returns
     (λ c. search needs)

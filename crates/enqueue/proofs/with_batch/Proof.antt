@@ -5,7 +5,7 @@ use Rattle.enqueue.proofs.with_batch.Tie as tie
 
 returns : tie.Need-returns
 unfolding withBatch
-returns c = rw (c .no-staged .ensures, c .before .next-ticket .ensures, c .before .before .fill .ensures, c .before .before .before .raise .ensures)
+returns c = rw (c .no-staged .ensures, c .before .next-ticket .ensures, c .before .before .with-slot-ready .ensures, c .before .before .before .raise-pending .ensures)
 
 pub with-batch-spec : {M : Type 1} → statement M
 with-batch-spec =

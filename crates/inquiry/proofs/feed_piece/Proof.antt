@@ -5,7 +5,7 @@ use mathlib.Core.List.{List, _++_}
 use native.Mathlib.Omega.{arith}
 use lib.ListN.{length, take, drop, length-take, length-drop}
 use denote.Ref.{now}
-use Rattle.inquiry.specs.Inquiry.{Stands, Feeds}
+use Rattle.inquiry.specs.Inquiry.{Stands, InquiryFeedContract}
 use Rattle.inquiry.proofs.Answering.{piece-again, piece-some, piece-none, piece-all}
 use Rattle.inquiry.proofs.feed_piece.Statement.{statement}
 use Rattle.inquiry.proofs.feed_piece.Tie as tie

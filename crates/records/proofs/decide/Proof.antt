@@ -8,13 +8,13 @@ use Rattle.records.proofs.decide.Tie as tie
 use Rattle.records.proofs.decide.Reads as reads
 use Rattle.records.proofs.decide.Lts as lts
 use Rattle.records.proofs.bad_size.Reads as bad-size-reads
-use Rattle.records.proofs.partly.Reads as partly-reads
+use Rattle.records.proofs.wait_for_more.Reads as wait-for-more-reads
 use Rattle.word.proofs.read_be32.Reads as read-be32-reads
 
 returns : tie.Need-returns
 returns c =
     let s = c .before .before .before in
-    (c .partly .ensures ∙ decides-short (s .args .edition) (s .args .held .now) (s .args .have) (omega arith) (s .args .used) (c .before .if1 .taken), rw (c .partly .ensures) tt, ap (λ (t : Taken). t .used) (c .partly .ensures))
+    (c .wait-for-more .ensures ∙ decides-short (s .args .edition) (s .args .held .now) (s .args .have) (omega arith) (s .args .used) (c .before .if1 .taken), rw (c .wait-for-more .ensures) tt, ap (λ (t : Taken). t .used) (c .wait-for-more .ensures))
 
 returns-2 : tie.Need-returns-2
 returns-2 c =
@@ -27,7 +27,7 @@ returns-3 c =
     let c₅ = c .before .before .before .before .before in
     let s = c₅ .before .before in
     let good = sym (c .before .before .before .bad-size .ensures) ∙ c .before .before .if2 .left in
-    (c .partly2 .ensures ∙ decides-part (s .args .edition) (s .args .held .now) (s .args .have) (omega arith) _ (c .before .before .before .before .read-be32 .ensures) (c₅ .if1 .left) (s .args .used) good (c .before .if3 .taken), rw (c .partly2 .ensures) tt, ap (λ (t : Taken). t .used) (c .partly2 .ensures))
+    (c .wait-for-more2 .ensures ∙ decides-part (s .args .edition) (s .args .held .now) (s .args .have) (omega arith) _ (c .before .before .before .before .read-be32 .ensures) (c₅ .if1 .left) (s .args .used) good (c .before .if3 .taken), rw (c .wait-for-more2 .ensures) tt, ap (λ (t : Taken). t .used) (c .wait-for-more2 .ensures))
 
 returns-4 : tie.Need-returns-4
 returns-4 c =

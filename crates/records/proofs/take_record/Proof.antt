@@ -10,7 +10,7 @@ use Rattle.records.proofs.take_record.Tie as tie
 use Rattle.records.proofs.take_record.Reads as reads
 use Rattle.records.proofs.take_record.Lts as lts
 use Rattle.range.proofs.min_usize.Reads as least-reads
-use Rattle.records.proofs.bytes_missing.Reads as bytes-missing-reads
+use Rattle.records.proofs.bytes_wanted.Reads as bytes-wanted-reads
 use Rattle.records.proofs.decide.Reads as decide-reads
 use Rattle.ring.proofs.copy_in.Reads as copy-in-reads
 
@@ -30,7 +30,7 @@ returns c =
     let s = c .before .before .before .before .before .before .before .before .before .before .before .before in
     let d = c .decide .ensures in
     let least = c .before .before .before .before .before .before .before .min-usize .ensures in
-    let want = c .before .before .before .before .before .before .before .before .bytes-missing .ensures in
+    let want = c .before .before .before .before .before .before .before .before .bytes-wanted .ensures in
     let copy = c .before .before .before .before .copy-in in (
       omega (arith, d .2, least),
       subst (λ (n : ℕ). Lies (s .args .edition) (c .decide .result .found) n) (copy .kept .0) (d .1),

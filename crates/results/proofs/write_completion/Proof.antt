@@ -6,10 +6,10 @@ use Rattle.results.proofs.write_completion.Tie as tie
 returns : tie.Need-returns
 returns c =
     let c₆ = c .before .before .before .before .before .before in
-    reported-done _ _ _ _ (c₆ .outcome-words .ensures) _ (c .before .before .before .before .if1 .taken) (c .before .before .encode .ensures)
+    reported-done _ _ _ _ (c₆ .run-words .ensures) _ (c .before .before .before .before .if1 .taken) (c .before .before .encode .ensures)
 
 returns-2 : tie.Need-returns-2
-returns-2 c = reported-refused _ _ _ _ (c .before .before .outcome-words .ensures) (c .if1 .left)
+returns-2 c = reported-refused _ _ _ _ (c .before .before .run-words .ensures) (c .if1 .left)
 
 pub write-completion-spec : {M : Type 1} → statement M
 write-completion-spec =

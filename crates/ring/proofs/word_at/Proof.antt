@@ -5,7 +5,7 @@ use lib.ListN.{length}
 use Rattle.word.specs.Word.{le32At}
 use Rattle.ring.specs.declared.Read.the-variants.{Word}
 use Rattle.ring.specs.Segment.{LiesInRing, segment, batchWords}
-use Rattle.ring.specs.Read.{wordAt}
+use Rattle.ring.specs.Read.{readWord}
 use Rattle.ring.proofs.Segment.{lies-word, count-words, word-whole, word-front, word-back}
 use Rattle.ring.proofs.Reading.{read-past, read-batch}
 use borrow.Author.Needs.{needs}
@@ -25,7 +25,7 @@ short c =
 
 -- a word that stands there is the answer
 answer : (c : tie.Else1) (word : ℕ) → let a = c .before .before .before .args in
-    word ≡ le32At (segment (a .ring .now) (a .offset) (a .size)) (4 * a .k) → Word word ≡ wordAt (batchWords (a .ring .now) (a .offset) (a .size)) (a .k)
+    word ≡ le32At (segment (a .ring .now) (a .offset) (a .size)) (4 * a .k) → Word word ≡ readWord (batchWords (a .ring .now) (a .offset) (a .size)) (a .k)
 answer c word e =
     let a = c .before .before .before .args in
     ap Word e ∙ sym (read-batch (a .ring .now) (a .offset) (a .size) (a .k) (inside c) (short c))

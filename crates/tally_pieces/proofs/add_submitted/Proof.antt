@@ -5,7 +5,7 @@ use Rattle.tally_pieces.proofs.add_submitted.Tie as tie
 use Rattle.tally_pieces.proofs.add_submitted.Reads as reads
 use Rattle.tally_pieces.proofs.add_submitted.Lts as lts
 use Rattle.acceptance.proofs.accept.Reads as accept-reads
-use Rattle.editions.proofs.reset_of.Reads as reset-of-reads
+use Rattle.editions.proofs.reset_rule_of.Reads as reset-rule-of-reads
 use Rattle.tally_pieces.proofs.add_batch.Reads as add-batch-reads
 
 returns : tie.Need-returns
@@ -17,7 +17,7 @@ returns-2 : tie.Need-returns-2
 returns-2 c =
     let c₅ = c .before .before .before .before .before in
     let a = c₅ .before .before .args in
-    submitted-within (a .edition) (record { client = a .client; batch = a .batch .now }) (a .running) _ (c₅ .accept .ensures) _ (c .before .before .before .submitted .given .1) _ (c .before .reset-of .ensures) _ (c .add-batch .ensures)
+    submitted-within (a .edition) (record { client = a .client; batch = a .batch .now }) (a .running) _ (c₅ .accept .ensures) _ (c .before .before .before .submitted .given .1) _ (c .before .reset-rule-of .ensures) _ (c .add-batch .ensures)
 
 pub add-submitted-spec : {M : Type 1} → statement M
 add-submitted-spec =

@@ -6,7 +6,7 @@ use native.Mathlib.Omega.{arith}
 use lib.ListN.{length, take, drop, length-take, length-drop}
 use denote.Ref.{now}
 use Rattle.totals.specs.declared.Totals.{Totals}
-use Rattle.tally.specs.Tally.{Stands, Feeds}
+use Rattle.tally.specs.Tally.{Stands, TallyFeedContract}
 use Rattle.tally.proofs.Files.{piece-again, piece-some, piece-none, piece-all}
 use Rattle.tally_pieces.proofs.feed_piece.Statement.{statement}
 use Rattle.tally_pieces.proofs.feed_piece.Tie as tie

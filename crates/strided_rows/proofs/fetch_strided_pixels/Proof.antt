@@ -9,8 +9,8 @@ use Rattle.surface.specs.Drawn.{loadPixel}
 use Rattle.row_pixels.specs.Row.{HoldsColours}
 use Rattle.row_pixels.specs.Strided.{stridedAddress}
 use Rattle.argb_words.proofs.Words.{holds-step}
-use Rattle.strided_rows.proofs.fetch_each.Statement.{statement}
-use Rattle.strided_rows.proofs.fetch_each.Tie as tie
+use Rattle.strided_rows.proofs.fetch_strided_pixels.Statement.{statement}
+use Rattle.strided_rows.proofs.fetch_strided_pixels.Tie as tie
 
 abbrev Inv-loop : tie.InvT-loop
 Inv-loop buffer₀ width memory start step back format x₀ buffer x =
@@ -56,8 +56,8 @@ loop-again c =
 returns : tie.Need-returns Inv-loop μ-loop
 returns c = λ x z. c .before .loop .inv .1 x (omega arith)
 
-pub fetch-each-spec : {M : Type 1} → statement M
-fetch-each-spec =
+pub fetch-strided-pixels-spec : {M : Type 1} → statement M
+fetch-strided-pixels-spec =
     tie.close
     (tie.spec
     Inv-loop

@@ -3,8 +3,8 @@ use mathlib.Core.Path.{_≡_, sym, _∙_}
 use native.Mathlib.Omega.{arith}
 use Rattle.records.proofs.Bytes.{room-between, good-size, have-short, have-bad, have-rest}
 use borrow.Author.Needs.{needs}
-use Rattle.records.proofs.bytes_missing.Statement.{statement}
-use Rattle.records.proofs.bytes_missing.Tie as tie
+use Rattle.records.proofs.bytes_wanted.Statement.{statement}
+use Rattle.records.proofs.bytes_wanted.Tie as tie
 
 returns : tie.Need-returns
 returns c =
@@ -31,8 +31,8 @@ returns-4 c =
     let none : 0 ≡ 4 + size - a .have = omega arith in
     (none ∙ have-rest (a .edition) (a .held .now) (a .have) (omega arith) size (c .before .before .before .read-be32 .ensures) (c .before .before .before .before .if1 .left) good, omega arith)
 
-pub bytes-missing-spec : {M : Type 1} → statement M
-bytes-missing-spec =
+pub bytes-wanted-spec : {M : Type 1} → statement M
+bytes-wanted-spec =
     tie.close
     (tie.spec
     (λ c. search needs)

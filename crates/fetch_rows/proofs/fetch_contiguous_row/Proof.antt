@@ -5,8 +5,8 @@ use Rattle.surface.specs.Drawn.{loadPixel}
 use Rattle.row_pixels.specs.Row.{colourAt}
 use Rattle.row_pixels.proofs.Straight.{side-by-side, side-by-side-in}
 use borrow.Author.Needs.{needs}
-use Rattle.fetch_rows.proofs.fetch_straight.Statement.{statement}
-use Rattle.fetch_rows.proofs.fetch_straight.Tie as tie
+use Rattle.fetch_rows.proofs.fetch_contiguous_row.Statement.{statement}
+use Rattle.fetch_rows.proofs.fetch_contiguous_row.Tie as tie
 
 returns : tie.Need-returns
 returns c = λ x z. absurd (not-suc-le-zero (rw (c .if1 .taken) at z))
@@ -28,8 +28,8 @@ returns-2 c =
     c .before .before .fetch-row .ensures x z
     ∙ ap (loadPixel (a .s .format) (now (a .memory))) (rw (o .origin .ensures) (sym (side-by-side (a .s) (a .transform) (s .pre .1) (s .pre .2) x (a .y))))
 
-pub fetch-straight-spec : {M : Type 1} → statement M
-fetch-straight-spec =
+pub fetch-contiguous-row-spec : {M : Type 1} → statement M
+fetch-contiguous-row-spec =
     tie.close (tie.spec
     returns
     (λ c κs. search needs)

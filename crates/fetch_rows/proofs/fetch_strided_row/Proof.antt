@@ -9,8 +9,8 @@ use Rattle.register.specs.Size.{sizeOf}
 use Rattle.row_pixels.specs.Row.{colourAt}
 use Rattle.row_pixels.proofs.Stepping.{origin-stepped, origin-above, stepped-in}
 use borrow.Author.Needs.{needs}
-use Rattle.fetch_rows.proofs.fetch_turned.Statement.{statement}
-use Rattle.fetch_rows.proofs.fetch_turned.Tie as tie
+use Rattle.fetch_rows.proofs.fetch_strided_row.Statement.{statement}
+use Rattle.fetch_rows.proofs.fetch_strided_row.Tie as tie
 
 returns : tie.Need-returns
 returns c = λ x z. absurd (not-suc-le-zero (rw (c .if1 .taken) at z))
@@ -23,8 +23,8 @@ drawn c x l =
     let p = c .before .before .before .before .pre in
     record { across = omega (arith, l, p .across); down = p .down }
 
-fetch-steps-requires : tie.Need-fetch-steps-requires
-fetch-steps-requires c κs =
+fetch-strided-requires : tie.Need-fetch-strided-requires
+fetch-strided-requires c κs =
     let b = c .before in
     let n = b .before in
     let o = n .before in
@@ -46,18 +46,18 @@ returns-2 c =
     let o = n .before in
     let a = o .before .before .before .before .args in
     λ x z.
-    f .fetch-steps .ensures x z
+    f .fetch-strided .ensures x z
     ∙ ap (loadPixel (a .s .format) (now (a .memory)))
     (rw (o .origin .ensures, n .pixel-stride .ensures, b .is-reversed .ensures) (sym (origin-stepped (a .s) (a .transform) x (a .y) (drawn o x z))))
 
-pub fetch-turned-spec : {M : Type 1} → statement M
-fetch-turned-spec =
+pub fetch-strided-row-spec : {M : Type 1} → statement M
+fetch-strided-row-spec =
     tie.close
     (tie.spec
     returns
     (λ c κs. search needs)
     (λ c κs. search needs)
     (λ c κs. search needs)
-    fetch-steps-requires
+    fetch-strided-requires
     (λ c. search needs)
     returns-2)

@@ -7,7 +7,7 @@ use Rattle.record_lines.specs.Prints.{Prints}
 use Rattle.serving.specs.declared.SubmitRunResult.{SubmitRunResult}
 
 -- Internal: what the call that serves a record leaves
-pub record Serves (text : List ℕ) (next : State) (line : List ℕ) (s : SubmitRunResult) (ring′ memory′ line′ : List ℕ) : Type 0 where
+pub record SubmitRunContract (text : List ℕ) (next : State) (line : List ℕ) (s : SubmitRunResult) (ring′ memory′ line′ : List ℕ) : Type 0 where
   pub engine-is : s .engine ≡ next .engine
   pub ring-is : ring′ ≡ next .ring
   pub memory-is : memory′ ≡ next .memory

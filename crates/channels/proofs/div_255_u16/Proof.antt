@@ -1,9 +1,9 @@
 use borrow.Author.Needs.{needs}
 use Rattle.channels.proofs.Channels.{nearest}
-use Rattle.channels.proofs.near.Statement.{statement}
-use Rattle.channels.proofs.near.Tie as tie
-use Rattle.channels.proofs.near.Reads as reads
-use Rattle.channels.proofs.near.Lts as lts
+use Rattle.channels.proofs.div_255_u16.Statement.{statement}
+use Rattle.channels.proofs.div_255_u16.Tie as tie
+use Rattle.channels.proofs.div_255_u16.Reads as reads
+use Rattle.channels.proofs.div_255_u16.Lts as lts
 
 -- src/lib.rt:23:14
 -- src/lib.rt:23:13
@@ -13,8 +13,8 @@ use Rattle.channels.proofs.near.Lts as lts
 returns : tie.Need-returns
 returns c = (nearest (c .args .p) (search needs), search needs)
 
-pub near-spec : {M : Type 1} → statement M
-near-spec = tie.close (tie.spec
+pub div-255-u16-spec : {M : Type 1} → statement M
+div-255-u16-spec = tie.close (tie.spec
     (λ c. search needs)
     (λ c. search needs)
     (λ c. search needs)

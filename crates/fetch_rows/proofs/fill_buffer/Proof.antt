@@ -9,8 +9,8 @@ use Rattle.surface.proofs.Parts.{length-mid}
 use Rattle.row_pixels.specs.Row.{wordColour}
 use Rattle.row_colours.proofs.Parts.{unpacked-small, holds-part}
 use borrow.Author.Needs.{needs}
-use Rattle.fetch_rows.proofs.spread.Statement.{statement}
-use Rattle.fetch_rows.proofs.spread.Tie as tie
+use Rattle.fetch_rows.proofs.fill_buffer.Statement.{statement}
+use Rattle.fetch_rows.proofs.fill_buffer.Tie as tie
 
 returns : tie.Need-returns
 returns c =
@@ -24,8 +24,8 @@ returns c =
     holds-part (λ x. wordColour (w .result)) (now (a .buffer)) (f .last .0) (a .width) n (omega arith) (s .pre) (f .kept .0 ∙ long) (λ x. unpacked-small Argb8888 (w .result)) (f .ensures) x l
     ∙ w .ensures
 
-pub spread-spec : {M : Type 1} → statement M
-spread-spec =
+pub fill-buffer-spec : {M : Type 1} → statement M
+fill-buffer-spec =
     tie.close
     (tie.spec
     (λ c. search needs)

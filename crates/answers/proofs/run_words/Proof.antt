@@ -4,8 +4,8 @@ use native.Mathlib.Omega.{arith}
 use Rattle.batch.specs.Batch.{statusWordOf, faultOffsetOf}
 use Rattle.answers.proofs.Numbers.{completed-words, completed-small, word-whole}
 use borrow.Author.Needs.{needs}
-use Rattle.answers.proofs.outcome_words.Statement.{statement}
-use Rattle.answers.proofs.outcome_words.Tie as tie
+use Rattle.answers.proofs.run_words.Statement.{statement}
+use Rattle.answers.proofs.run_words.Tie as tie
 
 small : (c : tie.After-offset) → (statusWordOf (c .before .before .outcome2 .given .0 .0 .verdict) ≤ 4294967295) × (faultOffsetOf (c .before .before .outcome2 .given .0 .0 .verdict) ≤ 4294967295)
 small c = completed-small _ _ (c .before .before .outcome2 .given .1) (c .before .before .before .before .pre)
@@ -19,8 +19,8 @@ returns c = rw (c .before .outcome .given .1)
 returns-2 : tie.Need-returns-2
 returns-2 c = completed-words _ _ _ _ _ (c .before .before .before .before .outcome2 .given .1) (c .before .status .ensures ∙ word-whole (statusWordOf (c .before .before .before .before .outcome2 .given .0 .0 .verdict)) (small (c .before .before) .0)) (c .number .ensures) (c .before .before .offset .ensures)
 
-pub outcome-words-spec : {M : Type 1} → statement M
-outcome-words-spec =
+pub run-words-spec : {M : Type 1} → statement M
+run-words-spec =
     tie.close
     (tie.spec
     (λ c. search needs)
