@@ -81,9 +81,9 @@ own model call b (whole client ticket bytes) = submitted client bytes
 own model call b (pieces client ticket total before bytes e) = last-piece client bytes
 
 -- with the batch's ticket and the answers given otherwise
-among-answers : (b : Batch) (ticket : ℕ) (v : CompletionStatus) (reports told′ : List Answer) → b .ticket ≡ ticket → told′ ≡ reports →
-    List·Memᴰ (completed (b .client) (b .ticket) v) (take 8 (completedOf reports)) → List·Memᴰ (completed (b .client) ticket v) (take 8 (completedOf told′))
-among-answers b ticket v reports told′ t same m = rw (same, ← t) m
+among-answers : (b : Batch) (ticket : ℕ) (v : CompletionStatus) (reports answers′ : List Answer) → b .ticket ≡ ticket → answers′ ≡ reports →
+    List·Memᴰ (completed (b .client) (b .ticket) v) (take 8 (completedOf reports)) → List·Memᴰ (completed (b .client) ticket v) (take 8 (completedOf answers′))
+among-answers b ticket v reports answers′ t same m = rw (same, ← t) m
 
 module _ (setup : Setup) (ring : List ℕ) (A : SetUpAccepted setup) (calls later : List Call) (memory : List ℕ) where
   abbrev n : ℕ

@@ -18,15 +18,15 @@ pub data Performed : Call → State → CallResult → Type 0 where
 -- A list of calls, each on what the one before it left: the answers, and record, ring and memory at the end. The choice between the two engines (02,
 -- request 13) is made anew for each run.
 pub data PerformedAll : List Call → State → List Answer → State → Type 0 where
-  none : (s : State) → PerformedAll [] s [] s
-  more : (call : Call) (calls : List Call) (s : State) (r : CallResult) (told : List Answer) (end : State) → Performed call s r →
-      PerformedAll calls (r .after) told end → PerformedAll (call ∷ calls) s (r .answer ∷ told) end
+  nil : (s : State) → PerformedAll [] s [] s
+  cons : (call : Call) (calls : List Call) (s : State) (r : CallResult) (answers : List Answer) (end : State) → Performed call s r →
+      PerformedAll calls (r .after) answers end → PerformedAll (call ∷ calls) s (r .answer ∷ answers) end
 
 -- The promise (02, request 13).
 pub record EitherEngine : Type 0 where
   -- answers, record, ring and memory are those of the engine's list (Engine), of which demand 3 speaks
-  pub listed : (calls : List Call) (s : State) (told : List Answer) (end : State) → PerformedAll calls s told end →
-      (told ≡ answersOf calls s) × (end ≡ stateAfter calls s)
+  pub as-list : (calls : List Call) (s : State) (answers : List Answer) (end : State) → PerformedAll calls s answers end →
+      (answers ≡ answersOf calls s) × (end ≡ stateAfter calls s)
   -- so they are the same, however the runs are shared out between the two
-  pub same : (calls : List Call) (s : State) (told told′ : List Answer) (end end′ : State) →
-      PerformedAll calls s told end → PerformedAll calls s told′ end′ → (told ≡ told′) × (end ≡ end′)
+  pub same : (calls : List Call) (s : State) (answers answers′ : List Answer) (end end′ : State) →
+      PerformedAll calls s answers end → PerformedAll calls s answers′ end′ → (answers ≡ answers′) × (end ≡ end′)

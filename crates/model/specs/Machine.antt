@@ -53,7 +53,7 @@ modelMachine way setup ring = record {
 
 module _ (machine : Machine) where
   -- Bounded waiting (01, "Engine, desks, queue": "taken at the latest by the eighth successful run after it"). Whatever call makes a batch ready in the
-  -- state s, and is told its ticket: once eight runs of the later calls have succeeded, the batch is taken.
+  -- state s, and is given its ticket: once eight runs of the later calls have succeeded, the batch is taken.
   abbrev pub BoundedWaiting : (s : machine .State) (later : List Call) (Taken : Call → (ticket : ℕ) → Type 0) → Type 0
   BoundedWaiting s later Taken = (call : Call) (ticket : ℕ) → machine .answer (machine .perform call s) ≡ accepted ticket →
       8 ≤ completions (machine .answers later (machine .next (machine .perform call s))) → Taken call ticket
