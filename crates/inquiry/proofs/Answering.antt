@@ -37,7 +37,7 @@ use Rattle.provenance.specs.Drawn.{Drawn, numbered, drawnBy, drawnFrom}
 use Rattle.provenance.specs.Touched.{lastFrom, touchedBy}
 use Rattle.provenance.specs.Faulted.{explained, whyFrom, faultedBy}
 use Rattle.provenance.specs.Answers.{answerTouched, answerFault, touchedAnswer, faultAnswer}
-use Rattle.inquiry.specs.Inquiry.{findingAfter, findingFrom, nothingYet, Answers, answersOf, Stands, InquiryFeedContract, findingNext, findingOn}
+use Rattle.inquiry.specs.Inquiry.{findingAfter, findingFrom, nothingYet, Answers, inquiryAnswers, Stands, InquiryFeedContract, findingNext, findingOn}
 
 -- ---- one record more
 
@@ -88,21 +88,21 @@ module _ (q : Question) where
   found-records f (entry ∷ entries) = found-records (findingAfter q f entry) entries ∙ omega arith
 
   -- so the answers of all records are those of the file
-  pub answers-file : (file : File) → answersOf q (findingFrom q nothingYet (file .entries)) ≡ record { touched = touchedAnswer file (q .address); fault = faultAnswer file (q .ticket) }
-  unfolding answersOf touchedBy faultedBy
+  pub answers-file : (file : File) → inquiryAnswers q (findingFrom q nothingYet (file .entries)) ≡ record { touched = touchedAnswer file (q .address); fault = faultAnswer file (q .ticket) }
+  unfolding inquiryAnswers touchedBy faultedBy
   answers-file file =
       let count : findingFrom q nothingYet (file .entries) .records ≡ length (file .entries) = found-records nothingYet (file .entries) ∙ omega arith in
       rw (count, found-touched nothingYet (file .entries), found-why nothingYet (file .entries))
 
   -- ---- over 1,024 records both questions are refused
 
-  refused-all : (f g : Finding) → 1024 < f .records → 1024 < g .records → answersOf q f ≡ answersOf q g
-  unfolding answersOf
+  refused-all : (f g : Finding) → 1024 < f .records → 1024 < g .records → inquiryAnswers q f ≡ inquiryAnswers q g
+  unfolding inquiryAnswers
   refused-all f g h k = rw (lt-ltb 1024 (f .records) h, lt-ltb 1024 (g .records) k)
 
   -- so then one record more changes nothing
   pub over-already : (f : Finding) (entry : Entry) (entries : List Entry) → 1024 < f .records
-      → answersOf q (findingFrom q f (entry ∷ entries)) ≡ answersOf q (findingFrom q f entries)
+      → inquiryAnswers q (findingFrom q f (entry ∷ entries)) ≡ inquiryAnswers q (findingFrom q f entries)
   over-already f entry entries h =
       refused-all (findingFrom q f (entry ∷ entries)) (findingFrom q f entries) (omega (arith, found-records f (entry ∷ entries))) (omega (arith, found-records f entries))
 
@@ -121,11 +121,11 @@ module _ (q : Question) where
         go true = counts
         go false = count-most (eqb (recordRefusal entry) 0) (f .accepted) (f .records) counts
 
-    next-answers : (entry : Entry) (entries : List Entry) → answersOf q (findingFrom q f (entry ∷ entries)) ≡ answersOf q (findingFrom q (findingNext q f entry) entries)
+    next-answers : (entry : Entry) (entries : List Entry) → inquiryAnswers q (findingFrom q f (entry ∷ entries)) ≡ inquiryAnswers q (findingFrom q (findingNext q f entry) entries)
     unfolding findingFrom
     next-answers entry entries = go (split 1024 (f .records))
       where
-        go : (1024 < f .records) ⊎ (f .records ≤ 1024) → answersOf q (findingFrom q f (entry ∷ entries)) ≡ answersOf q (findingFrom q (findingNext q f entry) entries)
+        go : (1024 < f .records) ⊎ (f .records ≤ 1024) → inquiryAnswers q (findingFrom q f (entry ∷ entries)) ≡ inquiryAnswers q (findingFrom q (findingNext q f entry) entries)
         go (inl h) = rw (lt-ltb 1024 (f .records) h) (over-already f entry entries h)
         go (inr h) = rw (le-ltb 1024 (f .records) h, le-ltb 1024 (f .accepted) (omega arith))
 
@@ -135,7 +135,7 @@ module _ (q : Question) where
     on-counts BadVersion held = counts
     on-counts BadRecord held = counts
 
-    on-answers : (found : Found) (held : List ℕ) (rest : File) → answersOf q (findingFrom q f (onto found held rest .entries)) ≡ answersOf q (findingFrom q (findingOn q f found held) (rest .entries))
+    on-answers : (found : Found) (held : List ℕ) (rest : File) → inquiryAnswers q (findingFrom q f (onto found held rest .entries)) ≡ inquiryAnswers q (findingFrom q (findingOn q f found held) (rest .entries))
     on-answers Nothing held rest = refl
     on-answers (Record end) held rest = next-answers (entryIn held end) (rest .entries)
     on-answers BadVersion held rest = refl
@@ -152,9 +152,9 @@ module _ (q : Question) where
           ready = T .ready;
           counts = on-counts (s .finding) (S .counts) (t .found) held′;
           answers = λ rest.
-              ap (λ (xs : List ℕ). answersOf q (findingFrom q nothingYet (records First xs .entries))) (append-assoc seen bytes rest)
+              ap (λ (xs : List ℕ). inquiryAnswers q (findingFrom q nothingYet (records First xs .entries))) (append-assoc seen bytes rest)
               ∙ S .answers (bytes ++ rest)
-              ∙ ap (λ (file : File). answersOf q (findingFrom q (s .finding) (file .entries))) (T .file rest)
+              ∙ ap (λ (file : File). inquiryAnswers q (findingFrom q (s .finding) (file .entries))) (T .file rest)
               ∙ on-answers (s .finding) (S .counts) (t .found) held′ (fileAt First (t .reader) held′ rest);
         };
         some = T .some;
@@ -165,23 +165,23 @@ module _ (q : Question) where
 
   -- at the end no byte follows
   pub ends-by : (seen held : List ℕ) (s : Inquiry) → Stands q seen s held
-      → answersOf q (s .finding) ≡ record { touched = touchedAnswer (records First seen) (q .address); fault = faultAnswer (records First seen) (q .ticket) }
+      → inquiryAnswers q (s .finding) ≡ record { touched = touchedAnswer (records First seen) (q .address); fault = faultAnswer (records First seen) (q .ticket) }
   unfolding findingFrom
   ends-by seen held s S =
-      ap (λ (es : List Entry). answersOf q (findingFrom q (s .finding) es)) (sym (ends-here First (s .reader) held (S .ready)))
+      ap (λ (es : List Entry). inquiryAnswers q (findingFrom q (s .finding) es)) (sym (ends-here First (s .reader) held (S .ready)))
       ∙ sym (S .answers [])
-      ∙ ap (λ (xs : List ℕ). answersOf q (findingFrom q nothingYet (records First xs .entries))) (append-nil seen)
+      ∙ ap (λ (xs : List ℕ). inquiryAnswers q (findingFrom q nothingYet (records First xs .entries))) (append-nil seen)
       ∙ answers-file (records First seen)
 
 -- ---- the answers, with their refusals
 
 module _ (q : Question) (s : Inquiry) (seen held : List ℕ) (S : Stands q seen s held) where
   pub touched-answered : answerTouched (s .finding .records) (q .address) (s .finding .touched) ≡ touchedAnswer (records First seen) (q .address)
-  unfolding answersOf
+  unfolding inquiryAnswers
   touched-answered = ap (λ (a : Answers). a .touched) (ends-by q seen held s S)
 
   pub fault-answered : answerFault (s .finding .records) (s .finding .why) ≡ faultAnswer (records First seen) (q .ticket)
-  unfolding answersOf
+  unfolding inquiryAnswers
   fault-answered = ap (λ (a : Answers). a .fault) (ends-by q seen held s S)
 
 -- ---- a piece

@@ -48,8 +48,8 @@ pub record Answers : Type 0 where
   pub touched : TouchedAnswer
   pub fault : FaultAnswer
 
-unfoldable pub answersOf : Question → Finding → Answers
-answersOf q f = record { touched = answerTouched (f .records) (q .address) (f .touched); fault = answerFault (f .records) (f .why) }
+unfoldable pub inquiryAnswers : Question → Finding → Answers
+inquiryAnswers q f = record { touched = answerTouched (f .records) (q .address) (f .touched); fault = answerFault (f .records) (f .why) }
 
 -- ---- a piece at a time
 
@@ -58,7 +58,7 @@ pub record Stands (q : Question) (seen : List ℕ) (s : Inquiry) (held : List �
   pub ready : ReaderReady First (s .reader) held
   pub counts : s .finding .accepted ≤ s .finding .records
   pub answers : (rest : List ℕ)
-      → answersOf q (findingFrom q nothingYet (records First (seen ++ rest) .entries)) ≡ answersOf q (findingFrom q (s .finding) (fileAt First (s .reader) held rest .entries))
+      → inquiryAnswers q (findingFrom q nothingYet (records First (seen ++ rest) .entries)) ≡ inquiryAnswers q (findingFrom q (s .finding) (fileAt First (s .reader) held rest .entries))
 
 -- after some input more, and it uses a byte of it if there is one
 pub record InquiryFeedContract (q : Question) (seen : List ℕ) (input : List ℕ) (f : FeedResult) (held : List ℕ) : Type 0 where
