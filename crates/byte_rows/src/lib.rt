@@ -1,8 +1,11 @@
 // Rows of bytes as such: copied, set to zero, and copied inside one slice.
-ghost use Prim.Native.Nat.{_+_, _≤_};
+ghost use mathlib.Core.Path.{_≡_};
+ghost use Prim.Native.Nat.{_+_, _%_, _≤_};
 ghost use lib.ListN.{length, getD};
 ghost use Rattle.lanes.specs.Lanes.{Done};
 ghost use Rattle.byte_rows.specs.Apart.{Apart, movedByte};
+use lanes::load8;
+use lanes::store8;
 
 // Bytes as they are.
 pub fn copy(d: &mut [u8], s: &[u8])
@@ -29,14 +32,45 @@ pub fn clear(d: &mut [u8], a: usize, n: usize)
     }
 }
 
+// Copies the sixteen bytes from `from` on over those from `to` on.
+pub fn copy_four(memory: &mut [u8], to: usize, from: usize)
+    requires { ⌜ (to + 16 ≤ length (now memory)) × (from + 16 ≤ length (now memory)) ⌝ }
+    ensures { λ _. ⌜ Done (movedByte (now (memory .entry)) to from) (now (memory .entry)) (now (memory .exit)) to (to + 16) ⌝ }
+{
+    let r = load8(memory, from);
+    store8(memory, to, &r);
+}
+
+// Copies n bytes, a multiple of sixteen. All of a part is loaded before it is stored, so that the compiler need not ask whether rows meet.
+fn copy_fours(memory: &mut [u8], to: usize, from: usize, n: usize)
+    requires { ⌜ Apart (length (now memory)) to from n × (n % 16 ≡ 0) ⌝ }
+    ensures { λ _. ⌜ Done (movedByte (now (memory .entry)) to from) (now (memory .entry)) (now (memory .exit)) to (to + n) ⌝ }
+{
+    let mut j = 0;
+    while j < n {
+        copy_four(memory, to + j, from + j);
+        j += 16;
+    }
+}
+
+// Copies the bytes from the a-th to the n-th.
+fn copy_bytes(memory: &mut [u8], to: usize, from: usize, a: usize, n: usize)
+    requires { ⌜ Apart (length (now memory)) to from n × (a ≤ n) ⌝ }
+    ensures { λ _. ⌜ Done (movedByte (now (memory .entry)) to from) (now (memory .entry)) (now (memory .exit)) (to + a) (to + n) ⌝ }
+{
+    let mut j = a;
+    while j < n {
+        memory[to + j] = memory[from + j];
+        j += 1;
+    }
+}
+
 // Copies the n bytes from `from` on over those from `to` on. The two parts of memory do not meet.
 pub fn copy_within(memory: &mut [u8], to: usize, from: usize, n: usize)
     requires { ⌜ Apart (length (now memory)) to from n ⌝ }
     ensures { λ _. ⌜ Done (movedByte (now (memory .entry)) to from) (now (memory .entry)) (now (memory .exit)) to (to + n) ⌝ }
 {
-    let mut j = 0;
-    while j < n {
-        memory[to + j] = memory[from + j];
-        j += 1;
-    }
+    let e = n / 16 * 16;
+    copy_fours(memory, to, from, e);
+    copy_bytes(memory, to, from, e, n);
 }

@@ -20,6 +20,16 @@ pub duo-high : (s fs d fd : ℕ) → duo s fs d fd / 256 ≡ blendedChannel (s /
 unfolding duo
 duo-high s fs d fd = omega (arith, channel-small (s % 256) fs (d % 256) fd)
 
+-- t / 256 added before the last shift, or t * 256 added and two shifts at once
+two-shifts : (t : ℕ) → (t + t * 256) / 65536 ≡ (t + t / 256) / 256
+two-shifts t = omega arith
+
+-- the nearest of p / 255, as it is computed in 32 bits
+pub nearest : (p : ℕ) → p ≤ 65025 → (p + 128 + (p + 128) * 256 % 4294967296) / 65536 ≡ (p + 127) / 255
+nearest p h =
+    let whole : (p + 128) * 256 % 4294967296 ≡ (p + 128) * 256 = omega arith in
+    ap (λ (n : ℕ). (p + 128 + n) / 65536) whole ∙ two-shifts (p + 128) ∙ search needs
+
 -- 255 less what is left of the complement c after near p
 pub kept-is : (c d f : ℕ) → c ≤ 255 → 255 - (c - (d * f + 127) / 255) ≡ blendedChannel (255 - c) 255 d f
 unfolding blendedChannel div255

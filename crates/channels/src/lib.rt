@@ -15,13 +15,13 @@ fn prod(a: u16, b: u16) -> u16
     a * b
 }
 
-// The nearest of p / 255, by shifts and adds.
+// The nearest of p / 255, by shifts and adds. In 32 bits the compiler makes one multiplication of them, of which it keeps the upper half.
 fn near(p: u16) -> u16
     requires { ⌜ p ≤ 65025 ⌝ }
     ensures { λ r. ⌜ (r ≡ (p + 127) / 255) × (r ≤ 255) ⌝ }
 {
-    let t = p + 128;
-    (t + (t >> 8)) >> 8
+    let t = (p + 128) as u32;
+    ((t + (t << 8)) >> 16) as u16
 }
 
 fn less(c: u16, n: u16) -> u16

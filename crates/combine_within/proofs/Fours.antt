@@ -11,7 +11,6 @@ use Rattle.pixel.specs.Rules.{blendModeFactors}
 use Rattle.pixel.specs.declared.blend.BlendFactors.{BlendFactors}
 use Rattle.pixel.specs.declared.blend.BlendMode.the-variants.{SrcOver, Add}
 use Rattle.lanes.specs.Lanes.{two, Done}
-use Rattle.lanes.proofs.Laws.{copy-at}
 use Rattle.lanes.proofs.Passes.{same-done}
 use Rattle.opacity.specs.Alphas.{alphasAre}
 use Rattle.plan.specs.Blend.{duo, laneAt}
@@ -19,7 +18,7 @@ use Rattle.plan.proofs.Blends.{Bytes}
 use Rattle.combine.proofs.Fours.{twoAt, blend-two, over-two, four-done, copy-done, leave-done, clear-done, add-done}
 use Rattle.byte_rows.specs.Apart.{movedByte}
 use Rattle.bytes_within.specs.Within.{blendWithin}
-use Rattle.bytes_within.proofs.Within.{in-drop, at-drop, row, within-whole, within-row}
+use Rattle.bytes_within.proofs.Within.{in-drop, row, within-whole, within-row}
 
 two-drop : (m : List ℕ) (a k : ℕ) → two m (a + k * 2) ≡ two (drop a m) (0 + k * 2)
 unfolding two
@@ -50,16 +49,6 @@ module _ (m r m′ : List ℕ) (to from : ℕ) (in-m : Bytes m)
   four rule is-r =
       within-whole rule m m′ to from 16 under
       (four-done rule (drop from m) (drop to m) r (drop to m′) 0 refl (in-drop m from in-m) (in-drop m to in-m) is-r row-low row-high (λ j l. absurd (omega arith)) row-past)
-
-  -- the words of the source's row
-  pub four-copied : ((k : ℕ) → k < 8 → getD r k 0 ≡ two m (from + k * 2)) → Done (movedByte m to from) m m′ to (to + 16)
-  four-copied is-r = record {
-    done = λ i l u. at-drop m′ to i l
-        ∙ (copy-at (drop from m) r (drop to m′) 0 (in-drop m from in-m) (λ k q. is-r k q ∙ two-drop m from k) row-low row-high (i - to) (omega arith) (omega arith)
-        ∙ getD-drop from m (i - to) 0);
-    under = under;
-    past = past;
-  }
 
   -- the words of both rows blended: under any rule, and under SRC_OVER by the source's complement
   module _ (a b : List ℕ) (is-b : (k : ℕ) → k < 8 → getD b k 0 ≡ two m (to + k * 2)) where

@@ -7,8 +7,9 @@ ghost use Rattle.pixel.specs.Rules.{blendModeFactors};
 ghost use Rattle.pixel.specs.declared.blend.BlendMode.the-variants.{SrcOver};
 ghost use Rattle.lanes.specs.Lanes.{Done};
 ghost use Rattle.plan.specs.Plan.{Planned};
-ghost use Rattle.byte_rows.specs.Apart.{Apart, movedByte};
+ghost use Rattle.byte_rows.specs.Apart.{Apart};
 ghost use Rattle.bytes_within.specs.Within.{blendWithin};
+use byte_rows::copy_four;
 use bytes_within::add_bytes;
 use bytes_within::blend_bytes;
 use bytes_within::constant_within;
@@ -22,15 +23,6 @@ use opacity::alphas;
 use opacity::is_opaque;
 use opacity::words;
 use plan::Plan;
-
-// Four pixels copied.
-fn copy_four(m: &mut [u8], to: usize, from: usize)
-    requires { ⌜ (to + 16 ≤ length (now m)) × (from + 16 ≤ length (now m)) ⌝ }
-    ensures { λ _. ⌜ Done (movedByte (now (m .entry)) to from) (now (m .entry)) (now (m .exit)) to (to + 16) ⌝ }
-{
-    let r = load8(m, from);
-    store8(m, to, &r);
-}
 
 // Four pixels under SRC_OVER, by the source's complement.
 fn over_four(m: &mut [u8], to: usize, from: usize)

@@ -1,5 +1,7 @@
-// Shows a rectangle of the memory that a replay file leaves, as a picture (PPM) on standard output.
+// Shows a rectangle of the memory that a replay file leaves, as a picture (PPM) on standard output. With --slow before the file it is run by the slow
+// engine, which leaves the same memory.
 ghost use mathlib.Core.Bool.{false};
+ghost use Prim.Native.Nat.{_≤_};
 ghost use Rattle.records.specs.declared.Edition.the-variants.{First};
 ghost use Rattle.replay_pieces.specs.Reached.{ReplayedInZeros};
 use ppm::ParsedFormat;
@@ -9,27 +11,38 @@ use records::Edition;
 use replay_io::Replaying;
 use surface::Surface;
 
-// The rectangle that the arguments name. What is wrong with them is reported.
-fn rectangle_argument() -> Rectangle {
+// The number that an argument spells; that it spells none is reported, with the argument's name.
+fn number_argument(index: usize, name: &[u8]) -> ParsedNumber {
     let mut text = io::buffer();
-    let n = os::arg(2, &mut text);
-    let ParsedNumber::Value(address) = command::number_in(&text[..n], b"ADDRESS") else {
+    let n = os::arg(index, &mut text);
+    command::number_in(&text[..n], name)
+}
+
+// The format that an argument names; that it names none is reported.
+fn format_argument(index: usize) -> ParsedFormat {
+    let mut text = io::buffer();
+    let n = os::arg(index, &mut text);
+    command::format_in(&text[..n])
+}
+
+// The rectangle that the five arguments after the file's name. What is wrong with them is reported.
+fn rectangle_argument(file: usize) -> Rectangle
+    requires { ⌜ file ≤ 2 ⌝ }
+{
+    let last = file + 5;
+    let ParsedNumber::Value(address) = number_argument(file + 1, b"ADDRESS") else {
         return Rectangle::Outside;
     };
-    let n = os::arg(3, &mut text);
-    let ParsedNumber::Value(stride) = command::number_in(&text[..n], b"STRIDE") else {
+    let ParsedNumber::Value(stride) = number_argument(file + 2, b"STRIDE") else {
         return Rectangle::Outside;
     };
-    let n = os::arg(4, &mut text);
-    let ParsedNumber::Value(width) = command::number_in(&text[..n], b"WIDTH") else {
+    let ParsedNumber::Value(width) = number_argument(file + 3, b"WIDTH") else {
         return Rectangle::Outside;
     };
-    let n = os::arg(5, &mut text);
-    let ParsedNumber::Value(height) = command::number_in(&text[..n], b"HEIGHT") else {
+    let ParsedNumber::Value(height) = number_argument(file + 4, b"HEIGHT") else {
         return Rectangle::Outside;
     };
-    let n = os::arg(6, &mut text);
-    let ParsedFormat::Known(format) = command::format_in(&text[..n]) else {
+    let ParsedFormat::Known(format) = format_argument(last) else {
         return Rectangle::Outside;
     };
     let rectangle = ppm::rectangle_of(address, stride, width, height, format);
@@ -65,12 +78,13 @@ fn write_picture(memory: &[u8], s: Surface) {
     }
 }
 
-// Replays the file in 65,536 zero bytes and, if nothing failed, writes the picture of the rectangle.
-fn show(s: Surface) -> Replaying
+// Replays the file that an argument names in 65,536 zero bytes, by the slow engine or by the fast one, and, if nothing failed, writes the picture of the
+// rectangle.
+fn show(s: Surface, file: usize, slow: bool) -> Replaying
     ensures { λ r. ⌜ ReplayedInZeros First false (r .handed) (r .well) ⌝ }
 {
     let mut memory = [0u8; 65536];
-    let came = replay_io::replay_argument(Edition::First, 1, &mut memory, false, false);
+    let came = replay_io::replay_argument(Edition::First, file, &mut memory, false, slow);
     if came.well {
         write_picture(&memory, s);
     }
@@ -80,20 +94,22 @@ fn show(s: Surface) -> Replaying
 // How to give the arguments.
 fn usage() {
     command::complain(
-        b"usage: picture FILE ADDRESS STRIDE WIDTH HEIGHT FORMAT\n",
+        b"usage: picture [--slow] FILE ADDRESS STRIDE WIDTH HEIGHT FORMAT\n",
         b"numbers in decimal; FORMAT is argb8888, rgb888 or rgb565\n",
     );
 }
 
 fn main() {
-    if os::arg_count() != 7 {
-        command::complain(b"picture", b" takes six arguments\n");
+    let choice = replay_program::asked();
+    let file = choice.file;
+    if os::arg_count() != file + 6 {
+        command::complain(b"picture", b" takes six arguments, or --slow and six\n");
         usage();
         return;
     }
-    let Rectangle::Inside(s) = rectangle_argument() else {
+    let Rectangle::Inside(s) = rectangle_argument(file) else {
         usage();
         return;
     };
-    show(s);
+    show(s, file, choice.slow);
 }

@@ -1,5 +1,8 @@
-// What the two programs that print the lines of a replay file share: their arguments, and the memory that a file is replayed in.
-ghost use mathlib.Core.Bool.{true};
+// What the programs that replay a file by either engine share: whether their arguments ask for the slow one; and what the two that print lines share, the
+// memory that a file is replayed in.
+ghost use mathlib.Core.Path.{_≡_};
+ghost use mathlib.Core.Bool.{true, cond};
+ghost use Prim.Native.Nat.{_≤_};
 ghost use Rattle.replay_pieces.specs.Reached.{ReplayedInZeros};
 use records::Edition;
 use replay_io::Replaying;
@@ -16,11 +19,28 @@ fn is_slow(text: &[u8]) -> bool {
         & (text[5] == b'w')
 }
 
-// Whether the first argument asks for the slow engine. One that is missing or too long for the buffer counts as empty.
-fn asks_slow() -> bool {
+// Which engine the arguments ask for, and which of them comes after that: the file's, where there is one.
+pub struct Choice {
+    pub slow: bool,
+    pub file: usize,
+}
+
+// What the first argument asks for. One that is missing or too long for the buffer counts as empty.
+pub fn asked() -> Choice
+    ensures { λ r. ⌜ (r .file ≡ cond (r .slow) 2 1) × (r .file ≤ 2) ⌝ }
+{
     let mut text = io::buffer();
     let n = os::arg(1, &mut text);
-    is_slow(&text[..n])
+    if is_slow(&text[..n]) {
+        return Choice {
+            slow: true,
+            file: 2,
+        };
+    }
+    Choice {
+        slow: false,
+        file: 1,
+    }
 }
 
 // Replays standard input, or the file that an argument names, in 65,536 zero bytes. With neither, `usage` is reported on standard error.
@@ -61,8 +81,14 @@ pub fn print_lines(edition: Edition, usage: &[u8]) -> Replaying
     ensures { λ r. ⌜ ReplayedInZeros edition true (r .handed) (r .well) ⌝ }
 {
     let count = os::arg_count();
-    if asks_slow() {
-        return replay_one(edition, count == 2, count == 3, 2, true, usage);
-    }
-    replay_one(edition, count == 1, count == 2, 1, false, usage)
+    let choice = asked();
+    let file = choice.file;
+    replay_one(
+        edition,
+        count == file,
+        count == file + 1,
+        file,
+        choice.slow,
+        usage,
+    )
 }

@@ -10,7 +10,7 @@ use Rattle.transform.specs.declared.Rotation.{Rotation}
 use Rattle.transform.specs.declared.Rotation.the-variants.{Rotate0, Rotate90, Rotate180, Rotate270}
 use Rattle.transform.specs.declared.Transform.{Transform}
 use Rattle.transform.proofs.Inside.{mirrored-below, source-within}
-use Rattle.surface.specs.Surface.{pixelStart, span}
+use Rattle.surface.specs.Surface.{rowStart, pixelStart, span}
 use Rattle.surface.specs.declared.Surface.{Surface}
 use Rattle.surface.proofs.Outside.{row-in-span}
 use Rattle.register.specs.Size.{sizeOf}
@@ -34,6 +34,11 @@ module _ (s : Surface) (t : Transform) (upright : t .rotation ≡ Rotate0) (x y 
 
 -- not turned, and not flipped from left to right
 module _ (s : Surface) (t : Transform) (upright : t .rotation ≡ Rotate0) (kept : t .flip .horizontal ≡ false) where
+  -- output row y begins where a row of the surface does
+  pub first-of-row : (y : ℕ) → rowStart s (mirrored (t .flip .vertical) (s .height) y) ≡ pixelStart s (sourcePixelOf s t 0 y .x) (sourcePixelOf s t 0 y .y)
+  unfolding sourcePixelOf sourcePixel
+  first-of-row y = rw (upright, kept) (omega arith)
+
   -- the pixels of output row y lie side by side
   pub side-by-side : (x y : ℕ) →
       pixelStart s (sourcePixelOf s t x y .x) (sourcePixelOf s t x y .y) ≡ pixelStart s (sourcePixelOf s t 0 y .x) (sourcePixelOf s t 0 y .y) + x * bytesPerPixel (s .format)

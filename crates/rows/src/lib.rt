@@ -4,6 +4,7 @@ pub mod source;
 
 pub use colours::blending_colour;
 pub use colours::composite;
+pub use source::identity_row_start;
 pub use source::is_identity_row;
 pub use source::is_reversed;
 pub use source::origin;

@@ -1,7 +1,7 @@
 // Where the source pixel of an output pixel lies.
 ghost use mathlib.Core.Path.{_≡_};
 ghost use mathlib.Core.Bool.{true, false};
-ghost use Prim.Native.Nat.{_+_, _*_, _≤_};
+ghost use Prim.Native.Nat.{_+_, _*_, _≤_, _<_};
 ghost use Rattle.transform.specs.Transform.{InPicture, rotatedSize};
 ghost use Rattle.surface.specs.Surface.{pixelStart};
 ghost use Rattle.register.specs.Size.{sizeOf};
@@ -12,6 +12,7 @@ use transform::Point;
 use transform::Rotation;
 use transform::Size;
 use transform::Transform;
+use transform::mirror;
 
 // The pixel of a surface that is output pixel (x, y).
 pub fn source_point(s: Surface, transform: Transform, x: usize, y: usize) -> Point
@@ -46,6 +47,16 @@ pub fn is_identity_row(transform: Transform) -> bool
         Rotation::Rotate180 => false,
         Rotation::Rotate270 => false,
     }
+}
+
+// Where the first pixel of output row y lies, where output rows are rows of the source: what `origin` answers, without a choice by rotation in each row.
+pub fn identity_row_start(s: Surface, transform: Transform, y: u16) -> usize
+    requires { ⌜ (transform .rotation ≡ Rotation.Rotate0) × (transform .flip .horizontal ≡ false) × (y < s .height) ⌝ }
+    ensures { λ r. ⌜ r ≡ pixelStart s (sourcePixelOf s transform 0 y .x) (sourcePixelOf s transform 0 y .y) ⌝ }
+{
+    let flip = transform.flip;
+    let i = mirror(flip.vertical, s.height as usize, y as usize);
+    s.row_start(i as u16)
 }
 
 // Whether the source pixels of an output row go back from its first one.

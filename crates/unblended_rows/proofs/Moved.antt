@@ -79,6 +79,12 @@ pub record Lies (window : Range) (to from n : ℕ) : Type 0 where
   pub end-from : from + n ≤ window .end
   pub apart : (from + n ≤ to) ⊎ (to + n ≤ from)
 
+-- the row of the source that output row y is
+pub moved-down : {window : Range} {memory : List ℕ} {t : Task} {y : ℕ} → RowDrawable window memory t y → MovedTask t → y < t .source .surface .height
+moved-down {window} {memory} {t} {y} r m =
+    let size : sizeOf (t .source .surface) ≡ sizeOf (t .output) = rw (m .upright) at (r .drawable .clear .size) in
+    omega (arith, ap (λ (z : Size). z .height) size, r .row)
+
 pub moved-lies : {window : Range} {memory : List ℕ} {t : Task} {y : ℕ} → RowDrawable window memory t y → MovedTask t → sourceInWindow window t ≡ true →
     (to from n : ℕ) → to ≡ rowStart (t .output) y →
     from ≡ pixelStart (t .source .surface) (sourcePixelOf (t .source .surface) (t .source .transform) 0 y .x) (sourcePixelOf (t .source .surface) (t .source .transform) 0 y .y) →
@@ -91,8 +97,7 @@ moved-lies {window} {memory} {t} {y} r m in-window to from n is-to is-from is-n 
     let own = inside-ends (span s) window in-window in
     let size : sizeOf s ≡ sizeOf (t .output) = rw (m .upright) at (c .size) in
     let w : s .width ≡ t .output .width = ap (λ (z : Size). z .width) size in
-    let h : s .height ≡ t .output .height = ap (λ (z : Size). z .height) size in
-    let down : y < s .height = omega (arith, h, r .row) in
+    let down : y < s .height = moved-down r m in
     let long : s .width * bytesPerPixel (s .format) ≡ t .output .width * bytesPerPixel (t .output .format) = rw (w, m .format) in
     let first : sourcePixelOf s (t .source .transform) 0 y .x ≡ 0 = upright-x s (t .source .transform) (m .upright) 0 y ∙ rw (m .kept) in
     let v : ℕ = sourcePixelOf s (t .source .transform) 0 y .y in

@@ -19,7 +19,7 @@ use register::SourceMode;
 use register::Task;
 use row_copy::fetch_bytes;
 use row_copy::store_bytes;
-use rows::origin;
+use rows::identity_row_start;
 use scanline::fill_row;
 use surface::Surface;
 use transform::mirror;
@@ -82,7 +82,7 @@ fn moved_row(memory: &mut [u8], window: Range, task: Task, y: u16)
     let end = window.end;
     let output = task.output;
     let s = task.source;
-    let from = origin(s.surface, s.transform, 0, y as usize) - start;
+    let from = identity_row_start(s.surface, s.transform, y) - start;
     let to = output.row_start(y) - start;
     let n = output.row_length();
     copy_within(&mut memory[start..end], to, from, n);

@@ -13,7 +13,7 @@ use plan::Plan;
 use plan::plan_of;
 use range::Range;
 use register::Task;
-use rows::origin;
+use rows::identity_row_start;
 
 // Draws row y of such a task. No output row meets a row of the source.
 fn within_row(memory: &mut [u8], window: Range, task: Task, plan: Plan, y: u16)
@@ -24,7 +24,7 @@ fn within_row(memory: &mut [u8], window: Range, task: Task, plan: Plan, y: u16)
     let end = window.end;
     let output = task.output;
     let s = task.source;
-    let from = origin(s.surface, s.transform, 0, y as usize) - start;
+    let from = identity_row_start(s.surface, s.transform, y) - start;
     let to = output.row_start(y) - start;
     let n = output.row_length();
     blend_within(&mut memory[start..end], to, from, n, plan);

@@ -14,16 +14,20 @@
 //! compare tally COUNT SEED PROGRAM               lots of random files of both editions, counted by PROGRAM
 //! compare lots COUNT SEED PROGRAM                printed totals added by PROGRAM --add, and lots in two
 //! compare starts COUNT SEED PROGRAM              random files added by PROGRAM --from to totals that are handed in
+//! compare pictures COUNT SEED SAMPLES PICTURE    all of memory after replay files, by the slow engine and by the fast one
 //! compare provenance COUNT SEED SAMPLES TOUCHED FAULT
 //!                                                who drew a byte and why a batch faulted, asked of two programs
 mod bench;
 mod cases;
+mod features;
 mod fuzz;
+mod laid_out;
 mod lent;
 mod linked;
 mod lists;
 mod month;
 mod orders;
+mod pictures;
 mod provenance;
 mod replays;
 mod settings;
@@ -55,13 +59,14 @@ fn compared(words: &[&str]) -> Result<bool> {
         ["tally", count, seed, program] => month::compare(number(count)?, number(seed)?, program),
         ["lots", count, seed, program] => month::lots(number(count)?, number(seed)?, program),
         ["starts", count, seed, program] => starts::compare(number(count)?, number(seed)?, program),
+        ["pictures", count, seed, samples, picture] => pictures::compare(number(count)?, number(seed)?, samples, picture),
         ["provenance", count, seed, samples, touched, fault] => {
             provenance::compare(number(count)?, number(seed)?, samples, [touched, fault])
         }
         _ => Err(Error::other(
             "usage: calls | lists COUNT SEED | orders COUNT SEED | pages | settings | tints COUNT SEED | fuzz SECONDS SEED \
              | replays COUNT SEED PROGRAM | cuts FILE PROGRAM | replays2 .. | cuts2 .. | tally COUNT SEED PROGRAM \
-             | lots COUNT SEED PROGRAM | starts COUNT SEED PROGRAM | provenance COUNT SEED SAMPLES TOUCHED FAULT",
+             | lots COUNT SEED PROGRAM | starts COUNT SEED PROGRAM | pictures COUNT SEED SAMPLES PICTURE | provenance COUNT SEED SAMPLES TOUCHED FAULT",
         )),
     }
 }

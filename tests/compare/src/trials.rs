@@ -1,4 +1,5 @@
 //! Calls made by the engine and by the independent program on the same buffers, counted until the first difference.
+use crate::laid_out::LaidOut;
 use crate::linked;
 use independent::calls::{self, Answer, Buffers, Call};
 use independent::gradient::Steps;
@@ -16,6 +17,8 @@ pub struct Trials {
     pub guards: usize,
     pub count: u64,
     tally: Tally,
+    /// Where batches are written instead of being handed to the engine's calls, if they are.
+    files: Option<LaidOut>,
 }
 
 /// The first byte in which two buffers of one length differ.
@@ -26,7 +29,17 @@ pub fn difference(name: &str, expected: &[u8], found: &[u8]) -> Option<String> {
 
 impl Trials {
     pub fn new(guards: usize) -> Self {
-        Trials { guards, count: 0, tally: Tally::default() }
+        Trials { guards, count: 0, tally: Tally::default(), files: None }
+    }
+
+    /// Batches are written in replay files, and those compared. The static library is not needed.
+    pub fn in_files(files: LaidOut) -> Self {
+        Trials { files: Some(files), ..Trials::new(0) }
+    }
+
+    /// Compares what is written and not compared yet, and answers the files.
+    pub fn written(self) -> Agreed<Option<LaidOut>> {
+        self.files.map(LaidOut::finished).transpose()
     }
 
     fn counted(&mut self, what: &str, number: u32, fault: u32) {
@@ -71,6 +84,11 @@ impl Trials {
     /// Submits a batch for client 0 and runs it, on buffers that stay as they are. Answers the buffers after it.
     pub fn batch(&mut self, buffers: &Buffers, batch: &[u8]) -> Agreed<Buffers> {
         let mut after = buffers.clone();
+        if let Some(files) = &mut self.files {
+            self.count += 1;
+            files.add(&buffers.memory, batch)?;
+            return Ok(after);
+        }
         self.call(&Call::Submit { client: 0, batch }, &mut after)?;
         self.call(&Call::Run, &mut after)?;
         Ok(after)
@@ -83,6 +101,9 @@ impl Trials {
     /// Encodes a task by both, and answers its bytes if it is not refused.
     pub fn encode(&mut self, fields: &Fields, buffer: &[u8]) -> Agreed<Option<Vec<u8>>> {
         let expected = writer::written(fields, buffer.len());
+        if self.files.is_some() {
+            return Ok(expected.ok());
+        }
         let found = linked::encode(fields, buffer, self.guards);
         self.encoded("encode", format!("{fields:?}"), expected, found, buffer)
     }
@@ -90,6 +111,9 @@ impl Trials {
     /// The same in the second form, with steps.
     pub fn encode_shaded(&mut self, fields: &Fields, steps: &Steps, buffer: &[u8]) -> Agreed<Option<Vec<u8>>> {
         let expected = writer::shaded_written(fields, steps, buffer.len());
+        if self.files.is_some() {
+            return Ok(expected.ok());
+        }
         let found = linked::encode_shaded(fields, steps, buffer, self.guards);
         self.encoded("encode shaded", format!("{fields:?} {steps:?}"), expected, found, buffer)
     }
@@ -126,6 +150,13 @@ impl Trials {
     pub fn shaded_task(&mut self, buffers: &Buffers, fields: &Fields, steps: &Steps) -> Agreed<Buffers> {
         let batch = self.encode_shaded(fields, steps, &[0; 100])?;
         self.batch(buffers, &batch.ok_or_else(|| format!("{fields:?} {steps:?} are no allowed fields"))?)
+    }
+
+    /// Prints a line on what is tried, unless it may be left out.
+    pub fn say(&self, line: &str) {
+        if self.files.is_none() {
+            println!("{line}");
+        }
     }
 
     /// Prints what came how often.

@@ -34,22 +34,23 @@ fn colour(task: &Task, memory: &[u8], at: Point) -> Colour {
     pixel::blend(task.factors.0, task.factors.1, alpha(task.source_alpha, source), destination).expect("two factors")
 }
 
-/// Memory after a task that passes 25 to 28.
-pub fn drawn(task: &Task, memory: &[u8]) -> Vec<u8> {
+/// Draws a task that passes 25 to 28. The colours of all pixels are there before the first is written.
+fn draw(task: &Task, memory: &mut [u8]) {
     let output = turned_size(0, size(&task.output));
     let pixels = (0..output.height).flat_map(|y| (0..output.width).map(move |x| Point { x, y }));
-    let mut after = memory.to_vec();
-    for p in pixels {
+    let colours: Vec<(Point, Colour)> = pixels.map(|p| (p, colour(task, memory, p))).collect();
+    for (p, colour) in colours {
         let at = task.output.pixel_start(p.x as u16, p.y as u16) as usize;
-        let bytes = task.output.format.pack(colour(task, memory, p)).to_le_bytes();
-        after[at..at + task.output.format.bytes].copy_from_slice(&bytes[..task.output.format.bytes]);
+        let bytes = task.output.format.pack(colour).to_le_bytes();
+        memory[at..at + task.output.format.bytes].copy_from_slice(&bytes[..task.output.format.bytes]);
     }
-    after
 }
 
 /// Memory after a batch that was read: the tasks before a fault stand (02, request 5).
 pub fn drawn_reading(reading: &Reading, memory: &[u8]) -> Vec<u8> {
-    reading.tasks.iter().fold(memory.to_vec(), |memory, task| drawn(task, &memory))
+    let mut after = memory.to_vec();
+    reading.tasks.iter().for_each(|task| draw(task, &mut after));
+    after
 }
 
 /// Memory after a batch, by a reset rule. Status, fault and place beside it.

@@ -32,7 +32,7 @@ pub fn difference(before: &Bank, after: &Bank) -> Vec<u32> {
 
 /// Tasks as one batch for a reset rule, each written whole or only where it differs from what the registers hold. It ends before a task
 /// that would make it longer than `room` words, but has the first.
-fn joined(random: &mut Random, tasks: &[Fields], room: usize, reset: u32) -> Vec<u32> {
+pub fn joined(random: &mut Random, tasks: &[Fields], room: usize, reset: u32) -> Vec<u32> {
     let mut bank = Bank::reset(reset);
     let mut words = Vec::new();
     for fields in tasks {

@@ -14,7 +14,7 @@ use crate::writer::{registers, reset_with};
 pub type Fields = [u32; 30];
 
 /// Width and height.
-type Sides = (u32, u32);
+pub type Sides = (u32, u32);
 
 /// Bytes of a surface from its first to its last.
 fn span(sides: Sides, stride: u32, format: usize) -> u32 {
@@ -148,8 +148,13 @@ fn passes(fields: &Fields, bounds: &Bounds) -> bool {
 
 /// A task that passes, if one is found in a few attempts, the later of them at smaller ones.
 pub fn good(random: &mut Random, bounds: &Bounds) -> Fields {
-    let mut fields = attempt(random, bounds, (7, 5));
-    for sides in [(7, 5), (4, 4), (4, 3), (3, 3), (2, 3), (2, 2), (2, 1), (1, 1), (1, 1), (1, 1)] {
+    good_up_to(random, bounds, (7, 5))
+}
+
+/// The same, the first attempts at sides up to these.
+pub fn good_up_to(random: &mut Random, bounds: &Bounds, longest: Sides) -> Fields {
+    let mut fields = attempt(random, bounds, longest);
+    for sides in [longest, (4, 4), (4, 3), (3, 3), (2, 3), (2, 2), (2, 1), (1, 1), (1, 1), (1, 1)] {
         if passes(&fields, bounds) {
             break;
         }

@@ -11,6 +11,15 @@ pub struct Rectangle {
     pub format: &'static Format,
 }
 
+/// The words of all 65,536 bytes: each two are a pixel, and no two words of 565 look the same.
+pub const ALL_OF_MEMORY: [&str; 5] = ["0", "512", "256", "128", "RGB565"];
+
+/// The picture of all of memory.
+pub fn of_memory(memory: &[u8]) -> Vec<u8> {
+    let rectangle = Rectangle::of_words(&ALL_OF_MEMORY.map(String::from)).expect("the words of a rectangle");
+    rectangle.picture(memory).expect("memory of a replay file")
+}
+
 /// A number, in decimal or after 0x in hex.
 pub fn number(word: &str) -> Option<u64> {
     match word.strip_prefix("0x") {
@@ -71,6 +80,18 @@ mod tests {
     fn picture(words: &str, memory: &[u8]) -> Option<Vec<u8>> {
         let words: Vec<String> = words.split(' ').map(String::from).collect();
         Rectangle::of_words(&words)?.picture(memory)
+    }
+
+    /// Every pixel of all of memory is of other bytes, in their order, and every word of 565 has a look of its own.
+    #[test]
+    fn all_bytes_are_seen() {
+        let looks = |words: std::ops::Range<u32>| {
+            let memory: Vec<u8> = words.flat_map(|word| (word as u16).to_le_bytes()).collect();
+            of_memory(&memory)["P6\n256 128\n255\n".len()..].chunks(3).map(<[u8]>::to_vec).collect::<Vec<Vec<u8>>>()
+        };
+        let all = [looks(0..32768), looks(32768..65536)].concat();
+        assert_eq!(all.len(), 65536);
+        assert_eq!(all.iter().collect::<std::collections::BTreeSet<_>>().len(), 65536);
     }
 
     #[test]

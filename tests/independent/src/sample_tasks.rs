@@ -3,6 +3,7 @@ use crate::gradient::Steps;
 use crate::made_tasks::{Fields, DESTINATION, OUTPUT, SOURCE};
 use crate::pixel::{self, RULES};
 use crate::replay::record;
+use crate::words::{bytes, read_le32};
 use crate::writer::{reset_with, shaded_written, written};
 
 pub const ARGB8888: u32 = 0x00;
@@ -77,9 +78,52 @@ pub fn shaded_batch(tasks: &[(Fields, Steps)]) -> Vec<u8> {
     tasks.iter().flat_map(|(fields, steps)| shaded_written(fields, steps, 100).expect("allowed fields")).collect()
 }
 
+/// Batches of one client that write some bytes, four or more, from an address on: a pixel at a time, each of ARGB8888, and the last on those before it
+/// where the bytes are no multiple of four.
+pub fn bytes_drawn(address: u32, all: &[u8]) -> Vec<Vec<u8>> {
+    let last = all.len() - 4;
+    let places: Vec<usize> = (0..last).step_by(4).chain([last]).collect();
+    let pixel = |at: &usize| (address + *at as u32, read_le32(all, *at).expect("four bytes"));
+    places.chunks(DOTS).map(|places| dots(places.iter().map(pixel))).collect()
+}
+
+/// Single pixels in a batch of the longest length: all but the first are four words each.
+const DOTS: usize = (32768 - 80) / 16;
+
+/// Single pixels, each of an address and a colour. After the first a task writes these two registers alone.
+fn dots(pixels: impl Iterator<Item = (u32, u32)>) -> Vec<u8> {
+    let first = |address| Place { address, stride: 8, width: 1, height: 1, format: ARGB8888 };
+    let task = |(number, (address, colour))| match number {
+        0 => batch(&[fill(first(address), colour)]),
+        _ => bytes(&[0x01C << 16 | 4, colour, 0x110 << 16 | 5, address]),
+    };
+    pixels.enumerate().flat_map(task).collect()
+}
+
 /// A replay file of some records.
 pub fn file(records: &[(u8, Vec<u8>)]) -> Vec<u8> {
     let mut bytes = vec![1];
     records.iter().for_each(|(client, batch)| bytes.extend(record(*client, batch)));
     bytes
+}
+
+#[cfg(test)]
+mod tests {
+    use super::*;
+    use crate::replay::{replayed, window_start, WINDOW};
+
+    /// Any bytes, of every length from four on up to some, and of a whole window.
+    #[test]
+    fn bytes_are_drawn() {
+        for length in (4..40).chain([WINDOW]) {
+            let all: Vec<u8> = (0..length).map(|n| (n * 7 + n / 256 + 1) as u8).collect();
+            let start = window_start(2) + WINDOW - length;
+            let records: Vec<(u8, Vec<u8>)> = bytes_drawn(start, &all).into_iter().map(|batch| (2, batch)).collect();
+            let (lines, memory) = replayed(&file(&records));
+            assert!(lines.lines().all(|line| line.ends_with(" 0 0")), "{lines}");
+            let mut expected = vec![0; memory.len()];
+            expected[start as usize..(start + length) as usize].copy_from_slice(&all);
+            assert!(memory == expected, "{length} bytes");
+        }
+    }
 }

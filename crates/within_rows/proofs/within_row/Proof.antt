@@ -4,9 +4,8 @@ use native.Mathlib.Omega.{arith}
 use denote.Ref.{now}
 use Rattle.surface.specs.Surface.{rowLength, rowStart}
 use Rattle.plan.proofs.Factors.{planned-is}
-use Rattle.raster.proofs.Pixel.{output-within}
 use Rattle.raster.proofs.Place.{starts, ordered, room, window-fits, length-window, row-drawn}
-use Rattle.unblended_rows.proofs.Moved.{moved-lies, lies-apart}
+use Rattle.unblended_rows.proofs.Moved.{moved-down, moved-lies, lies-apart}
 use Rattle.raster.proofs.InPlace.{argb-length}
 use Rattle.within_rows.proofs.Within.{in-window, within-drawn, within-pixel}
 use Rattle.kinds.specs.declared.Kind.the-variants.{Within}
@@ -15,18 +14,18 @@ use borrow.Author.Needs.{needs}
 use Rattle.within_rows.proofs.within_row.Statement.{statement}
 use Rattle.within_rows.proofs.within_row.Tie as tie
 
-origin-requires : tie.Need-origin-requires
-origin-requires c κs =
+identity-row-start-requires : tie.Need-identity-row-start-requires
+identity-row-start-requires c κs =
     let s = c .before .before .before in
-    let r = s .pre .0 in
-    output-within (r .drawable .clear) 0 (s .args .y) (r .drawable .clear .output .wide) (r .row)
+    let w = of-kind (s .args .window) (s .args .task) Within (s .pre .1) .moved in
+    (w .upright, w .kept, moved-down (s .pre .0) w)
 
 sub-from : tie.Need-sub-from
 sub-from c =
     let s = c .before .before .before .before in
     let a = s .args in
     let w = of-kind (a .window) (a .task) Within (s .pre .1) in
-    moved-lies (s .pre .0) (w .moved) (w .inside) (rowStart (a .task .output) (a .y)) (c .origin .result) (rowLength (a .task .output)) refl (c .origin .ensures) refl .start-from
+    moved-lies (s .pre .0) (w .moved) (w .inside) (rowStart (a .task .output) (a .y)) (c .identity-row-start .result) (rowLength (a .task .output)) refl (c .identity-row-start .ensures) refl .start-from
 
 row-start-requires : tie.Need-row-start-requires
 row-start-requires c κs = search needs
@@ -62,8 +61,8 @@ blend-within-requires c κs =
     let s = o .before .before .before .before in
     let w = of-kind (s .args .window) (s .args .task) Within (s .pre .1) in (
       (
-        lies-apart (s .args .window) _ (t .row-start .result) (o .origin .result) (l .row-length .result)
-            (moved-lies (s .pre .0) (w .moved) (w .inside) (t .row-start .result) (o .origin .result) (l .row-length .result) (t .row-start .ensures) (o .origin .ensures) (l .row-length .ensures))
+        lies-apart (s .args .window) _ (t .row-start .result) (o .identity-row-start .result) (l .row-length .result)
+            (moved-lies (s .pre .0) (w .moved) (w .inside) (t .row-start .result) (o .identity-row-start .result) (l .row-length .result) (t .row-start .ensures) (o .identity-row-start .ensures) (l .row-length .ensures))
             (length-window (s .pre .0)),
         omega (arith, l .row-length .ensures, argb-length (s .args .task .output) (w .placed .to)),
       ),
@@ -84,9 +83,9 @@ returns c =
     let r = s .pre .0 in
     let q = of-kind (a .window) (a .task) Within (s .pre .1) in
     let w = a .window in
-    let i = o .origin .result in
+    let i = o .identity-row-start .result in
     let n = l .row-length .result in
-    let p = moved-lies r (q .moved) (q .inside) (t .row-start .result) i n (t .row-start .ensures) (o .origin .ensures) (l .row-length .ensures) in
+    let p = moved-lies r (q .moved) (q .inside) (t .row-start .result) i n (t .row-start .ensures) (o .identity-row-start .ensures) (l .row-length .ensures) in
     let in-w = in-window (now (a .memory)) (w .start) (w .end - w .start) (λ j. omega (arith, o .before .before .before .slice-known .given j)) (window-fits r) in
     let from : w .start + (i - w .start) ≡ i = omega (arith, p .start-from) in
     let to : w .start + (t .row-start .result - w .start) ≡ rowStart (a .task .output) (a .y) = omega (arith, p .start-to, t .row-start .ensures) in
@@ -94,13 +93,13 @@ returns c =
     (within-drawn (a .task) (a .plan .rule) _ (d .blend-within .last .0) (t .row-start .result - w .start) (i - w .start) n q (planned-is _ _ (s .pre .2) .1) (l .row-length .ensures) in-w
     (lies-apart w _ (t .row-start .result) i n p (length-window r)) (d .blend-within .kept .0) (d .blend-within .ensures))
     (λ x u. within-pixel (a .task) (now (a .memory)) (w .start) (w .end - w .start) (t .row-start .result - w .start) (i - w .start) i x (a .y) q in-w (window-fits r)
-    (o .origin .ensures) from to (omega (arith, p .start-from, p .end-from, l .row-length .ensures)) (omega (arith, p .start-to, p .end-to, l .row-length .ensures)) u)
+    (o .identity-row-start .ensures) from to (omega (arith, p .start-from, p .end-from, l .row-length .ensures)) (omega (arith, p .start-to, p .end-to, l .row-length .ensures)) u)
 
 pub within-row-spec : {M : Type 1} → statement M
 within-row-spec =
     tie.close
     (tie.spec
-    origin-requires
+    identity-row-start-requires
     sub-from
     row-start-requires
     sub-to

@@ -3,6 +3,7 @@
 use crate::bench::bench;
 use crate::trials::{Agreed, Trials};
 use independent::engine::Numbers;
+use independent::made_pixels::KINDS;
 use independent::made_tasks::Fields;
 use independent::pixel::{FORMATS, RULES};
 use independent::sample_tasks::{blended, copy, Place, ARGB8888, RGB565, RGB888};
@@ -112,12 +113,9 @@ fn all_sums(trials: &mut Trials) -> Agreed {
             destination.push(pixel(da, d, d, d));
         }
     }
-    println!("{:>12}  sums of two products of bytes, each blended to", source.len());
+    trials.say(&format!("{:>12}  sums of two products of bytes, each blended to", source.len()));
     blend_pixels(trials, &source, &destination, |fields| by_factors(fields, SOURCE_ALPHA, DESTINATION_ALPHA))
 }
-
-/// What four pixels of a source are made: left as they look random, without alpha, empty, opaque.
-const FOURS: [fn([u8; 4]) -> [u8; 4]; 4] = [|pixel| pixel, |[b, g, r, _]| [b, g, r, 0], |_| [0; 4], |[b, g, r, _]| [b, g, r, 255]];
 
 /// Source and output in the window, rows of every width up to 70 under every rule: the source before the output and after it, upside down and not, all of
 /// its pixels of one kind, and each four of another.
@@ -130,7 +128,7 @@ fn within_window(trials: &mut Trials) -> Agreed {
         for i in 0..3 * width {
             let at = address + i / width * stride + 4 * (i % width);
             let four = if kind < 4 { kind } else { (i % width / 4 + i / width) % 4 };
-            let pixel = FOURS[four](buffers.memory[at..at + 4].try_into().expect("four bytes"));
+            let pixel = KINDS[four](buffers.memory[at..at + 4].try_into().expect("four bytes"));
             buffers.memory[at..at + 4].copy_from_slice(&pixel);
         }
         let place = |address| Place { address, stride: stride as u32, width: width as u32, height: 3, format: ARGB8888 };

@@ -24,6 +24,7 @@ pub use encoder::any_fields;
 pub use records::damage;
 pub use walks::walk;
 
+use crate::laid_out::LaidOut;
 use crate::lent::GUARDS;
 use crate::trials::{Agreed, Trials};
 
@@ -69,4 +70,29 @@ pub fn compare() -> bool {
     }
     println!("{total} calls: all agree");
     true
+}
+
+/// Subjects whose tasks are tried by what they draw, and whose cases look at no answer; and of how many of eleven cases that is done here.
+const DRAWING: [(Subject, u64); 7] = [
+    (("alphas", alphas::compare), 11),
+    (("blends", blends::compare), 4),
+    (("premultiplied sources", premultiplied::compare), 11),
+    (("rows of one colour and of constant factors", solids::compare), 11),
+    (("transforms", transforms::compare), 11),
+    (("gradients", gradients::compare), 11),
+    (("batches of several tasks", batches::compare), 11),
+];
+
+/// The cases of these subjects, written in replay files.
+pub fn drawn_in_files(mut files: LaidOut) -> Agreed<LaidOut> {
+    for ((name, subject), share) in DRAWING {
+        files.take(share);
+        let before = files.counts();
+        let mut trials = Trials::in_files(files);
+        subject(&mut trials)?;
+        files = trials.written()?.expect("the files that were lent");
+        let after = files.counts();
+        println!("{:>12}  batches in {} files: {name}", after.batches - before.batches, after.files - before.files);
+    }
+    Ok(files)
 }
