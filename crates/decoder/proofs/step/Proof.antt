@@ -64,9 +64,9 @@ group c =
     g .inv .2 ∙ open-group (s .args .bounds) (Ws s) (g .held) (g .at) (w .result) (omega (arith, n, g .inv .1)) (w .ensures) ok (rw (← n) (c .if2 .left))
 
 -- the reading from the start is the reading from here, at the inner loop's head
-here : (c : tie.At-loop Inv-loop μ-loop Inv-groups μ-groups) → let s = c .before .before .before .before .before .before .before .before in let l = c .loop in let h = c .before .before .before .before .word-at .result in
+here : (c : tie.At-loop Inv-loop μ-loop Inv-groups μ-groups) → let s = c .before .before .before .before .before .before .before .before in let l = c .loop in let h = c .before .before .before .before .word-at .result in let g = c .before .before .before .before .before .groups in
     stepAt (s .args .bounds) (Ws s) (s .args .bank) (s .args .k)
-    ≡ stepFrom (s .args .bounds) (l .held) (l .at) (inGroup (l .left) (l .register) (eqb (field 0 0 h) 1) (c .before .before .before .before .before .groups .at)) (drop (l .at) (Ws s))
+    ≡ stepFrom (s .args .bounds) (l .held) (l .at) (inGroup (l .left) (l .register) (eqb (field 0 0 h) 1) (g .at)) (drop (l .at) (Ws s))
 here c = group (c .before) ∙ c .loop .inv .3
 
 groups-holds : tie.Need-groups-holds Inv-loop μ-loop Inv-groups μ-groups
@@ -195,7 +195,8 @@ returns-3 c =
     let l = c₈ .loop in
     let w = c .before .before .before .before .before .before .word-at2 in
     let n = c₈ .before .before .before .before .before .before .word-count .ensures in
-    let e = sym (c .before .before .before .before .before .write .ensures) ∙ c .before .before .before .f .given .1 in
+    let c₅ = c .before .before .before .before .before in
+    let e = sym (c₅ .write .ensures) ∙ c .before .before .before .f .given .1 in
     c .faulty3 .ensures
     ∙ sym (here c₈
     ∙ refused (s .args .bounds) (Ws s) (l .held) (l .at) (w .result) (omega (arith, n, l .inv .1)) (w .ensures) (l .left) (l .register) _ _ _ (c₇ .loop-test .taken) e

@@ -25,7 +25,7 @@ abbrev Ws : tie.Start Inv-loop μ-loop → List ℕ
 Ws c = batchWords (c .args .ring .now) (c .args .offset) (c .args .size)
 
 -- a task ends past where it began
-onward : (c : tie.After-known-told Inv-loop μ-loop) → let l = c .before .before .before .before .loop in let b = c .before .b .given in (l .at < b .0 .1 .1 .0) × (b .0 .1 .1 .0 ≤ length (Ws (c .before .before .before .before .before .before)))
+onward : (c : tie.After-known-told Inv-loop μ-loop) → let s = c .before .before .before .before .before .before in let l = c .before .before .before .before .loop in let b = c .before .b .given in (l .at < b .0 .1 .1 .0) × (b .0 .1 .1 .0 ≤ length (Ws s))
 onward c =
     let s = c .before .before .before .before .before .before in
     let l = c .before .before .before .before .loop in

@@ -61,8 +61,9 @@ returns c =
     let k = c .before .before .before in
     let s = k .before .before .before .before .before .before .before in
     let a = s .args in
+    let k₅ = k .before .before .before .before .before in
     rw (c .overlaps .ensures)
-    (row-decides (a .first) (a .later) (s .pre) (k .before .if1 .y) _ _ _ (first k) (omega (arith, k .before .before .before .before .before .row-length .ensures)) refl (ap (λ (n : ℕ). a .later .address + n) (k .before .before .before .row-length2 .ensures)))
+    (row-decides (a .first) (a .later) (s .pre) (k .before .if1 .y) _ _ _ (first k) (omega (arith, k₅ .row-length .ensures)) refl (ap (λ (n : ℕ). a .later .address + n) (k .before .before .before .row-length2 .ensures)))
 
 pub shares-rows-spec : {M : Type 1} → statement M
 shares-rows-spec =

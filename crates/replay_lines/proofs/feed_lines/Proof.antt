@@ -73,8 +73,9 @@ loop-again : tie.Need-loop-again Inv-loop μ-loop
 loop-again c =
     let d = c .before .before .before .before .before .before .before .before .before .before .before in
     let l = d .before .before .before .before .before .before .before .loop in
+    let d₆ = d .before .before .before .before .before .before in
     let k = bounds d in (
-      going-more _ _ _ _ _ (l .used) (l .written) (l .now) _ _ _ (l .out) (l .inv .0) _ (length (l .out) - l .written) (d .feed .result) _ _ _ _ refl (omega (arith, room (d .before .before .before .before .before .before), length-mid (l .written) (length (l .out) - l .written) (l .out) (omega arith))) (omega arith) (omega (arith, prints-within _ _ _ _ (d .feed .ensures .prints) (d .feed .kept .1 .1 .1 .1 .1 .0), d .feed .kept .1 .1 .1 .1 .1 .0)) (d .feed .ensures),
+      going-more _ _ _ _ _ (l .used) (l .written) (l .now) _ _ _ (l .out) (l .inv .0) _ (length (l .out) - l .written) (d .feed .result) _ _ _ _ refl (omega (arith, room d₆, length-mid (l .written) (length (l .out) - l .written) (l .out) (omega arith))) (omega arith) (omega (arith, prints-within _ _ _ _ (d .feed .ensures .prints) (d .feed .kept .1 .1 .1 .1 .1 .0), d .feed .kept .1 .1 .1 .1 .1 .0)) (d .feed .ensures),
       k .0,
       k .1,
       search needs,
@@ -124,8 +125,9 @@ returns-2 : tie.Need-returns-2 Inv-loop μ-loop
 returns-2 c =
     let d = c .before .before .before .before .before .before .before .before .before .before .before in
     let l = d .before .before .before .before .before .before .before .loop in
+    let d₆ = d .before .before .before .before .before .before in
     let k = bounds d in
-    let g = going-more _ _ _ _ _ (l .used) (l .written) (l .now) _ _ _ (l .out) (l .inv .0) _ (length (l .out) - l .written) (d .feed .result) _ _ _ _ refl (omega (arith, room (d .before .before .before .before .before .before), length-mid (l .written) (length (l .out) - l .written) (l .out) (omega arith))) (omega arith) (omega (arith, prints-within _ _ _ _ (d .feed .ensures .prints) (d .feed .kept .1 .1 .1 .1 .1 .0), d .feed .kept .1 .1 .1 .1 .1 .0)) (d .feed .ensures) in
+    let g = going-more _ _ _ _ _ (l .used) (l .written) (l .now) _ _ _ (l .out) (l .inv .0) _ (length (l .out) - l .written) (d .feed .result) _ _ _ _ refl (omega (arith, room d₆, length-mid (l .written) (length (l .out) - l .written) (l .out) (omega arith))) (omega arith) (omega (arith, prints-within _ _ _ _ (d .feed .ensures .prints) (d .feed .kept .1 .1 .1 .1 .1 .0), d .feed .kept .1 .1 .1 .1 .1 .0)) (d .feed .ensures) in
     record { within = k .0; room = k .1; same = g .0; onward = g .1 }
 
 pub feed-lines-spec : {M : Type 1} → statement M
