@@ -62,9 +62,9 @@ module _ (s : State) where
 -- ---- the encoder
 
 module _ (form : Form) (buffer : List ℕ) where
-  encoder-refused-if : encoderNumber (answerOf form (length buffer)) ≡ firstRefusal (encoderTable form (length buffer))
+  encoder-by-table : encoderNumber (answerOf form (length buffer)) ≡ firstRefusal (encoderTable form (length buffer))
   unfolding answerOf firstRefusal
-  encoder-refused-if = by (formAllowed form) (ltb (length buffer) (formSize form))
+  encoder-by-table = by (formAllowed form) (ltb (length buffer) (formSize form))
     where
       by : (a short : Bool) → encoderNumber (cond a (cond short ShortBuffer Written) Forbidden) ≡ cond (not a) 24 (cond short 12 0)
       by true true = refl
@@ -84,5 +84,5 @@ pub demand1 : Demand1
 demand1 = record {
   set-up = set-up-number;
   calls = of-calls;
-  encoder = λ form buffer. record { refused-if = encoder-refused-if form buffer; refused-no-change = encoder-refused-no-change form buffer };
+  encoder = λ form buffer. record { by-table = encoder-by-table form buffer; refused-no-change = encoder-refused-no-change form buffer };
 }

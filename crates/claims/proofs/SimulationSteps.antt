@@ -23,7 +23,7 @@ use Rattle.queue.proofs.Preservation.{begin-preserves, cancel-preserves}
 use Rattle.queue.proofs.Room.{submit-lies}
 use Rattle.model.specs.Windows.{Window}
 use Rattle.model.specs.Calls.{Setup, opens, submit, pending, begin, cancel, close, opened, accepted, ready}
-use Rattle.model.specs.State.{Model, free, taken, lowestFree as lowestPlace, idle, staging}
+use Rattle.model.specs.State.{Model, free, taken, lowestFreeId, idle, staging}
 use Rattle.model.specs.Model.{Step, refuseOr, effect}
 use Rattle.claims.specs.ModelProperties.{batchSemantics}
 use Rattle.claims.specs.Engine.{State, CallResult}
@@ -65,7 +65,7 @@ module _ (setup : Setup) (n : ℕ) (s : State) (S : Sound setup n s) (count : �
   unfolding withClient
   open-next w = next
 
-  open-places : (w : Window) → seenPlaces (withClient (s .engine) (given w) .clients) ≡ set (seenPlaces (s .engine .clients)) (lowestPlace (seenPlaces (s .engine .clients))) (taken w)
+  open-places : (w : Window) → seenPlaces (withClient (s .engine) (given w) .clients) ≡ set (seenPlaces (s .engine .clients)) (lowestFreeId (seenPlaces (s .engine .clients))) (taken w)
   unfolding withClient
   open-places w = places-set (s .engine .clients) _ _ ∙ ap (λ (k : ℕ). set (seenPlaces (s .engine .clients)) k (taken w)) (sym (places-lowest (s .engine .clients)))
 

@@ -64,7 +64,7 @@ pub record OfCalls (s : State) : Type 0 where
 
 -- the encoder; "and changes nothing" is said of the buffer that is lent
 pub record OfEncoder (form : Form) (buffer : List ℕ) : Type 0 where
-  pub refused-if : encoderNumber (answerOf form (length buffer)) ≡ firstRefusal (encoderTable form (length buffer))
+  pub by-table : encoderNumber (answerOf form (length buffer)) ≡ firstRefusal (encoderTable form (length buffer))
   pub refused-no-change : ¬ (encoderNumber (answerOf form (length buffer)) ≡ 0) → bufferAfter form buffer ≡ buffer
 
 pub record Demand1 : Type 0 where

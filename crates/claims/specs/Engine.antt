@@ -39,7 +39,7 @@ answerOrRefusal (suc n) answer = refused (suc n)
 abbrev pub completion : CompletionValues → Answer
 completion v = completed (v .client) (v .ticket) (record { status = v .status; fault = v .fault; offset = v .offset })
 
--- 02, 6: "A piece answers the bytes still to come, the last its ticket."
+-- The model's answer for the queue's, used of a piece. 02, 6: "A piece answers the bytes still to come, the last its ticket."
 abbrev pub modelAnswerOf : QueueAnswer → Answer
 modelAnswerOf (Accepted ticket) = accepted ticket
 modelAnswerOf (Missing bytes) = missing bytes

@@ -15,7 +15,7 @@ use Rattle.queue.specs.Refusals.{firstRefusal as firstRow}
 use Rattle.queue.specs.Calls.{setUpResult}
 use Rattle.model.specs.Windows.{Window, window, overlapAny}
 use Rattle.model.specs.Calls.{submit, run, accepted, completed}
-use Rattle.model.specs.State.{Model, Place, free, taken as held, isTaken, lowestFree, windowsIn, idle, totalBytes, windowOf as windowIn}
+use Rattle.model.specs.State.{Model, Place, free, taken as held, isTaken, lowestFreeId, windowsIn, idle, totalBytes, windowOf as windowIn}
 use Rattle.model.specs.Refusals.{refusalTable, firstHolding, refusal as refusalIn, badLength}
 use Rattle.model.specs.Model.{refuse, enqueue, runStep, refuseOr, effect, step, after, modelAfterAll}
 use Rattle.claims.specs.ModelProperties.{batchSemantics}
@@ -241,7 +241,7 @@ module _ (edition : Edition) where
   set-up = refl
 
   opens-four : (n : ℕ) (memory : List ℕ) → modelAfterAll (batchSemantics (setup edition)) (setup edition) n opening memory ≡ resting 0 memory
-  unfolding after effect refuseOr refusalTable firstHolding overlapAny lowestFree windowsIn
+  unfolding after effect refuseOr refusalTable firstHolding overlapAny lowestFreeId windowsIn
   opens-four n memory = refl
 
   starts : (ring memory : List ℕ) → length ring ≡ 32768 → length memory ≡ 65536 → Stands 0 (engineOpened edition ring memory)

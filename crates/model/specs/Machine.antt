@@ -31,7 +31,8 @@ pub record Machine : Type 1 where
   pub refusal : Call → State → ℕ
   -- the memory that is lent
   pub memory : State → List ℕ
-  -- over a list of calls, each of which finds the state as the call before it left it: every answer, memory after each call, and the state at the end
+  -- over a list of calls, each of which finds the state as the call before it left it: every answer, memory after each call, and the state at the end.
+  -- That they go by `perform` is not asked here: of the model it is so by their definitions in Model, of the engine by those of crate claims, specs/Engine
   pub answers : List Call → State → List Answer
   pub memories : List Call → State → List (List ℕ)
   pub after : List Call → State → State
@@ -72,7 +73,7 @@ module _ (machine : Machine) where
     abbrev pub enteredState : machine .State
     enteredState = machine .next (machine .perform (opens w) (machine .after before start))
 
-    -- And as the calls `during` leave that.
+    -- And as the calls `during` leave that (02, 11: up to the stay's closing).
     abbrev pub leftState : (during : List Call) → machine .State
     leftState during = machine .after during enteredState
 

@@ -27,17 +27,17 @@ abbrev pub Proper : Setup → (open? : ℕ → Bool) → Staging → Type 0
 Proper setup open? idle = Unit {0}
 Proper setup open? (staging client total bytes) = (open? client ≡ true) × (badLength setup total ≡ false) × (length bytes < total)
 
--- The numbers that refuse a call after set up: 1 and 2 are set up's, 11 never comes.
+-- The numbers that refuse a call after set up (01, "Engine, desks, queue", the table; 02, 6 and 11): 1 and 2 are set up's, 11 never comes.
 abbrev pub refuses : ℕ → Bool
 refuses n = leb 3 n && leb n 10 || eqb n 13 || eqb n 14 || eqb n 18
 
--- The batch is what the submit hands in, or what the staged bytes and this piece make.
+-- The batch is what the submit hands in (01, "The book of demand 3"), or what the staged bytes and this piece make (02, 6).
 pub data HandedIn (model : Model) : Call → Batch → Type 0 where
   whole : (client ticket : ℕ) (bytes : List ℕ) → HandedIn model (submit client bytes) (batch client ticket bytes)
   pieces : (client ticket total : ℕ) (before bytes : List ℕ) → model .staged ≡ staging client total before →
       HandedIn model (piece client bytes) (batch client ticket (before ++ bytes))
 
--- A refused call executes and closes nothing, and its number is one of these. That it leaves the whole model as it was is `RefusalNoOp`.
+-- A refused call executes and closes nothing (01, "The book of demand 3": "It refuses by the table and then changes nothing"), and its number is one of these. That it leaves the whole model as it was is `RefusalNoOp`.
 pub record Quiet (number : ℕ) (s : Step) : Type 0 where
   pub executed : s .executed ≡ []
   pub closed : s .closed ≡ []
@@ -58,7 +58,7 @@ module _ (way : BatchSemantics) (setup : Setup) (ring : ℕ) where
       pub waiting : (b : Batch) → List·Memᴰ b (finalModel .waiting) → isOpen finalModel (b .client) ≡ true
       pub staged : Proper setup (isOpen finalModel) (finalModel .staged)
 
-    -- What was executed and then what waits is all that was ever accepted, in the order of the tickets. At most eight slots are taken, the staged
+    -- What was executed and then what waits is all that was ever accepted, in the order of the tickets (01, "The book of demand 3"). At most eight slots are taken, the staged
     -- submission's among them, in the ring's room.
     pub record FifoOrder : Type 0 where
       pub all : length (executedBatches ++ finalModel .waiting) ≡ finalModel .accepted

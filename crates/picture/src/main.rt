@@ -11,7 +11,7 @@ use records::Edition;
 use replay_io::Replaying;
 use surface::Surface;
 
-// The number that an argument spells; that it spells none is reported, with the argument's name.
+// The number that an argument holds; that it holds none is reported, with the argument's name.
 fn number_argument(index: usize, name: &[u8]) -> ParsedNumber {
     let mut text = io::buffer();
     let n = os::arg(index, &mut text);
@@ -25,7 +25,7 @@ fn format_argument(index: usize) -> ParsedFormat {
     command::format_in(&text[..n])
 }
 
-// The rectangle that the five arguments after the file's name. What is wrong with them is reported.
+// The rectangle given by the five arguments after the file. What is wrong with them is reported.
 fn rectangle_argument(file: usize) -> Rectangle
     requires { ⌜ file ≤ 2 ⌝ }
 {

@@ -40,7 +40,7 @@ module _ (setup : Setup) (ring memory script buffer : List ℕ) where
   unfoldable pub memoryAfter : List ℕ
   memoryAfter = modelAfterAll (batchSemantics setup) setup (length ring) played memory .memory
 
-  -- the ring after it: batches are copied in by submit and by pieces alone, one after the other from byte 0 on
+  -- the ring after it: batches are copied in by submit and by pieces alone, one after the other from byte 0 on; the room of a cancelled one is used again
   unfoldable pub ringAfter : List ℕ
   ringAfter = ringAfterCalls setup (length ring) 0 played (initialModel memory) ring
 
