@@ -224,8 +224,8 @@ impl Completion {
 }
 
 impl From<CompletionFields> for Completion {
-    fn from(told: CompletionFields) -> Self {
-        let CompletionFields { client, ticket, status, fault, place } = told;
+    fn from(answered: CompletionFields) -> Self {
+        let CompletionFields { client, ticket, status, fault, place } = answered;
         Completion { client, ticket, status, fault: Fault::of(fault), place }
     }
 }

@@ -180,9 +180,9 @@ impl Engine {
     /// # Errors
     /// [`Refusal::NothingReady`].
     pub fn run(&mut self) -> Result<Completion, Refusal> {
-        let mut told = CompletionFields::default();
-        Refusal::check(library::run(&mut self.record, &self.ring, &mut self.memory, &mut told))?;
-        Ok(told.into())
+        let mut answered = CompletionFields::default();
+        Refusal::check(library::run(&mut self.record, &self.ring, &mut self.memory, &mut answered))?;
+        Ok(answered.into())
     }
 
     /// How many batches of a client are ready.

@@ -17,7 +17,7 @@ use Rattle.records.specs.declared.Edition.the-variants.{First}
 use Rattle.lines.specs.Lines.{setup}
 use Rattle.lines.specs.Answered.{recordRefusal, replayWindow}
 use Rattle.records.specs.Records.{Entry}
-use Rattle.rules.specs.declared.task.Bounds.{Bounds}
+use Rattle.task_check.specs.declared.task.Bounds.{Bounds}
 use Rattle.claims.specs.BatchSemantics.{boundsOf}
 use Rattle.acceptance.specs.declared.Submitted.{Submitted}
 use Rattle.acceptance.specs.declared.Submitted.the-variants.{Refused, Within}

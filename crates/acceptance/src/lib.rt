@@ -6,7 +6,7 @@ ghost use Rattle.claims.specs.BatchSemantics.{boundsOf};
 ghost use Rattle.lines.specs.Answered.{recordRefusal, replayWindow};
 ghost use Rattle.acceptance.specs.Submitted.{submittedAs};
 use range::Range;
-use rules::Bounds;
+use task_check::Bounds;
 
 // Submit refuses the record, or its batch is run within these bounds.
 pub enum Submitted {
@@ -29,7 +29,7 @@ fn bounds_of(client: u32) -> Bounds
 {
     Bounds {
         window: Range::new(16384 + client * 12288, 12288),
-        common: 16384,
+        common_length: 16384,
     }
 }
 

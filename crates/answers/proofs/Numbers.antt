@@ -11,29 +11,29 @@ use Rattle.batch.specs.Batch.{statusWordOf, faultNumberOf as faultOf, faultOffs
 use Rattle.batch.proofs.DecoderCases.{words-fit}
 use Rattle.batch.proofs.Tasks.{status-fits}
 use Rattle.batch.proofs.Offsets.{offset-within}
-use Rattle.record.specs.declared.Batch.{Batch}
-use Rattle.record.specs.declared.EngineRecord.{EngineRecord}
-use Rattle.record.specs.Setup.{badLength}
-use Rattle.record.specs.Tickets.{ticketBefore, batchOfTicket, inTicketOrder}
-use Rattle.record.specs.Queue.{readySlots}
-use Rattle.record.specs.Rules.{lengthsAllowed, valid}
-use Rattle.record.proofs.Rules.{valid-facts, length-good}
+use Rattle.engine_record.specs.declared.Batch.{Batch}
+use Rattle.engine_record.specs.declared.EngineRecord.{EngineRecord}
+use Rattle.engine_record.specs.Setup.{badLength}
+use Rattle.engine_record.specs.Tickets.{ticketBefore, batchOfTicket, inTicketOrder}
+use Rattle.engine_record.specs.Queue.{readySlots}
+use Rattle.engine_record.specs.Rules.{lengthsAllowed, valid}
+use Rattle.engine_record.proofs.Rules.{valid-facts, length-good}
 use Rattle.engine.specs.declared.Outcome.{Outcome}
 use Rattle.engine.specs.declared.Outcome.the-variants.{Completed}
 use Rattle.engine.specs.declared.Completion.{Completion}
 use Rattle.engine.specs.Run.{runNumber, oldest, boundsOfClient, oldestWords, resetOf, oldestVerdict, outcomeUnlessRefused, runResult}
 use Rattle.engine.proofs.Refusals.{run-allowed}
-use Rattle.answers.specs.Answers.{outcomeWords, Small}
+use Rattle.answers.specs.Answers.{runWords, OutcomeFitsWords}
 
 -- ---- the words
 
 pub completed-words : (o : Outcome) (d : Completion) (status fault offset : ℕ) → o ≡ Completed d → status ≡ statusWordOf (d .verdict) → fault ≡ faultOf (d .verdict) → offset ≡ faultOffsetOf (d .verdict) →
-    (0 ∷ d .client ∷ d .ticket ∷ status ∷ fault ∷ offset ∷ []) ≡ outcomeWords o
+    (0 ∷ d .client ∷ d .ticket ∷ status ∷ fault ∷ offset ∷ []) ≡ runWords o
 completed-words o d status fault offset e s f p = rw (e, s, f, p)
 
 -- ---- run's numbers
 
-pub completed-small : (o : Outcome) (d : Completion) → o ≡ Completed d → Small o → (statusWordOf (d .verdict) ≤ 4294967295) × (faultOffsetOf (d .verdict) ≤ 4294967295)
+pub completed-small : (o : Outcome) (d : Completion) → o ≡ Completed d → OutcomeFitsWords o → (statusWordOf (d .verdict) ≤ 4294967295) × (faultOffsetOf (d .verdict) ≤ 4294967295)
 completed-small o d e s = let q = rw e at s in (q .status, q .offset)
 
 pub word-whole : (n : ℕ) → n ≤ 4294967295 → n % 4294967296 ≡ n
@@ -48,18 +48,18 @@ oldest-short engine ok some = go (readySlots engine) refl some
     go zero e h = absurd (omega arith)
     go (suc k) e h =
         let v = valid-facts engine ok in
-        let b : Batch = batchOfTicket (ticketBefore (engine .next) (suc k)) (engine .slots) in
+        let b : Batch = batchOfTicket (ticketBefore (engine .«next_ticket») (suc k)) (engine .slots) in
         let bad = badLength (engine .setup .ring) (b .length) in
-        let first = and-true (not bad) (lengthsAllowed (engine .setup .ring) (inTicketOrder k (engine .next) (engine .slots))) (rw e at (v .lengths)) .0 in
+        let first = and-true (not bad) (lengthsAllowed (engine .setup .ring) (inTicketOrder k (engine .«next_ticket») (engine .slots))) (rw e at (v .lengths)) .0 in
         let good = length-good (engine .setup .ring) (b .length) (not-true bad first) in
         rw e (omega (arith, good .within, v .numbers .ring .small))
 
-pub run-small : (engine : EngineRecord) (ring memory : List ℕ) → Small (runResult engine ring memory .outcome)
+pub run-small : (engine : EngineRecord) (ring memory : List ℕ) → OutcomeFitsWords (runResult engine ring memory .outcome)
 unfolding runResult outcomeUnlessRefused
 run-small engine ring memory = go (runNumber engine ring memory) refl
   where
     go : (n : ℕ) → runNumber engine ring memory ≡ n →
-        Small (outcomeUnlessRefused n (Completed (record { client = oldest engine .client; ticket = oldest engine .ticket; verdict = oldestVerdict engine ring })))
+        OutcomeFitsWords (outcomeUnlessRefused n (Completed (record { client = oldest engine .client; ticket = oldest engine .ticket; verdict = oldestVerdict engine ring })))
     go (suc n) e = record { status = omega arith; offset = omega arith }
     go zero e =
         let a = run-allowed engine (length ring) (length memory) e in

@@ -30,10 +30,10 @@ abbrev pub fiveOf : Outcome → List ℕ
 fiveOf o = valuesOf o .client ∷ valuesOf o .ticket ∷ valuesOf o .status ∷ valuesOf o .fault ∷ valuesOf o .offset ∷ []
 
 -- Internal: run's six
-abbrev pub outcomeWords : Outcome → List ℕ
-outcomeWords o = runRefusalOf o ∷ fiveOf o
+abbrev pub runWords : Outcome → List ℕ
+runWords o = runRefusalOf o ∷ fiveOf o
 
 -- Internal: status and offset of an outcome fit in words
-pub record Small (outcome : Outcome) : Type 0 where
+pub record OutcomeFitsWords (outcome : Outcome) : Type 0 where
   pub status : valuesOf outcome .status ≤ 4294967295
   pub offset : valuesOf outcome .offset ≤ 4294967295

@@ -1,7 +1,7 @@
 // What the calls answer, as six words: for callers that are not Rattle.
 ghost use mathlib.Core.Path.{_≡_};
 ghost use Rattle.queue.specs.Answers.{refusalNumberOf, valueOf};
-ghost use Rattle.answers.specs.Answers.{shortAnswer, pieceWords, outcomeWords, Small};
+ghost use Rattle.answers.specs.Answers.{shortAnswer, pieceWords, runWords, OutcomeFitsWords};
 use engine::Outcome;
 use queue::Answer;
 
@@ -28,9 +28,9 @@ pub fn answer_words(answer: Answer) -> [u32; 6]
 }
 
 // The words of run.
-pub fn outcome_words(outcome: Outcome) -> [u32; 6]
-    requires { ⌜ Small outcome ⌝ }
-    ensures { λ r. ⌜ r ≡ outcomeWords outcome ⌝ }
+pub fn run_words(outcome: Outcome) -> [u32; 6]
+    requires { ⌜ OutcomeFitsWords outcome ⌝ }
+    ensures { λ r. ⌜ r ≡ runWords outcome ⌝ }
 {
     match outcome {
         Outcome::Refused(number) => [number, 0, 0, 0, 0, 0],

@@ -16,7 +16,7 @@ use Rattle.surface.specs.Memory.{overwriteRange, littleEndian, pixelAt}
 use Rattle.surface.specs.Drawn.{loadPixel, storePixel}
 use Rattle.surface.proofs.Mapi.{is-mapi}
 use Rattle.surface.proofs.Parts.{Side, before, inside, past, side, within-before, within-in, within-past}
-use Rattle.rows.specs.Row.{wordColour}
+use Rattle.row_pixels.specs.Row.{wordColour}
 
 -- ---- loaded
 

@@ -15,7 +15,7 @@ use Rattle.surface.proofs.Sizes.{bytes-some}
 use Rattle.surface.proofs.Rows.{none-rows}
 use Rattle.surface.proofs.Pixels.{all-pixels}
 use Rattle.surface.proofs.Loaded.{more-stored}
-use Rattle.rows.specs.Row.{rowStored, RowIsWide}
+use Rattle.row_pixels.specs.Row.{rowStored, RowIsWide}
 
 unfoldable pub prefix : Format → (ℕ → Colour) → ℕ → List ℕ → List ℕ
 prefix f p n row = mapi (overwriteRows 0 (bytesPerPixel f) (bytesPerPixel f) n (λ x k. byteOf (packed (layoutOf f) (p x)) k)) row

@@ -11,11 +11,11 @@ use Rattle.pixel.specs.declared.format.Format.the-variants.{Argb8888}
 use Rattle.pixel.proofs.Stored.{stored-same}
 use Rattle.surface.specs.Drawn.{storePixel}
 use Rattle.surface.proofs.Loaded.{loaded-else, loaded-stored}
-use Rattle.rows.specs.Row.{wordColour, colourIn, HoldsColours}
+use Rattle.row_pixels.specs.Row.{wordColour, colourIn, HoldsColours}
 
-pub more-spelt : (p : ℕ → Colour) (buffer buffer′ : List ℕ) (x word : ℕ) → x * 4 + 4 ≤ length buffer → word < 2 ^ 32 → HoldsColours buffer x p →
+pub holds-step : (p : ℕ → Colour) (buffer buffer′ : List ℕ) (x word : ℕ) → x * 4 + 4 ≤ length buffer → word < 2 ^ 32 → HoldsColours buffer x p →
     buffer′ ≡ storePixel Argb8888 buffer (x * 4) (wordColour word) → wordColour word ≡ p x → HoldsColours buffer′ (x + 1) p
-more-spelt p buffer buffer′ x word l small h m e =
+holds-step p buffer buffer′ x word l small h m e =
     below-more (λ (k : ℕ). colourIn buffer′ k ≡ p k) x
     (λ k z. ap (λ (b : List ℕ). colourIn b k) m ∙ (loaded-else Argb8888 buffer (x * 4) (wordColour word) Argb8888 (k * 4) (inl (omega arith)) ∙ h k z))
     (ap (λ (b : List ℕ). colourIn b x) m

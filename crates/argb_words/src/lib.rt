@@ -1,9 +1,9 @@
-// ARGB8888 pixels as words. Such a pixel is stored as the very word that stands for its colour.
+// ARGB8888 pixels as words. The four bytes of such a pixel, low byte first, are the word of its colour, so no conversion is needed.
 ghost use mathlib.Core.Path.{_≡_};
 ghost use Prim.Native.Nat.{_+_, _≤_};
 ghost use lib.ListN.{length};
 ghost use Rattle.surface.specs.Drawn.{loadPixel, storePixel};
-ghost use Rattle.rows.specs.Row.{wordColour, rowStored, RowIsWide};
+ghost use Rattle.row_pixels.specs.Row.{wordColour, rowStored, RowIsWide};
 use pixel::Colour;
 use pixel::Format;
 use word::read_le32;

@@ -11,7 +11,7 @@ use lib.Seq.{drop-cons}
 use Rattle.word.specs.Field.{field}
 use Rattle.word.proofs.Tests.{split}
 use Rattle.ring.specs.declared.Read.the-variants.{Word, OutOfRange}
-use Rattle.ring.specs.Read.{wordAt}
+use Rattle.ring.specs.Read.{readWord}
 use Rattle.ring.proofs.Reading.{read-in, read-past}
 use Rattle.ring.specs.Segment.{liesInRing, batchWords}
 use Rattle.ring.proofs.Segment.{lies-in, no-words, count-words}
@@ -20,12 +20,12 @@ use Rattle.register.specs.Task.{taskOf}
 use Rattle.register.specs.declared.bank.Bank.{Bank}
 use Rattle.register.specs.declared.bank.WriteFault.{WriteFault}
 use Rattle.register.specs.declared.bank.WriteResult.the-variants.{Written, Refused}
-use Rattle.rules.specs.declared.fault.Fault.the-variants.{ReservedBits, GroupLength, OpenTask}
-use Rattle.rules.specs.declared.task.Bounds.{Bounds}
-use Rattle.rules.specs.Faults.{writeFault}
-use Rattle.rules.specs.Rules.{checkTask}
+use Rattle.task_check.specs.declared.fault.Fault.the-variants.{ReservedBits, GroupLength, OpenTask}
+use Rattle.task_check.specs.declared.task.Bounds.{Bounds}
+use Rattle.task_check.specs.Faults.{writeFault}
+use Rattle.task_check.specs.Rules.{checkTask}
 use Rattle.batch.specs.declared.walk.WalkStep.the-variants.{Faulty as Stop, End}
-use Rattle.batch.specs.Batch.{inside, reservedBits, badGroupLength, groupOf}
+use Rattle.batch.specs.Batch.{inGroup, reservedBits, badGroupLength, groupOf}
 use Rattle.batch.specs.Walk.{stepAfterCheck, stepHeader, stepWrite, stepFrom, stepAt}
 
 -- the words of a batch are no more than its bytes
@@ -37,10 +37,10 @@ words-fit ring offset size = go (liesInRing ring offset size) refl
     go false e = omega (arith, ap length (no-words ring offset size e))
 
 -- what the reader says of word k, as an element of the list
-pub word-read : (ws : List ℕ) (k w : ℕ) → wordAt ws k ≡ Word w → w ≡ getD ws k 0
+pub word-read : (ws : List ℕ) (k w : ℕ) → readWord ws k ≡ Word w → w ≡ getD ws k 0
 word-read ws k w e = ⊎-elim (λ (h : k < length ws). cc (read-in ws k h)) (λ (h : length ws ≤ k). cc (read-past ws k h)) (split k (length ws))
 
-pub word-past : (ws : List ℕ) (k : ℕ) → wordAt ws k ≡ OutOfRange → 0 ≡ getD ws k 0
+pub word-past : (ws : List ℕ) (k : ℕ) → readWord ws k ≡ OutOfRange → 0 ≡ getD ws k 0
 word-past ws k e =
     ⊎-elim (λ (h : k < length ws). cc (read-in ws k h)) (λ (h : length ws ≤ k). sym (List·getD-eq-default ws 0 h)) (split k (length ws))
 
@@ -58,29 +58,29 @@ module _ (bounds : Bounds) (ws : List ℕ) (b : Bank) (k : ℕ) where
   header h = rw (drop-at ws k h, length-drop)
 
   -- a group that does not end the task is followed by the next header, or by nothing
-  pub next-group : (offset head : ℕ) → k < length ws → stepFrom bounds b k (inside zero offset false head) (drop k ws) ≡ stepAt bounds ws b k
+  pub next-group : (offset head : ℕ) → k < length ws → stepFrom bounds b k (inGroup zero offset false head) (drop k ws) ≡ stepAt bounds ws b k
   unfolding stepFrom
   next-group offset head h = rw (drop-at ws k h)
 
-  pub open-task : (offset head : ℕ) → length ws ≤ k → stepFrom bounds b k (inside zero offset false head) (drop k ws) ≡ Stop OpenTask (4 * head) b
+  pub open-task : (offset head : ℕ) → length ws ≤ k → stepFrom bounds b k (inGroup zero offset false head) (drop k ws) ≡ Stop OpenTask (4 * head) b
   unfolding stepFrom
   open-task offset head h = rw (drop-of-length-le ws h)
 
   word : (n offset : ℕ) (ends : Bool) (head : ℕ) → k < length ws
-      → stepFrom bounds b k (inside (suc n) offset ends head) (drop k ws)
-      ≡ stepWrite b k (writeRegister b offset (getD ws k 0)) (λ next. stepFrom bounds next (k + 1) (inside n (offset + 4) ends head) (drop (k + 1) ws))
+      → stepFrom bounds b k (inGroup (suc n) offset ends head) (drop k ws)
+      ≡ stepWrite b k (writeRegister b offset (getD ws k 0)) (λ next. stepFrom bounds next (k + 1) (inGroup n (offset + 4) ends head) (drop (k + 1) ws))
   unfolding stepFrom
   word n offset ends head h = rw (drop-at ws k h)
 
 -- a group that ends the task
 ended-at : (bounds : Bounds) (ws : List ℕ) (b : Bank) (k offset head : ℕ)
-    → stepFrom bounds b k (inside zero offset true head) ws ≡ stepAfterCheck (checkTask bounds (taskOf b)) b k (4 * head)
+    → stepFrom bounds b k (inGroup zero offset true head) ws ≡ stepAfterCheck (checkTask bounds (taskOf b)) b k (4 * head)
 unfolding stepFrom
 ended-at bounds [] b k offset head = refl
 ended-at bounds (w ∷ ws) b k offset head = refl
 
 pub ended : (bounds : Bounds) (ws : List ℕ) (b : Bank) (k offset head : ℕ)
-    → stepFrom bounds b k (inside zero offset true head) (drop k ws) ≡ stepAfterCheck (checkTask bounds (taskOf b)) b k (4 * head)
+    → stepFrom bounds b k (inGroup zero offset true head) (drop k ws) ≡ stepAfterCheck (checkTask bounds (taskOf b)) b k (4 * head)
 ended bounds ws b k offset head = ended-at bounds (drop k ws) b k offset head
 
 -- where the word at k is w
@@ -96,11 +96,11 @@ module _ (bounds : Bounds) (ws : List ℕ) (b : Bank) (k w : ℕ) (within : k < 
   open-group e l = header bounds ws b k within ∙ rw (← is) (simp (e, l))
 
   pub refused : (left offset : ℕ) (ends : Bool) (head : ℕ) (f : WriteFault) → 0 < left → writeRegister b offset w ≡ Refused f
-      → stepFrom bounds b k (inside left offset ends head) (drop k ws) ≡ Stop (writeFault f) (4 * k) b
+      → stepFrom bounds b k (inGroup left offset ends head) (drop k ws) ≡ Stop (writeFault f) (4 * k) b
   refused zero offset ends head f z e = absurd (omega arith)
   refused (suc n) offset ends head f z e = word bounds ws b k n offset ends head within ∙ rw (← is, e)
 
   pub taken : (left offset : ℕ) (ends : Bool) (head : ℕ) (next : Bank) → 0 < left → writeRegister b offset w ≡ Written next
-      → stepFrom bounds b k (inside left offset ends head) (drop k ws) ≡ stepFrom bounds next (k + 1) (inside (left - 1) (offset + 4) ends head) (drop (k + 1) ws)
+      → stepFrom bounds b k (inGroup left offset ends head) (drop k ws) ≡ stepFrom bounds next (k + 1) (inGroup (left - 1) (offset + 4) ends head) (drop (k + 1) ws)
   taken zero offset ends head next z e = absurd (omega arith)
   taken (suc n) offset ends head next z e = word bounds ws b k n offset ends head within ∙ rw (← is, e, sub-one)

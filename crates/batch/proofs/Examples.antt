@@ -8,16 +8,16 @@ use Rattle.surface.specs.Surface.{span}
 use Rattle.register.specs.Table.{registerKindOf}
 use Rattle.register.specs.Bank.{resetBank, surfaceAfterWrite, bankAfterWrite, writeRegister}
 use Rattle.register.specs.Task.{surfaceOf, transformOf, alphaOf, sourceOfBank, destinationOf, blendingOf, taskOf}
-use Rattle.rules.specs.declared.fault.Fault.the-variants.{ReservedBits, GroupLength, OpenTask, NotWritable, Forbidden, BadSurface, OutOfBounds}
-use Rattle.rules.specs.declared.task.Bounds.{Bounds}
-use Rattle.rules.specs.Rules.{badSides, badStride, badSource, badOutput, badDestination, badSurface, sizeMismatch, outOfBounds, aliases, outputOverlaps, checkTask}
+use Rattle.task_check.specs.declared.fault.Fault.the-variants.{ReservedBits, GroupLength, OpenTask, NotWritable, Forbidden, BadSurface, OutOfBounds}
+use Rattle.task_check.specs.declared.task.Bounds.{Bounds}
+use Rattle.task_check.specs.Rules.{badSides, badStride, badSource, badOutput, badDestination, badSurface, sizeMismatch, outOfBounds, aliases, outputOverlaps, checkTask}
 use Rattle.batch.specs.declared.verdict.Verdict.{Verdict}
 use Rattle.batch.specs.declared.verdict.Verdict.the-variants.{Faultless, Faulty}
 use Rattle.batch.specs.Batch.{decodeFrom, decodeBatch, verdictOf, statusWordOf}
 
 -- the replay program's bounds for client 0
 abbrev pub bounds : Bounds
-bounds = record { window = record { start = 16384; end = 28672 }; common = 16384 }
+bounds = record { window = record { start = 16384; end = 28672 }; «common_length» = 16384 }
 
 -- the twenty words, with an output address
 abbrev pub words : ℕ → List ℕ

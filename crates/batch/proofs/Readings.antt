@@ -8,12 +8,12 @@ use Rattle.register.specs.Task.{taskOf}
 use Rattle.register.specs.declared.bank.Bank.{Bank}
 use Rattle.register.specs.declared.bank.WriteResult.{WriteResult}
 use Rattle.register.specs.declared.bank.WriteResult.the-variants.{Written, Refused}
-use Rattle.rules.specs.declared.fault.Fault.{Fault}
-use Rattle.rules.specs.declared.fault.Fault.the-variants.{ReservedBits, GroupLength}
-use Rattle.rules.specs.declared.task.Bounds.{Bounds}
-use Rattle.rules.specs.declared.task.TaskCheck.{TaskCheck}
-use Rattle.rules.specs.declared.task.TaskCheck.the-variants.{Valid, Invalid}
-use Rattle.rules.specs.Faults.{writeFault}
+use Rattle.task_check.specs.declared.fault.Fault.{Fault}
+use Rattle.task_check.specs.declared.fault.Fault.the-variants.{ReservedBits, GroupLength}
+use Rattle.task_check.specs.declared.task.Bounds.{Bounds}
+use Rattle.task_check.specs.declared.task.TaskCheck.{TaskCheck}
+use Rattle.task_check.specs.declared.task.TaskCheck.the-variants.{Valid, Invalid}
+use Rattle.task_check.specs.Faults.{writeFault}
 use Rattle.batch.specs.Batch.{DecodedBatch, faulty, stopWith, consTask, DecoderState, reservedBits, badGroupLength, decodeHeader, afterWrite, afterTaskCheck, groupOf, decodeFrom}
 
 -- the reading after a header, by the position that it leads to, and after a written word, by the bank

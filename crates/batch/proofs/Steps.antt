@@ -7,8 +7,8 @@ use native.Mathlib.Nat.{add-zero}
 use lib.ListN.{length}
 use Rattle.register.specs.declared.bank.Bank.{Bank}
 use Rattle.register.specs.declared.task.Task.{Task}
-use Rattle.rules.specs.declared.fault.Fault.{Fault}
-use Rattle.rules.specs.declared.task.Bounds.{Bounds}
+use Rattle.task_check.specs.declared.fault.Fault.{Fault}
+use Rattle.task_check.specs.declared.task.Bounds.{Bounds}
 use Rattle.batch.specs.declared.walk.WalkStep.{WalkStep}
 use Rattle.batch.specs.declared.walk.WalkStep.the-variants.{Task as Next, Faulty as Stop, End}
 use Rattle.batch.specs.declared.verdict.Validation.{Validation}
@@ -18,18 +18,18 @@ use Rattle.batch.specs.Walk.{decodeRest, decodeAfterStep, stepAt, StepSi
 use Rattle.batch.proofs.Simulates.{simulates}
 
 -- the validation of m tasks, where the reading ended like this
-abbrev told : ℕ → DecodedBatch → Validation
-told m r = record { verdict = verdictAfter m (r .ending); bank = r .bank }
+abbrev validationAfter : ℕ → DecodedBatch → Validation
+validationAfter m r = record { verdict = verdictAfter m (r .ending); bank = r .bank }
 
 -- the validation of a batch of which n tasks have been counted and this is the rest
 abbrev pub counted : ℕ → DecodedBatch → Validation
-counted n r = told (n + length (r .tasks)) r
+counted n r = validationAfter (n + length (r .tasks)) r
 
 pub counted-none : (r : DecodedBatch) → validationOf r ≡ counted 0 r
-counted-none r = ap (λ (m : ℕ). told m r) (omega arith)
+counted-none r = ap (λ (m : ℕ). validationAfter m r) (omega arith)
 
 counted-one : (n : ℕ) (t : Task) (r : DecodedBatch) → counted n (consTask t r) ≡ counted (n + 1) r
-counted-one n t r = ap (λ (m : ℕ). told m r) (omega arith)
+counted-one n t r = ap (λ (m : ℕ). validationAfter m r) (omega arith)
 
 -- what a step says of the reading, by its case
 module _ (bounds : Bounds) (ws : List ℕ) (b : Bank) (k : ℕ) (s : WalkStep) (is : s ≡ stepAt bounds ws b k) where
@@ -37,13 +37,13 @@ module _ (bounds : Bounds) (ws : List ℕ) (b : Bank) (k : ℕ) (s : WalkStep) (
   go = simulates bounds ws b k s is
 
   pub reads-task : (t : Task) (b′ : Bank) (k′ : ℕ) → s ≡ Next t b′ k′ → decodeRest bounds ws b k ≡ consTask t (decodeRest bounds ws b′ k′)
-  reads-task t b′ k′ e = go .means ∙ ap (decodeAfterStep bounds ws b) e
+  reads-task t b′ k′ e = go .same-decoding ∙ ap (decodeAfterStep bounds ws b) e
 
   pub reads-fault : (f : Fault) (offset : ℕ) (b′ : Bank) → s ≡ Stop f offset b′ → decodeRest bounds ws b k ≡ stopWith b′ (faulty f offset)
-  reads-fault f offset b′ e = go .means ∙ ap (decodeAfterStep bounds ws b) e
+  reads-fault f offset b′ e = go .same-decoding ∙ ap (decodeAfterStep bounds ws b) e
 
   pub reads-end : s ≡ End → decodeRest bounds ws b k ≡ stopWith b finished
-  reads-end e = go .means ∙ ap (decodeAfterStep bounds ws b) e
+  reads-end e = go .same-decoding ∙ ap (decodeAfterStep bounds ws b) e
 
   pub step-onward : (t : Task) (b′ : Bank) (k′ : ℕ) → s ≡ Next t b′ k′ → (k < k′) × (k′ ≤ length ws)
   step-onward t b′ k′ e = rw e at (go .onward)
@@ -54,10 +54,10 @@ module _ (bounds : Bounds) (ws : List ℕ) (b : Bank) (k : ℕ) (s : WalkStep) (
     step-task t b′ k′ e = ap (counted n) (reads-task t b′ k′ e) ∙ counted-one n t (decodeRest bounds ws b′ k′)
 
     pub step-faulty : (f : Fault) (offset : ℕ) (b′ : Bank) → s ≡ Stop f offset b′ → counted n (decodeRest bounds ws b k) ≡ record { verdict = Faulty n f offset; bank = b′ }
-    step-faulty f offset b′ e = ap (counted n) (reads-fault f offset b′ e) ∙ ap (λ (m : ℕ). told m (stopWith b′ (faulty f offset))) (add-zero n)
+    step-faulty f offset b′ e = ap (counted n) (reads-fault f offset b′ e) ∙ ap (λ (m : ℕ). validationAfter m (stopWith b′ (faulty f offset))) (add-zero n)
 
     pub step-end : s ≡ End → counted n (decodeRest bounds ws b k) ≡ record { verdict = Faultless n; bank = b }
-    step-end e = ap (counted n) (reads-end e) ∙ ap (λ (m : ℕ). told m (stopWith b finished)) (add-zero n)
+    step-end e = ap (counted n) (reads-end e) ∙ ap (λ (m : ℕ). validationAfter m (stopWith b finished)) (add-zero n)
 
 -- ---- what a verdict says of the reading
 

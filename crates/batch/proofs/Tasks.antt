@@ -15,18 +15,18 @@ use Rattle.register.specs.Bank.{writeRegister}
 use Rattle.register.specs.Task.{taskOf}
 use Rattle.register.specs.declared.bank.Bank.{Bank}
 use Rattle.register.specs.declared.task.Task.{Task}
-use Rattle.rules.specs.declared.fault.Fault.{Fault}
-use Rattle.rules.specs.declared.fault.Fault.the-variants.{ReservedBits, GroupLength, OpenTask, NotWritable, Forbidden, BadSurface, SizeMismatch, OutOfBounds, Overlap}
-use Rattle.rules.specs.declared.task.Bounds.{Bounds}
-use Rattle.rules.specs.declared.task.TaskCheck.{TaskCheck}
-use Rattle.rules.specs.Faults.{faultStatus}
-use Rattle.rules.specs.Rules.{checkTask}
-use Rattle.rules.proofs.Sound.{Sound, AllSound}
-use Rattle.rules.proofs.Passes.{passes}
+use Rattle.task_check.specs.declared.fault.Fault.{Fault}
+use Rattle.task_check.specs.declared.fault.Fault.the-variants.{ReservedBits, GroupLength, OpenTask, NotWritable, Forbidden, BadSurface, SizeMismatch, OutOfBounds, Overlap}
+use Rattle.task_check.specs.declared.task.Bounds.{Bounds}
+use Rattle.task_check.specs.declared.task.TaskCheck.{TaskCheck}
+use Rattle.task_check.specs.Faults.{faultStatus}
+use Rattle.task_check.specs.Rules.{checkTask}
+use Rattle.task_check.proofs.Sound.{Sound, AllSound}
+use Rattle.task_check.proofs.Passes.{passes}
 use Rattle.batch.specs.declared.walk.WalkStep.{WalkStep}
 use Rattle.batch.specs.declared.walk.WalkStep.the-variants.{Task as Next}
 use Rattle.batch.specs.declared.verdict.Verdict.the-variants.{Faultless}
-use Rattle.batch.specs.Batch.{DecodedBatch, BatchEnd, finished, faulty, stopWith, DecoderState, start, inside, badGroupLength, decodeHeader, afterTaskCheck, groupOf, decodeFrom, decodeBatch, verdictAfter, verdictOf, statusWordOf, tasksDrawn}
+use Rattle.batch.specs.Batch.{DecodedBatch, BatchEnd, finished, faulty, stopWith, DecoderState, betweenTasks, inGroup, badGroupLength, decodeHeader, afterTaskCheck, groupOf, decodeFrom, decodeBatch, verdictAfter, verdictOf, statusWordOf, tasksDrawn}
 use Rattle.batch.specs.Marks.{taskEndCountFrom, taskEndCount}
 use Rattle.batch.specs.Walk.{decodeAfterStep, stepAt}
 use Rattle.batch.proofs.Simulates.{simulates}
@@ -48,24 +48,24 @@ module _ (bounds : Bounds) where
 
   good-from : (b : Bank) (k : ℕ) (position : DecoderState) (ws : List ℕ) → Good (decodeFrom bounds b k position ws)
   unfolding decodeFrom
-  good-from b k start [] = tt
-  good-from b k start (h ∷ ws) = good-open b k h (length ws) (onFrom bounds b k ws) (good-from b (k + 1) (groupOf k h) ws)
-  good-from b k (inside (suc n) offset ends head) [] = tt
-  good-from b k (inside (suc n) offset ends head) (w ∷ ws) =
-      wrote-all Good b k (λ f. tt) (writeRegister b offset w) (onWith bounds k (inside n (offset + 4) ends head) ws) (λ next. good-from next (k + 1) (inside n (offset + 4) ends head) ws)
-  good-from b k (inside zero offset false head) [] = tt
-  good-from b k (inside zero offset false head) (h ∷ ws) = good-open b k h (length ws) (onFrom bounds b k ws) (good-from b (k + 1) (groupOf k h) ws)
-  good-from b k (inside zero offset true head) [] = good-judged b head (stopWith b finished) tt
-  good-from b k (inside zero offset true head) (h ∷ ws) =
+  good-from b k betweenTasks [] = tt
+  good-from b k betweenTasks (h ∷ ws) = good-open b k h (length ws) (onFrom bounds b k ws) (good-from b (k + 1) (groupOf k h) ws)
+  good-from b k (inGroup (suc n) offset ends head) [] = tt
+  good-from b k (inGroup (suc n) offset ends head) (w ∷ ws) =
+      wrote-all Good b k (λ f. tt) (writeRegister b offset w) (onWith bounds k (inGroup n (offset + 4) ends head) ws) (λ next. good-from next (k + 1) (inGroup n (offset + 4) ends head) ws)
+  good-from b k (inGroup zero offset false head) [] = tt
+  good-from b k (inGroup zero offset false head) (h ∷ ws) = good-open b k h (length ws) (onFrom bounds b k ws) (good-from b (k + 1) (groupOf k h) ws)
+  good-from b k (inGroup zero offset true head) [] = good-judged b head (stopWith b finished) tt
+  good-from b k (inGroup zero offset true head) (h ∷ ws) =
       good-judged b head (decodeHeader b k h (length ws) (onFrom bounds b k ws)) (good-open b k h (length ws) (onFrom bounds b k ws) (good-from b (k + 1) (groupOf k h) ws))
 
   -- before a fault too: each task that is drawn
   pub drawn-sound : (bank : Bank) (ws : List ℕ) → AllSound bounds (tasksDrawn (decodeBatch bounds bank ws))
-  drawn-sound bank ws = good-from bank 0 start ws
+  drawn-sound bank ws = good-from bank 0 betweenTasks ws
 
   -- and so is the task that a step hands out
   pub step-sound : (ws : List ℕ) (b : Bank) (k : ℕ) (s : WalkStep) → s ≡ stepAt bounds ws b k → (t : Task) (b′ : Bank) (k′ : ℕ) → s ≡ Next t b′ k′ → Sound bounds t
-  step-sound ws b k s is t b′ k′ e = (rw (simulates bounds ws b k s is .means ∙ ap (decodeAfterStep bounds ws b) e) at (good-from b k start (drop k ws))) .0
+  step-sound ws b k s is t b′ k′ e = (rw (simulates bounds ws b k s is .same-decoding ∙ ap (decodeAfterStep bounds ws b) e) at (good-from b k betweenTasks (drop k ws))) .0
 
 -- ---- at most half as many tasks as words
 
@@ -75,8 +75,8 @@ some zero follow e = absurd (eqb-false 0 0 (or-false (eqb 0 0) (ltb follow 0) e 
 some (suc n) follow e = (omega arith, ltb-false follow (suc n) (or-false (eqb (suc n) 0) (ltb follow (suc n)) e .1))
 
 abbrev Few : DecoderState → List ℕ → DecodedBatch → Type 0
-Few start ws r = 2 * length (r .tasks) ≤ length ws
-Few (inside left offset ends head) ws r = left ≤ length ws → 2 * length (r .tasks) + left ≤ length ws + 2
+Few betweenTasks ws r = 2 * length (r .tasks) ≤ length ws
+Few (inGroup left offset ends head) ws r = left ≤ length ws → 2 * length (r .tasks) + left ≤ length ws + 2
 
 few-open : (b : Bank) (k h : ℕ) (ws : List ℕ) (go : DecoderState → DecodedBatch) → Few (groupOf k h) ws (go (groupOf k h)) → 2 * length (decodeHeader b k h (length ws) go .tasks) ≤ length (h ∷ ws)
 few-open b k h ws go on =
@@ -89,21 +89,21 @@ few-judged b check head after n on =
 
 few-from : (bounds : Bounds) (b : Bank) (k : ℕ) (position : DecoderState) (ws : List ℕ) → Few position ws (decodeFrom bounds b k position ws)
 unfolding decodeFrom
-few-from bounds b k start [] = omega arith
-few-from bounds b k start (h ∷ ws) = few-open b k h ws (onFrom bounds b k ws) (few-from bounds b (k + 1) (groupOf k h) ws)
-few-from bounds b k (inside (suc n) offset ends head) [] = λ z. absurd (omega arith)
-few-from bounds b k (inside (suc n) offset ends head) (w ∷ ws) =
-    λ z. wrote-all (λ r. 2 * length (r .tasks) + suc n ≤ length (w ∷ ws) + 2) b k (λ f. omega arith) (writeRegister b offset w) (onWith bounds k (inside n (offset + 4) ends head) ws)
-    (λ next. let on = few-from bounds next (k + 1) (inside n (offset + 4) ends head) ws (omega arith) in omega (arith, on))
-few-from bounds b k (inside zero offset false head) [] = λ z. omega arith
-few-from bounds b k (inside zero offset false head) (h ∷ ws) =
+few-from bounds b k betweenTasks [] = omega arith
+few-from bounds b k betweenTasks (h ∷ ws) = few-open b k h ws (onFrom bounds b k ws) (few-from bounds b (k + 1) (groupOf k h) ws)
+few-from bounds b k (inGroup (suc n) offset ends head) [] = λ z. absurd (omega arith)
+few-from bounds b k (inGroup (suc n) offset ends head) (w ∷ ws) =
+    λ z. wrote-all (λ r. 2 * length (r .tasks) + suc n ≤ length (w ∷ ws) + 2) b k (λ f. omega arith) (writeRegister b offset w) (onWith bounds k (inGroup n (offset + 4) ends head) ws)
+    (λ next. let on = few-from bounds next (k + 1) (inGroup n (offset + 4) ends head) ws (omega arith) in omega (arith, on))
+few-from bounds b k (inGroup zero offset false head) [] = λ z. omega arith
+few-from bounds b k (inGroup zero offset false head) (h ∷ ws) =
     λ z. omega (arith, few-open b k h ws (onFrom bounds b k ws) (few-from bounds b (k + 1) (groupOf k h) ws))
-few-from bounds b k (inside zero offset true head) [] = λ z. few-judged b (checkTask bounds (taskOf b)) head (stopWith b finished) 0 (omega arith)
-few-from bounds b k (inside zero offset true head) (h ∷ ws) =
+few-from bounds b k (inGroup zero offset true head) [] = λ z. few-judged b (checkTask bounds (taskOf b)) head (stopWith b finished) 0 (omega arith)
+few-from bounds b k (inGroup zero offset true head) (h ∷ ws) =
     λ z. few-judged b (checkTask bounds (taskOf b)) head (decodeHeader b k h (length ws) (onFrom bounds b k ws)) (length (h ∷ ws)) (few-open b k h ws (onFrom bounds b k ws) (few-from bounds b (k + 1) (groupOf k h) ws))
 
 pub tasks-few : (bounds : Bounds) (bank : Bank) (ws : List ℕ) → 2 * length (decodeBatch bounds bank ws .tasks) ≤ length ws
-tasks-few bounds bank ws = few-from bounds bank 0 start ws
+tasks-few bounds bank ws = few-from bounds bank 0 betweenTasks ws
 
 pub fault-small : (f : Fault) → faultStatus f ≤ 65535
 fault-small ReservedBits = omega arith
@@ -136,37 +136,37 @@ status-fits bounds bank ring offset size small =
 -- ---- as many tasks as marks
 
 abbrev Met : DecoderState → List ℕ → DecodedBatch → Type 0
-Met start ws r = r .ending ≡ finished → length (r .tasks) ≡ taskEndCountFrom 0 ws
-Met (inside left offset ends head) ws r = r .ending ≡ finished → length (r .tasks) ≡ cond ends 1 0 + taskEndCountFrom left ws
+Met betweenTasks ws r = r .ending ≡ finished → length (r .tasks) ≡ taskEndCountFrom 0 ws
+Met (inGroup left offset ends head) ws r = r .ending ≡ finished → length (r .tasks) ≡ cond ends 1 0 + taskEndCountFrom left ws
 
 stopped : {A : Type 0} {f : Fault} {o : ℕ} → faulty f o ≡ finished → A
 stopped e = absurd (let z : _≡_ {A = ℕ} 0 1 = cc in omega arith)
 
-met-open : (b : Bank) (k h : ℕ) (ws : List ℕ) (go : DecoderState → DecodedBatch) → Met (groupOf k h) ws (go (groupOf k h)) → Met start (h ∷ ws) (decodeHeader b k h (length ws) go)
+met-open : (b : Bank) (k h : ℕ) (ws : List ℕ) (go : DecoderState → DecodedBatch) → Met (groupOf k h) ws (go (groupOf k h)) → Met betweenTasks (h ∷ ws) (decodeHeader b k h (length ws) go)
 unfolding taskEndCountFrom
-met-open b k h ws go on = opened-all (Met start (h ∷ ws)) b k (λ f e. stopped e) h (length ws) go (λ l. on)
+met-open b k h ws go on = opened-all (Met betweenTasks (h ∷ ws)) b k (λ f e. stopped e) h (length ws) go (λ l. on)
 
-met-judged : (b : Bank) (check : TaskCheck) (head : ℕ) (after : DecodedBatch) (ws : List ℕ) → Met start ws after → (offset : ℕ) → Met (inside 0 offset true head) ws (afterTaskCheck check b head after)
+met-judged : (b : Bank) (check : TaskCheck) (head : ℕ) (after : DecodedBatch) (ws : List ℕ) → Met betweenTasks ws after → (offset : ℕ) → Met (inGroup 0 offset true head) ws (afterTaskCheck check b head after)
 met-judged b check head after ws on offset =
-    judged-all (Met (inside 0 offset true head) ws) b head (λ f e. stopped e) check after (λ fine e. omega (arith, on e))
+    judged-all (Met (inGroup 0 offset true head) ws) b head (λ f e. stopped e) check after (λ fine e. omega (arith, on e))
 
 met-from : (bounds : Bounds) (b : Bank) (k : ℕ) (position : DecoderState) (ws : List ℕ) → Met position ws (decodeFrom bounds b k position ws)
 unfolding decodeFrom taskEndCountFrom
-met-from bounds b k start [] = λ e. refl
-met-from bounds b k start (h ∷ ws) = met-open b k h ws (onFrom bounds b k ws) (met-from bounds b (k + 1) (groupOf k h) ws)
-met-from bounds b k (inside (suc n) offset ends head) [] = λ e. stopped e
-met-from bounds b k (inside (suc n) offset ends head) (w ∷ ws) =
-    wrote-all (Met (inside (suc n) offset ends head) (w ∷ ws)) b k (λ f e. stopped e) (writeRegister b offset w) (onWith bounds k (inside n (offset + 4) ends head) ws)
-    (λ next. met-from bounds next (k + 1) (inside n (offset + 4) ends head) ws)
-met-from bounds b k (inside zero offset false head) [] = λ e. stopped e
-met-from bounds b k (inside zero offset false head) (h ∷ ws) =
+met-from bounds b k betweenTasks [] = λ e. refl
+met-from bounds b k betweenTasks (h ∷ ws) = met-open b k h ws (onFrom bounds b k ws) (met-from bounds b (k + 1) (groupOf k h) ws)
+met-from bounds b k (inGroup (suc n) offset ends head) [] = λ e. stopped e
+met-from bounds b k (inGroup (suc n) offset ends head) (w ∷ ws) =
+    wrote-all (Met (inGroup (suc n) offset ends head) (w ∷ ws)) b k (λ f e. stopped e) (writeRegister b offset w) (onWith bounds k (inGroup n (offset + 4) ends head) ws)
+    (λ next. met-from bounds next (k + 1) (inGroup n (offset + 4) ends head) ws)
+met-from bounds b k (inGroup zero offset false head) [] = λ e. stopped e
+met-from bounds b k (inGroup zero offset false head) (h ∷ ws) =
     λ e. omega (arith, met-open b k h ws (onFrom bounds b k ws) (met-from bounds b (k + 1) (groupOf k h) ws) e)
-met-from bounds b k (inside zero offset true head) [] = met-judged b (checkTask bounds (taskOf b)) head (stopWith b finished) [] (λ e. refl) offset
-met-from bounds b k (inside zero offset true head) (h ∷ ws) =
+met-from bounds b k (inGroup zero offset true head) [] = met-judged b (checkTask bounds (taskOf b)) head (stopWith b finished) [] (λ e. refl) offset
+met-from bounds b k (inGroup zero offset true head) (h ∷ ws) =
     met-judged b (checkTask bounds (taskOf b)) head (decodeHeader b k h (length ws) (onFrom bounds b k ws)) (h ∷ ws) (met-open b k h ws (onFrom bounds b k ws) (met-from bounds b (k + 1) (groupOf k h) ws)) offset
 
 pub tasks-marks : (bounds : Bounds) (bank : Bank) (ws : List ℕ) → decodeBatch bounds bank ws .ending ≡ finished → length (decodeBatch bounds bank ws .tasks) ≡ taskEndCount ws
-tasks-marks bounds bank ws e = met-from bounds bank 0 start ws e
+tasks-marks bounds bank ws e = met-from bounds bank 0 betweenTasks ws e
 
 -- the number that a faultless batch is answered with
 pub faultless-marks : (bounds : Bounds) (bank : Bank) (ws : List ℕ) (n : ℕ) → verdictOf (decodeBatch bounds bank ws) ≡ Faultless n → n ≡ taskEndCount ws

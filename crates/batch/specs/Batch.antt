@@ -12,16 +12,16 @@ use Rattle.register.specs.declared.bank.Bank.{Bank}
 use Rattle.register.specs.declared.bank.WriteResult.{WriteResult}
 use Rattle.register.specs.declared.bank.WriteResult.the-variants.{Written, Refused}
 use Rattle.register.specs.declared.task.Task.{Task}
-use Rattle.rules.specs.declared.fault.Fault.{Fault}
-use Rattle.rules.specs.declared.fault.Fault.the-variants.{ReservedBits, GroupLength, OpenTask}
-use Rattle.rules.specs.declared.task.Bounds.{Bounds}
-use Rattle.rules.specs.declared.task.TaskCheck.{TaskCheck}
-use Rattle.rules.specs.declared.task.TaskCheck.the-variants.{Valid, Invalid}
+use Rattle.task_check.specs.declared.fault.Fault.{Fault}
+use Rattle.task_check.specs.declared.fault.Fault.the-variants.{ReservedBits, GroupLength, OpenTask}
+use Rattle.task_check.specs.declared.task.Bounds.{Bounds}
+use Rattle.task_check.specs.declared.task.TaskCheck.{TaskCheck}
+use Rattle.task_check.specs.declared.task.TaskCheck.the-variants.{Valid, Invalid}
 use Rattle.batch.specs.declared.verdict.Validation.{Validation}
 use Rattle.batch.specs.declared.verdict.Verdict.{Verdict}
 use Rattle.batch.specs.declared.verdict.Verdict.the-variants.{Faultless, Faulty}
-use Rattle.rules.specs.Faults.{writeFault, faultNumber, faultStatus}
-use Rattle.rules.specs.Rules.{checkTask}
+use Rattle.task_check.specs.Faults.{writeFault, faultNumber, faultStatus}
+use Rattle.task_check.specs.Rules.{checkTask}
 
 -- a fault has its offset in bytes (the paper's place)
 pub data BatchEnd : Type 0 where
@@ -45,8 +45,8 @@ consTask task rest = record { tasks = task ∷ rest .tasks; ending = rest .endin
 -- where the walk stands: before a task's first group; or in the group whose header is word `head`, with this many of its words
 -- to come, the next of them for the register at `offset`, and whether the group ends the task
 pub data DecoderState : Type 0 where
-  start : DecoderState
-  inside : (left offset : ℕ) (ends : Bool) (head : ℕ) → DecoderState
+  betweenTasks : DecoderState
+  inGroup : (left offset : ℕ) (ends : Bool) (head : ℕ) → DecoderState
 
 -- header bit 1, 16 or 17 set
 abbrev pub reservedBits : ℕ → Bool
@@ -59,7 +59,7 @@ badGroupLength count follow = eqb count 0 || ltb follow count
 -- the group of the header at word k: bits 31:16 are the first register's offset, bits 15:2 with two zero bits the length in bytes
 -- of the group's words, so 15:2 their number, and bit 0 says that the group ends the task
 abbrev pub groupOf : ℕ → ℕ → DecoderState
-groupOf k header = inside (field 15 2 header) (field 31 16 header) (eqb (field 0 0 header) 1) k
+groupOf k header = inGroup (field 15 2 header) (field 31 16 header) (eqb (field 0 0 header) 1) k
 
 -- word k is a header, and `follow` words follow it: 20, 21
 abbrev pub decodeHeader : Bank → ℕ → ℕ → ℕ → (DecoderState → DecodedBatch) → DecodedBatch
@@ -81,26 +81,26 @@ afterTaskCheck (Invalid f) bank head rest = stopWith bank (faulty f (4 * head))
 -- the words from word k on. The bank is kept from group to group and from task to task
 unfoldable pub decodeFrom : Bounds → Bank → ℕ → DecoderState → List ℕ → DecodedBatch
 -- before a task: the batch is at its end, or a header follows
-decodeFrom bounds bank k start [] = stopWith bank finished
-decodeFrom bounds bank k start (h ∷ ws) = decodeHeader bank k h (length ws) (λ position. decodeFrom bounds bank (k + 1) position ws)
+decodeFrom bounds bank k betweenTasks [] = stopWith bank finished
+decodeFrom bounds bank k betweenTasks (h ∷ ws) = decodeHeader bank k h (length ws) (λ position. decodeFrom bounds bank (k + 1) position ws)
 -- in a group: its next word. That none follows is ruled out by 21
-decodeFrom bounds bank k (inside (suc n) offset ends head) [] = stopWith bank (faulty GroupLength (4 * head))
-decodeFrom bounds bank k (inside (suc n) offset ends head) (w ∷ ws) =
-    afterWrite bank k (writeRegister bank offset w) (λ next. decodeFrom bounds next (k + 1) (inside n (offset + 4) ends head) ws)
+decodeFrom bounds bank k (inGroup (suc n) offset ends head) [] = stopWith bank (faulty GroupLength (4 * head))
+decodeFrom bounds bank k (inGroup (suc n) offset ends head) (w ∷ ws) =
+    afterWrite bank k (writeRegister bank offset w) (λ next. decodeFrom bounds next (k + 1) (inGroup n (offset + 4) ends head) ws)
 -- after a group that does not end the task: 22 if it was the last, else the next header
-decodeFrom bounds bank k (inside zero offset false head) [] = stopWith bank (faulty OpenTask (4 * head))
-decodeFrom bounds bank k (inside zero offset false head) (h ∷ ws) =
+decodeFrom bounds bank k (inGroup zero offset false head) [] = stopWith bank (faulty OpenTask (4 * head))
+decodeFrom bounds bank k (inGroup zero offset false head) (h ∷ ws) =
     decodeHeader bank k h (length ws) (λ position. decodeFrom bounds bank (k + 1) position ws)
 -- after a group that ends the task: it is judged, and then the batch is at its end, or a header follows
-decodeFrom bounds bank k (inside zero offset true head) [] =
+decodeFrom bounds bank k (inGroup zero offset true head) [] =
     afterTaskCheck (checkTask bounds (taskOf bank)) bank head (stopWith bank finished)
-decodeFrom bounds bank k (inside zero offset true head) (h ∷ ws) =
+decodeFrom bounds bank k (inGroup zero offset true head) (h ∷ ws) =
     afterTaskCheck (checkTask bounds (taskOf bank)) bank head
     (decodeHeader bank k h (length ws) (λ position. decodeFrom bounds bank (k + 1) position ws))
 
 -- a batch of these words, read from this bank on
 abbrev pub decodeBatch : Bounds → Bank → List ℕ → DecodedBatch
-decodeBatch bounds bank words = decodeFrom bounds bank 0 start words
+decodeBatch bounds bank words = decodeFrom bounds bank 0 betweenTasks words
 
 -- ---- what is answered of a batch
 

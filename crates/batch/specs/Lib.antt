@@ -1,4 +1,4 @@
 -- What a batch says, whole and a task at a time.
 pub mod Batch
-pub mod Walk
 pub mod Marks
+pub mod Walk

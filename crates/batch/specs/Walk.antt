@@ -1,4 +1,4 @@
--- Internal: a batch read a task at a time: one step of the reading (`stepAt`, the contract of `batch::next_task`), and what it says of the whole
+-- Internal: a batch read a task at a time: one step of the reading (`stepAt`, the contract of `decoder::next_task`), and what it says of the whole
 -- (`StepSimulates`, which holds of every step: proofs/Simulates). A caller that takes step after step, from bank to bank and position to position, meets
 -- the tasks of `decodeBatch` in order, and then its ending.
 use Prim.Native.Nat.{ℕ, zero, suc, _+_, _*_, _<_, _≤_}
@@ -12,15 +12,15 @@ use Rattle.register.specs.Task.{taskOf}
 use Rattle.register.specs.declared.bank.Bank.{Bank}
 use Rattle.register.specs.declared.bank.WriteResult.{WriteResult}
 use Rattle.register.specs.declared.bank.WriteResult.the-variants.{Written, Refused}
-use Rattle.rules.specs.declared.fault.Fault.the-variants.{ReservedBits, GroupLength, OpenTask}
-use Rattle.rules.specs.declared.task.Bounds.{Bounds}
-use Rattle.rules.specs.declared.task.TaskCheck.{TaskCheck}
-use Rattle.rules.specs.declared.task.TaskCheck.the-variants.{Valid, Invalid}
+use Rattle.task_check.specs.declared.fault.Fault.the-variants.{ReservedBits, GroupLength, OpenTask}
+use Rattle.task_check.specs.declared.task.Bounds.{Bounds}
+use Rattle.task_check.specs.declared.task.TaskCheck.{TaskCheck}
+use Rattle.task_check.specs.declared.task.TaskCheck.the-variants.{Valid, Invalid}
 use Rattle.batch.specs.declared.walk.WalkStep.{WalkStep}
 use Rattle.batch.specs.declared.walk.WalkStep.the-variants.{Task, Faulty, End}
-use Rattle.rules.specs.Faults.{writeFault}
-use Rattle.rules.specs.Rules.{checkTask}
-use Rattle.batch.specs.Batch.{DecodedBatch, finished, faulty, stopWith, consTask, DecoderState, start, inside, reservedBits, badGroupLength, groupOf, decodeFrom}
+use Rattle.task_check.specs.Faults.{writeFault}
+use Rattle.task_check.specs.Rules.{checkTask}
+use Rattle.batch.specs.Batch.{DecodedBatch, finished, faulty, stopWith, consTask, DecoderState, betweenTasks, inGroup, reservedBits, badGroupLength, groupOf, decodeFrom}
 
 -- ---- one step: the reading (specs/Batch) up to the end of a task, the batch's end or a fault
 
@@ -43,25 +43,25 @@ stepWrite bank k (Refused f) go = Faulty (writeFault f) (4 * k) bank
 
 -- the words from word k on
 unfoldable pub stepFrom : Bounds → Bank → ℕ → DecoderState → List ℕ → WalkStep
-stepFrom bounds bank k start [] = End
-stepFrom bounds bank k start (h ∷ ws) = stepHeader bank k h (length ws) (λ position. stepFrom bounds bank (k + 1) position ws)
-stepFrom bounds bank k (inside (suc n) offset ends head) [] = Faulty GroupLength (4 * head) bank
-stepFrom bounds bank k (inside (suc n) offset ends head) (w ∷ ws) =
-    stepWrite bank k (writeRegister bank offset w) (λ next. stepFrom bounds next (k + 1) (inside n (offset + 4) ends head) ws)
-stepFrom bounds bank k (inside zero offset false head) [] = Faulty OpenTask (4 * head) bank
-stepFrom bounds bank k (inside zero offset false head) (h ∷ ws) = stepHeader bank k h (length ws) (λ position. stepFrom bounds bank (k + 1) position ws)
-stepFrom bounds bank k (inside zero offset true head) [] = stepAfterCheck (checkTask bounds (taskOf bank)) bank k (4 * head)
-stepFrom bounds bank k (inside zero offset true head) (h ∷ ws) = stepAfterCheck (checkTask bounds (taskOf bank)) bank k (4 * head)
+stepFrom bounds bank k betweenTasks [] = End
+stepFrom bounds bank k betweenTasks (h ∷ ws) = stepHeader bank k h (length ws) (λ position. stepFrom bounds bank (k + 1) position ws)
+stepFrom bounds bank k (inGroup (suc n) offset ends head) [] = Faulty GroupLength (4 * head) bank
+stepFrom bounds bank k (inGroup (suc n) offset ends head) (w ∷ ws) =
+    stepWrite bank k (writeRegister bank offset w) (λ next. stepFrom bounds next (k + 1) (inGroup n (offset + 4) ends head) ws)
+stepFrom bounds bank k (inGroup zero offset false head) [] = Faulty OpenTask (4 * head) bank
+stepFrom bounds bank k (inGroup zero offset false head) (h ∷ ws) = stepHeader bank k h (length ws) (λ position. stepFrom bounds bank (k + 1) position ws)
+stepFrom bounds bank k (inGroup zero offset true head) [] = stepAfterCheck (checkTask bounds (taskOf bank)) bank k (4 * head)
+stepFrom bounds bank k (inGroup zero offset true head) (h ∷ ws) = stepAfterCheck (checkTask bounds (taskOf bank)) bank k (4 * head)
 
 -- of a batch of these words, from this bank and word k on, k where a task may begin
 abbrev pub stepAt : Bounds → List ℕ → Bank → ℕ → WalkStep
-stepAt bounds words bank k = stepFrom bounds bank k start (drop k words)
+stepAt bounds words bank k = stepFrom bounds bank k betweenTasks (drop k words)
 
 -- ---- what it says of the whole
 
 -- the reading of a batch of these words from word k on, k where a task may begin
 abbrev pub decodeRest : Bounds → List ℕ → Bank → ℕ → DecodedBatch
-decodeRest bounds words bank k = decodeFrom bounds bank k start (drop k words)
+decodeRest bounds words bank k = decodeFrom bounds bank k betweenTasks (drop k words)
 
 -- what a step from this bank on says of the reading
 abbrev pub decodeAfterStep : Bounds → List ℕ → Bank → WalkStep → DecodedBatch
@@ -76,5 +76,5 @@ StepAdvances k words (Faulty fault offset bank) = Unit
 StepAdvances k words End = Unit
 
 pub record StepSimulates (bounds : Bounds) (words : List ℕ) (bank : Bank) (k : ℕ) (step : WalkStep) : Type 0 where
-  pub means : decodeRest bounds words bank k ≡ decodeAfterStep bounds words bank step
+  pub same-decoding : decodeRest bounds words bank k ≡ decodeAfterStep bounds words bank step
   pub onward : StepAdvances k words step

@@ -1,10 +1,7 @@
-// Batches: groups of register words, read a task at a time and judged.
+// What a batch says, whole and a task at a time: the types. Crate decoder reads one.
 pub mod verdict;
 pub mod walk;
 
 pub use verdict::Validation;
 pub use verdict::Verdict;
-pub use verdict::validate;
 pub use walk::WalkStep;
-pub use walk::next_task;
-pub use walk::word_at;

@@ -1,13 +1,9 @@
-// A whole batch judged.
+// What is answered of a whole batch.
 ghost use mathlib.Core.Path.{_≡_};
 ghost use Prim.Native.Nat.{_%_};
-ghost use Rattle.ring.specs.Segment.{batchWords};
-ghost use Rattle.batch.specs.Batch.{decodeBatch, validationOf, statusWordOf, faultNumberOf, faultOffsetOf};
-use crate::walk;
-use crate::walk::WalkStep;
+ghost use Rattle.batch.specs.Batch.{statusWordOf, faultNumberOf, faultOffsetOf};
 use register::Bank;
-use rules::Bounds;
-use rules::Fault;
+use task_check::Fault;
 
 // How many tasks a batch has; or how many stand before its first fault, that fault and the offset of it.
 pub enum Verdict {
@@ -51,34 +47,4 @@ impl Verdict {
 pub struct Validation {
     pub verdict: Verdict,
     pub bank: Bank,
-}
-
-// Judges the batch of `size` bytes at an offset of the ring, read from a bank on. What does not lie in the ring has no words.
-pub fn validate(ring: &[u8], offset: usize, size: usize, bounds: Bounds, bank: Bank) -> Validation
-    ensures { λ r. ⌜ r ≡ validationOf (decodeBatch bounds bank (batchWords (now (ring .entry)) offset size)) ⌝ }
-{
-    let mut current = bank;
-    let mut at = 0;
-    let mut count: usize = 0;
-    loop {
-        match walk::next_task(ring, offset, size, bounds, current, at) {
-            WalkStep::Task(_, b, next) => {
-                current = b;
-                at = next;
-                count = count + 1;
-            }
-            WalkStep::Faulty(fault, place, held) => {
-                return Validation {
-                    verdict: Verdict::Faulty(count, fault, place),
-                    bank: held,
-                };
-            }
-            WalkStep::End => {
-                return Validation {
-                    verdict: Verdict::Faultless(count),
-                    bank: current,
-                };
-            }
-        }
-    }
 }

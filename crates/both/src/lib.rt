@@ -2,7 +2,7 @@
 ghost use mathlib.Core.Path.{_≡_};
 ghost use Rattle.both.specs.Same.{Same};
 use engine::RunResult;
-use record::EngineRecord;
+use engine_record::EngineRecord;
 
 // What either engine answered.
 pub struct Both {

@@ -10,8 +10,8 @@ use Rattle.pixel.specs.declared.format.Format.the-variants.{Argb8888}
 use Rattle.surface.specs.Surface.{rowStart}
 use Rattle.surface.specs.Drawn.{loadPixel}
 use Rattle.register.specs.declared.task.Task.{Task}
-use Rattle.rows.specs.Row.{colourIn, HoldsColours}
-use Rattle.rows.specs.Mixed.{composite}
+use Rattle.row_pixels.specs.Row.{colourIn, HoldsColours}
+use Rattle.row_pixels.specs.Composite.{composite}
 use Rattle.plan.specs.Plan.{planOf}
 use Rattle.plan.specs.declared.Plan.{Plan}
 use Rattle.kinds.specs.Kinds.{finishOf}

@@ -4,16 +4,16 @@ ghost use Prim.Native.Nat.{_+_, _*_, _≤_};
 ghost use lib.ListN.{length};
 ghost use Rattle.surface.specs.Surface.{rowLength};
 ghost use Rattle.surface.specs.Drawn.{loadPixel};
-ghost use Rattle.rows.specs.Row.{colourIn, HoldsColours};
-ghost use Rattle.rows.specs.Mixed.{composite};
+ghost use Rattle.row_pixels.specs.Row.{colourIn, HoldsColours};
+ghost use Rattle.row_pixels.specs.Composite.{composite};
 ghost use Rattle.raster.specs.Task.{sourceColour, drawTask};
 ghost use Rattle.raster.specs.Preconditions.{Drawable};
 ghost use Rattle.raster.specs.Row.{rowDrawn, drawRow, SourceRowInBounds, RowFits, RowDrawable, HoldsRow};
 ghost use Rattle.buffered_rows.specs.Row.{RowMixes, finishedColour, RowReadable, RowRead, RowBuffers};
 use composite::mix_row;
-use fetch_rows::fetch_along;
 use fetch_rows::fetch_row;
-use fetch_rows::spread;
+use fetch_rows::fetch_transformed;
+use fetch_rows::fill_buffer;
 use gradient_rows::fetch_gradient;
 use kinds::Finish;
 use kinds::finish_of;
@@ -37,11 +37,11 @@ fn fetch_source(buffer: &mut [u8], width: usize, memory: &[u8], source: Source, 
     let mode = source.mode;
     match mode {
         SourceMode::Buffer => {
-            fetch_along(buffer, width, memory, source.surface, source.transform, y);
+            fetch_transformed(buffer, width, memory, source.surface, source.transform, y);
             return;
         }
         SourceMode::Colour => {
-            spread(buffer, width, source.colour);
+            fill_buffer(buffer, width, source.colour);
             return;
         }
         SourceMode::GradientX => {
@@ -51,7 +51,7 @@ fn fetch_source(buffer: &mut [u8], width: usize, memory: &[u8], source: Source, 
             return;
         }
         SourceMode::GradientY => {
-            spread(buffer, width, shaded_colour(source, y));
+            fill_buffer(buffer, width, shaded_colour(source, y));
             return;
         }
     }

@@ -5,9 +5,9 @@ use Prim.Native.Nat.{ℕ, _+_, _-_, _≤_}
 use lib.ListN.{getD}
 
 -- two parts of n bytes of a memory, which do not meet
-pub record Apart (length to from n : ℕ) : Type 0 where
-  pub target : to + n ≤ length
-  pub origin : from + n ≤ length
+pub record Apart (size to from n : ℕ) : Type 0 where
+  pub target : to + n ≤ size
+  pub origin : from + n ≤ size
   pub apart : (from + n ≤ to) ⊎ (to + n ≤ from)
 
 -- what byte i of the one becomes: the byte at its place in the other

@@ -1,4 +1,4 @@
 -- Laws of the calls on bytes.
 pub mod Results
 pub mod Reporting
-pub mod Harmless
+pub mod RefusedNoChange

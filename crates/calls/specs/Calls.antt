@@ -7,7 +7,7 @@ use Prim.Native.Nat.{ℕ}
 use lib.ListN.{length}
 use lib.Dec.{eqb}
 use Rattle.reset.specs.declared.ResetRule.{ResetRule}
-use Rattle.record.specs.declared.Window.{Window}
+use Rattle.engine_record.specs.declared.Window.{Window}
 use Rattle.queue.specs.declared.Answer.{Answer}
 use Rattle.queue.specs.declared.Reply.{Reply}
 use Rattle.queue.specs.Answers.{refusalNumberOf, valueOf}
@@ -33,7 +33,7 @@ pub record SetsUp (bytes : List ℕ) (ring memory common : ℕ) (reset : ResetRu
 
 -- ---- a call that answers one number: the refusal's number, the value, and the bytes of the record; `after` if it is not refused
 
-pub record Told (bytes after : List ℕ) (answer : Answer) (number value : ℕ) (bytesNow : List ℕ) : Type 0 where
+pub record ValueWritten (bytes after : List ℕ) (answer : Answer) (number value : ℕ) (bytesNow : List ℕ) : Type 0 where
   pub number-is : number ≡ refusalNumberOf answer
   pub value-is : value ≡ valueOf answer
   pub record-is : bytesNow ≡ unlessRefused (refusalNumberOf answer) bytes after
@@ -42,13 +42,13 @@ pub record Told (bytes after : List ℕ) (answer : Answer) (number value : ℕ) 
 unfoldable pub Opens : (bytes : List ℕ) → Window → (number value : ℕ) → (bytesNow : List ℕ) → Type 0
 Opens bytes w =
     let reply : Reply = openResult (recordOf bytes) w in
-    Told bytes (bytesOf (reply .engine)) (reply .answer)
+    ValueWritten bytes (bytesOf (reply .engine)) (reply .answer)
 
 -- the value is the ticket
 pub record Submits (bytes ring : List ℕ) (client : ℕ) (batch : List ℕ) (number value : ℕ) (bytesNow ringNow : List ℕ) : Type 0 where
-  pub told :
+  pub answered :
       let reply : Reply = submitResult (recordOf bytes) ring client batch in
-      Told bytes (bytesOf (reply .engine)) (reply .answer) number value bytesNow
+      ValueWritten bytes (bytesOf (reply .engine)) (reply .answer) number value bytesNow
   pub ring-is : ringNow ≡ submitRing (recordOf bytes) ring client batch
 
 -- the value is the number of the client's ready batches; the record is only read
@@ -59,7 +59,7 @@ pub record Pends (bytes : List ℕ) (client number value : ℕ) : Type 0 where
 -- ---- begin, pieces, cancel (02, 6)
 
 -- a call that answers nothing
-pub record Done (bytes after : List ℕ) (answer : Answer) (number : ℕ) (bytesNow : List ℕ) : Type 0 where
+pub record NumberWritten (bytes after : List ℕ) (answer : Answer) (number : ℕ) (bytesNow : List ℕ) : Type 0 where
   pub number-is : number ≡ refusalNumberOf answer
   pub record-is : bytesNow ≡ unlessRefused (refusalNumberOf answer) bytes after
 
@@ -67,31 +67,31 @@ pub record Done (bytes after : List ℕ) (answer : Answer) (number : ℕ) (bytes
 unfoldable pub Begins : (bytes ring : List ℕ) → (client total number : ℕ) → (bytesNow : List ℕ) → Type 0
 Begins bytes ring client total =
     let reply : Reply = beginResult (recordOf bytes) (length ring) client total in
-    Done bytes (bytesOf (reply .engine)) (reply .answer)
+    NumberWritten bytes (bytesOf (reply .engine)) (reply .answer)
 
 unfoldable pub Cancels : (bytes : List ℕ) → (client number : ℕ) → (bytesNow : List ℕ) → Type 0
 Cancels bytes client =
     let reply : Reply = cancelResult (recordOf bytes) client in
-    Done bytes (bytesOf (reply .engine)) (reply .answer)
+    NumberWritten bytes (bytesOf (reply .engine)) (reply .answer)
 
 -- a piece answers two numbers: 0 and the bytes still to come, or, of the last, 1 and the ticket
-pub record ToldTwo (bytes after : List ℕ) (answer : Answer) (number : ℕ) (two bytesNow : List ℕ) : Type 0 where
+pub record ProgressWritten (bytes after : List ℕ) (answer : Answer) (number : ℕ) (two bytesNow : List ℕ) : Type 0 where
   pub number-is : number ≡ refusalNumberOf answer
   pub two-are : two ≡ lastOf answer ∷ valueOf answer ∷ []
   pub record-is : bytesNow ≡ unlessRefused (refusalNumberOf answer) bytes after
 
 pub record HandsOver (bytes ring : List ℕ) (client : ℕ) (piece : List ℕ) (number : ℕ) (two bytesNow ringNow : List ℕ) : Type 0 where
-  pub told :
+  pub answered :
       let reply : Reply = pieceResult (recordOf bytes) ring client piece in
-      ToldTwo bytes (bytesOf (reply .engine)) (reply .answer) number two bytesNow
+      ProgressWritten bytes (bytesOf (reply .engine)) (reply .answer) number two bytesNow
   pub ring-is : ringNow ≡ pieceRing (recordOf bytes) ring client piece
 
 -- ---- close (02, 11)
 
 pub record Closes (bytes memory : List ℕ) (client number : ℕ) (bytesNow memoryNow : List ℕ) : Type 0 where
-  pub told :
+  pub answered :
       let reply : Reply = closeResult (recordOf bytes) (length memory) client in
-      Done bytes (bytesOf (reply .engine)) (reply .answer) number bytesNow
+      NumberWritten bytes (bytesOf (reply .engine)) (reply .answer) number bytesNow
   pub memory-is : memoryNow ≡ closeMemory (recordOf bytes) memory client
 
 -- ---- run

@@ -1,3 +1,3 @@
 -- The engine's calls on a record that is lent as bytes.
 pub mod Calls
-pub mod Harmless
+pub mod RefusedNoChange

@@ -16,7 +16,7 @@ fn prod(a: u16, b: u16) -> u16
 }
 
 // The nearest of p / 255, by shifts and adds. In 32 bits the compiler makes one multiplication of them, of which it keeps the upper half.
-fn near(p: u16) -> u16
+fn div_255_u16(p: u16) -> u16
     requires { ⌜ p ≤ 65025 ⌝ }
     ensures { λ r. ⌜ (r ≡ (p + 127) / 255) × (r ≤ 255) ⌝ }
 {
@@ -35,7 +35,7 @@ fn left(c: u16, d: u16, f: u16) -> u16
     requires { ⌜ ((c ≤ 255) × (d ≤ 255)) × (f ≤ 255) ⌝ }
     ensures { λ r. ⌜ (r ≡ c - (d * f + 127) / 255) × (r ≤ 255) ⌝ }
 {
-    less(c, near(prod(d, f)))
+    less(c, div_255_u16(prod(d, f)))
 }
 
 fn held_word(p: u16, q: u16) -> u16
@@ -53,7 +53,7 @@ fn last(t: u16) -> u16
 }
 
 // The nearest of (p + q) / 255, held at 255.
-fn near2(p: u16, q: u16) -> u16
+fn div_255_sum_u16(p: u16, q: u16) -> u16
     requires { ⌜ (p ≤ 65025) × (q ≤ 65025) ⌝ }
     ensures { λ r. ⌜ (r ≡ min 255 ((p + q + 127) / 255)) × (r ≤ 255) ⌝ }
 {
@@ -64,7 +64,7 @@ fn two_products(s: u16, fs: u16, d: u16, fd: u16) -> u16
     requires { ⌜ ((s ≤ 255) × (fs ≤ 255)) × ((d ≤ 255) × (fd ≤ 255)) ⌝ }
     ensures { λ r. ⌜ (r ≡ min 255 ((s * fs + d * fd + 127) / 255)) × (r ≤ 255) ⌝ }
 {
-    near2(prod(s, fs), prod(d, fd))
+    div_255_sum_u16(prod(s, fs), prod(d, fd))
 }
 
 fn two_by_factors(s: u16, fs: u16, d: u16, fd: u16) -> u16

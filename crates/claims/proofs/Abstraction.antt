@@ -7,16 +7,16 @@ use native.Mathlib.Omega.{arith}
 use lib.ListN.{length, getD, set}
 use Rattle.ring.specs.Segment.{wrapOffset}
 use Rattle.ring.proofs.Segment.{lies-wrapped, length-segment}
-use Rattle.record.specs.declared.Window.{Window as Span}
-use Rattle.record.specs.declared.Client.{Client}
-use Rattle.record.specs.declared.Batch.{Batch as Ready}
-use Rattle.record.specs.Slots.{sumOver, totalLength, countOf as countIn}
-use Rattle.record.specs.Clients.{noClient, windowsOf, lowestClosed}
-use Rattle.record.specs.Rules.{endToEnd}
-use Rattle.record.proofs.Line.{headed, held}
-use Rattle.record.proofs.Opened.{recounted}
+use Rattle.engine_record.specs.declared.Window.{Window as Span}
+use Rattle.engine_record.specs.declared.Client.{Client}
+use Rattle.engine_record.specs.declared.Batch.{Batch as Ready}
+use Rattle.engine_record.specs.Slots.{sumOver, totalLength, countOf as countIn}
+use Rattle.engine_record.specs.Clients.{noClient, windowsOf, lowestClosed}
+use Rattle.engine_record.specs.Rules.{endToEnd}
+use Rattle.engine_record.proofs.Line.{headed, held}
+use Rattle.engine_record.proofs.Opened.{recounted}
 use Rattle.model.specs.Windows.{Window, window}
-use Rattle.model.specs.State.{Batch, batch, Place, free, taken, isTaken, windowIn, windowsIn, lowestFree, totalBytes, countOf}
+use Rattle.model.specs.State.{Batch, batch, Place, free, taken, isTaken, windowIn, windowsIn, lowestFreeId, totalBytes, countOf}
 
 -- ---- windows and places
 
@@ -50,12 +50,12 @@ places-windows (c ∷ cs) = go (c .opened) (places-windows cs)
     go true e = ap (λ (l : List Window). seenWindow (c .window) ∷ l) e
     go false e = e
 
-pub places-lowest : (cs : List Client) → lowestFree (seenPlaces cs) ≡ lowestClosed cs
-unfolding seenPlaces lowestFree lowestClosed
+pub places-lowest : (cs : List Client) → lowestFreeId (seenPlaces cs) ≡ lowestClosed cs
+unfolding seenPlaces lowestFreeId lowestClosed
 places-lowest [] = refl
 places-lowest (c ∷ cs) = go (c .opened) (places-lowest cs)
   where
-    go : (t : Bool) → lowestFree (seenPlaces cs) ≡ lowestClosed cs → lowestFree (cond t (taken (seenWindow (c .window))) free ∷ seenPlaces cs) ≡ cond t (suc (lowestClosed cs)) 0
+    go : (t : Bool) → lowestFreeId (seenPlaces cs) ≡ lowestClosed cs → lowestFreeId (cond t (taken (seenWindow (c .window))) free ∷ seenPlaces cs) ≡ cond t (suc (lowestClosed cs)) 0
     go true e = ap suc e
     go false e = refl
 

@@ -6,13 +6,13 @@ use Prim.Native.Nat.{ℕ, zero, suc}
 use native.Mathlib.Omega.{arith}
 use lib.ListN.{length}
 use Rattle.ring.specs.Copied.{copiedIn}
-use Rattle.record.specs.declared.Window.{Window as Place}
-use Rattle.record.specs.Slots.{readyBatches as readyOf, countOf}
-use Rattle.record.specs.Clients.{clientAt, lowestClosed}
-use Rattle.record.specs.Queue.{writeOffset}
-use Rattle.record.specs.declared.EngineRecord.{EngineRecord}
-use Rattle.queue.specs.declared.Answer.{Answer as Told}
-use Rattle.record.specs.Staged.{noStaged, missingBytes}
+use Rattle.engine_record.specs.declared.Window.{Window as Place}
+use Rattle.engine_record.specs.Slots.{readyBatches as readyOf, countOf}
+use Rattle.engine_record.specs.Clients.{clientAt, lowestClosed}
+use Rattle.engine_record.specs.Queue.{writeOffset}
+use Rattle.engine_record.specs.declared.EngineRecord.{EngineRecord}
+use Rattle.queue.specs.declared.Answer.{Answer as QueueAnswer}
+use Rattle.engine_record.specs.Staged.{noStaged, missingBytes}
 use Rattle.queue.specs.declared.Answer.the-variants.{Done, Opened, Accepted, Ready, Missing}
 use Rattle.queue.specs.Answers.{refusalNumberOf, valueOf, answerUnlessRefused as replied}
 use Rattle.queue.specs.Refusals.{firstRefusal}
@@ -26,8 +26,9 @@ use Rattle.engine.proofs.Calls.{completion as completionOf}
 use Rattle.model.specs.Windows.{Window}
 use Rattle.model.specs.Calls.{Call, opens, submit, run, pending, begin, piece, cancel, close, opened, accepted, completed, ready, done as silent, refused}
 use Rattle.claims.specs.BatchSemantics.{completionStatusOf}
-use Rattle.claims.specs.Engine.{State, mkState, CallResult, answerOrRefusal, completion, pieceTold, performCall}
-use Rattle.claims.specs.Demand1.{refusalTableOf, RefusalNoOp}
+use Rattle.claims.specs.Engine.{State, mkState, CallResult, answerOrRefusal, completion, modelAnswerOf, performCall}
+use Rattle.model.specs.Machine.{RefusalNoOp}
+use Rattle.claims.specs.Demand1.{refusalTableOf}
 use Rattle.claims.specs.Demand2.{executed}
 
 -- the window as the record holds it
@@ -42,14 +43,14 @@ number c s = firstRefusal (refusalTableOf c s)
 abbrev pub done : Call → State → CallResult
 done (opens w) s = record { answer = opened (lowestClosed (s .engine .clients)); after = mkState (withClient (s .engine) (given w)) (s .ring) (s .memory) }
 done (submit client bytes) s = record {
-  answer = accepted (s .engine .next);
+  answer = accepted (s .engine .«next_ticket»);
   after = mkState (submitted (s .engine) client (length bytes)) (copiedIn (s .ring) (writeOffset (s .engine)) bytes) (s .memory);
 }
 done run s = executed s
 done (pending client) s = record { answer = ready (countOf client (readyOf (s .engine .slots))); after = s }
 done (begin client total) s = record { answer = silent; after = mkState (withStaged (s .engine) (begun (s .engine) client total)) (s .ring) (s .memory) }
 done (piece client bytes) s = record {
-  answer = pieceTold (pieceAnswer (s .engine) (length bytes));
+  answer = modelAnswerOf (pieceAnswer (s .engine) (length bytes));
   after = mkState (afterPiece (s .engine) (length bytes)) (copiedIn (s .ring) (pieceOffset (s .engine)) bytes) (s .memory);
 }
 done (cancel client) s = record { answer = silent; after = mkState (withStaged (s .engine) noStaged) (s .ring) (s .memory) }
@@ -104,18 +105,18 @@ module _ (e e′ : EngineRecord) (r r′ m m′ : List ℕ) where
   case-close zero = refl
   case-close (suc n) = refl
 
-  case-piece : (n : ℕ) (a : Told) → refusalNumberOf a ≡ 0 →
-      record { answer = answerOrRefusal (refusalNumberOf (replied n a)) (pieceTold (replied n a)); after = mkState (unlessRefused n e e′) (unlessRefused n r r′) m } ≡
-      either n (mkState e r m) (record { answer = pieceTold a; after = mkState e′ r′ m })
+  case-piece : (n : ℕ) (a : QueueAnswer) → refusalNumberOf a ≡ 0 →
+      record { answer = answerOrRefusal (refusalNumberOf (replied n a)) (modelAnswerOf (replied n a)); after = mkState (unlessRefused n e e′) (unlessRefused n r r′) m } ≡
+      either n (mkState e r m) (record { answer = modelAnswerOf a; after = mkState e′ r′ m })
   unfolding answerOrRefusal replied unlessRefused either
   case-piece zero a h = rw h
   case-piece (suc n) a h = refl
 
 -- no piece that is done answers a refusal
-piece-told : (engine : EngineRecord) (size : ℕ) → refusalNumberOf (pieceAnswer engine size) ≡ 0
-piece-told engine size = go (isLast (engine .staged) size)
+pieceAnswer-number : (engine : EngineRecord) (size : ℕ) → refusalNumberOf (pieceAnswer engine size) ≡ 0
+pieceAnswer-number engine size = go (isLast (engine .staged) size)
   where
-    go : (b : Bool) → refusalNumberOf (cond b (Accepted (engine .next)) (Missing (missingBytes (more (engine .staged) size)))) ≡ 0
+    go : (b : Bool) → refusalNumberOf (cond b (Accepted (engine .«next_ticket»)) (Missing (missingBytes (more (engine .staged) size)))) ≡ 0
     go true = refl
     go false = refl
 
@@ -126,7 +127,7 @@ by-number (opens w) s =
     case-open (s .engine) (d .engine) (s .ring) (d .ring) (s .memory) (d .memory) (number (opens w) s) (lowestClosed (s .engine .clients))
 by-number (submit client bytes) s =
     let d : State = done (submit client bytes) s .after in
-    case-submit (s .engine) (d .engine) (s .ring) (d .ring) (s .memory) (d .memory) (number (submit client bytes) s) (s .engine .next)
+    case-submit (s .engine) (d .engine) (s .ring) (d .ring) (s .memory) (d .memory) (number (submit client bytes) s) (s .engine .«next_ticket»)
 by-number run s =
     let d : State = done run s .after in
     case-run (s .engine) (d .engine) (s .ring) (d .ring) (s .memory) (d .memory) (number run s) (completionOf (s .engine) (s .ring))
@@ -137,7 +138,7 @@ by-number (begin client total) s =
     case-silent (s .engine) (d .engine) (s .ring) (d .ring) (s .memory) (d .memory) (number (begin client total) s)
 by-number (piece client bytes) s =
     let d : State = done (piece client bytes) s .after in
-    case-piece (s .engine) (d .engine) (s .ring) (d .ring) (s .memory) (d .memory) (number (piece client bytes) s) (pieceAnswer (s .engine) (length bytes)) (piece-told (s .engine) (length bytes))
+    case-piece (s .engine) (d .engine) (s .ring) (d .ring) (s .memory) (d .memory) (number (piece client bytes) s) (pieceAnswer (s .engine) (length bytes)) (pieceAnswer-number (s .engine) (length bytes))
 by-number (cancel client) s =
     let d : State = done (cancel client) s .after in
     case-silent (s .engine) (d .engine) (s .ring) (d .ring) (s .memory) (d .memory) (number (cancel client) s)
@@ -160,11 +161,11 @@ answers (pending client) s k e = let z : _≡_ {A = ℕ} 0 1 = cc in omega arith
 answers (begin client total) s k e = let z : _≡_ {A = ℕ} 0 1 = cc in omega arith
 answers (piece client bytes) s k e = go (isLast (s .engine .staged) (length bytes)) e
   where
-    go : (b : Bool) → pieceTold (cond b (Accepted (s .engine .next)) (Missing (missingBytes (more (s .engine .staged) (length bytes))))) ≡ refused k → ⊥
+    go : (b : Bool) → modelAnswerOf (cond b (Accepted (s .engine .«next_ticket»)) (Missing (missingBytes (more (s .engine .staged) (length bytes))))) ≡ refused k → ⊥
     go true e = let z : _≡_ {A = ℕ} 0 1 = cc in omega arith
     go false e = let z : _≡_ {A = ℕ} 0 1 = cc in omega arith
 answers (cancel client) s k e = let z : _≡_ {A = ℕ} 0 1 = cc in omega arith
 answers (close client) s k e = let z : _≡_ {A = ℕ} 0 1 = cc in omega arith
 
-pub harmless : (c : Call) (s : State) → RefusalNoOp c s
-harmless c s = rw (by-number c s) (quiet (number c s) s (done c s) (answers c s))
+pub refused-no-change : (c : Call) (s : State) → RefusalNoOp (performCall c s .answer) s (performCall c s .after)
+refused-no-change c s = rw (by-number c s) (quiet (number c s) s (done c s) (answers c s))

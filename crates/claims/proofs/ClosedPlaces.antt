@@ -5,12 +5,12 @@ use mathlib.Core.Logic.{inl, inr}
 use Prim.Native.Nat.{ℕ, zero, suc, _%_}
 use native.Mathlib.Omega.{arith}
 use lib.ListN.{length, getD}
-use Rattle.record.specs.declared.EngineRecord.{EngineRecord}
-use Rattle.record.specs.declared.Client.{Client}
-use Rattle.record.specs.declared.Batch.{Batch}
-use Rattle.record.specs.Clients.{noClient, windowsOf, pendingCountsMatch}
-use Rattle.record.specs.Queue.{waiting}
-use Rattle.record.specs.Rules.{clientsOpen, valid}
+use Rattle.engine_record.specs.declared.EngineRecord.{EngineRecord}
+use Rattle.engine_record.specs.declared.Client.{Client}
+use Rattle.engine_record.specs.declared.Batch.{Batch}
+use Rattle.engine_record.specs.Clients.{noClient, windowsOf, pendingCountsMatch}
+use Rattle.engine_record.specs.Queue.{waiting}
+use Rattle.engine_record.specs.Rules.{clientsOpen, valid}
 use Rattle.model.specs.Calls.{Setup, Call}
 use Rattle.claims.specs.Engine.{State, mkState, answersOf, memoriesOf}
 use Rattle.claims.specs.Queue.{SameButClosed, withClients, ClosedPlacesFree}
@@ -79,25 +79,25 @@ module _ (engine : EngineRecord) (clients : List Client) (h : SameButClosed (eng
       )
 
 module _ (setup : Setup) (n : ℕ) (s : State) (S : Sound setup n s) (clients : List Client) (h : SameButClosed (s .engine .clients) clients) where
-  own : s .engine .next ≡ s .engine .next % 4294967296
-  own = omega (arith, S .sized .next)
+  own : s .engine .«next_ticket» ≡ s .engine .«next_ticket» % 4294967296
+  own = omega (arith, S .sized .next-ticket)
 
   abbrev other : State
   other = mkState (withClients (s .engine) clients) (s .ring) (s .memory)
 
-  related : Related setup n (abstraction (s .engine .next) s) s
-  related = record { sound = S; next = own; is = refl }
+  related : Related setup n (abstraction (s .engine .«next_ticket») s) s
+  related = record { sound = S; next-ticket = own; is = refl }
 
-  related-other : Related setup n (abstraction (s .engine .next) s) other
+  related-other : Related setup n (abstraction (s .engine .«next_ticket») s) other
   unfolding seenStaging
   related-other = record {
     sound = record {
-      sized = record { clients = same-length (s .engine .clients) clients h ∙ S .sized .clients; slots = S .sized .slots; next = S .sized .next };
+      sized = record { clients = same-length (s .engine .clients) clients h ∙ S .sized .clients; slots = S .sized .slots; next-ticket = S .sized .next-ticket };
       ok = same-valid (s .engine) clients h ∙ S .ok;
       numbers = S .numbers;
       long = S .long;
     };
-    next = own;
+    next-ticket = own;
     is = rw (same-places (s .engine .clients) clients h);
   }
 
@@ -111,4 +111,4 @@ pub closed-places : ClosedPlacesFree
 closed-places s ok four eight small clients h calls =
     let numbers = s .engine .setup in
     both (record { ring = numbers .ring; memory = numbers .memory; common = numbers .common; reset = numbers .reset }) (length (s .ring)) s
-    (record { sized = record { clients = four; slots = eight; next = small }; ok = ok; numbers = refl; long = refl }) clients h calls
+    (record { sized = record { clients = four; slots = eight; next-ticket = small }; ok = ok; numbers = refl; long = refl }) clients h calls

@@ -15,15 +15,15 @@ use Rattle.surface.proofs.Loaded.{loaded-same}
 use Rattle.register.specs.declared.bank.Bank.{Bank}
 use Rattle.register.specs.declared.task.Task.{Task}
 use Rattle.register.specs.Size.{sizeOf}
-use Rattle.rules.specs.declared.task.Bounds.{Bounds}
-use Rattle.rules.specs.Rules.{commonOf}
-use Rattle.rules.proofs.Sound.{Within, Sound, AllSound}
+use Rattle.task_check.specs.declared.task.Bounds.{Bounds}
+use Rattle.task_check.specs.Rules.{commonOf}
+use Rattle.task_check.proofs.Sound.{Within, Sound, AllSound}
 use Rattle.batch.specs.Batch.{decodeBatch, tasksDrawn}
 use Rattle.batch.proofs.Tasks.{drawn-sound}
 use Rattle.model.specs.Windows.{Window}
 use Rattle.model.specs.BatchSemantics.{SameReadable, LocalAction, Confined}
 use Rattle.model.proofs.Locality.{All, local-tasks}
-use Rattle.rows.specs.Row.{colourAt}
+use Rattle.row_pixels.specs.Row.{colourAt}
 use Rattle.raster.specs.Task.{pixelColour, drawTask, drawTasks}
 use Rattle.raster.specs.Batch.{drawBatch}
 use Rattle.raster.proofs.RowByRow.{stride-some}

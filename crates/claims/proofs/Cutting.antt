@@ -10,23 +10,24 @@ use Rattle.ring.specs.Segment.{LiesInRing, wrapOffset, segment}
 use Rattle.ring.specs.Copied.{copiedIn}
 use Rattle.ring.proofs.Wrapped.{wrapped-below}
 use Rattle.ring.proofs.Copied.{length-copied}
-use Rattle.record.specs.declared.Staged.{Staged}
-use Rattle.record.specs.declared.EngineRecord.{EngineRecord}
-use Rattle.record.specs.Slots.{lowestFree}
-use Rattle.record.specs.Queue.{readyBytes, writeOffset}
-use Rattle.record.specs.Rules.{valid, stagedRule}
-use Rattle.record.proofs.Pieces.{copied-twice, copied-same}
-use Rattle.record.proofs.Rules.{valid-facts, ready-within}
-use Rattle.record.proofs.Unfinished.{unfinished-kept}
+use Rattle.engine_record.specs.declared.Staged.{Staged}
+use Rattle.engine_record.specs.declared.EngineRecord.{EngineRecord}
+use Rattle.engine_record.specs.Slots.{lowestFree}
+use Rattle.engine_record.specs.Queue.{readyBytes, writeOffset}
+use Rattle.engine_record.specs.Rules.{valid, stagedRule}
+use Rattle.engine_record.proofs.Pieces.{copied-twice, copied-same}
+use Rattle.engine_record.proofs.Rules.{valid-facts, ready-within}
+use Rattle.engine_record.proofs.Unfinished.{unfinished-kept}
 use Rattle.queue.specs.Refusals.{firstRefusal}
 use Rattle.queue.specs.Calls.{newBatch, withBatch, submitted, withStaged, begun, withReceived, pieceAnswer, afterPiece}
 use Rattle.queue.proofs.Refusals.{SubmitAllowed, submit-allowed}
 use Rattle.queue.proofs.Validity.{Sized, few-taken, staged-valid}
 use Rattle.queue.proofs.Submitted.{submit-addable}
 use Rattle.model.specs.Calls.{Setup, Call, submit, begin, piece, accepted, missing}
-use Rattle.claims.specs.Engine.{State, mkState, CallResult, pieceTold, performCall, stateAfter, SetUpAccepted}
+use Rattle.claims.specs.Engine.{State, mkState, CallResult, modelAnswerOf, performCall, stateAfter, SetUpAccepted}
+use Rattle.model.specs.Machine.{Cutting}
 use Rattle.claims.specs.Demand1.{refusalTableOf}
-use Rattle.claims.specs.Demand3.{finalState, Cutting}
+use Rattle.claims.specs.Demand3.{engineMachine, finalState}
 use Rattle.claims.proofs.Cases.{number, done, either, by-number}
 use Rattle.claims.proofs.Simulation.{at-end}
 
@@ -63,7 +64,7 @@ module _ (s : State) (sized : Sized (s .engine)) (client n : ℕ) (z : number (b
   starts =
       let v = valid-facts e (a .ok) in
       let ready = ready-within e v (few-taken e sized) in
-      let below = wrapped-below (e .setup .ring) (e .read + readyBytes e) (omega (arith, v .numbers .below)) in
+      let below = wrapped-below (e .setup .ring) (e .«read_offset» + readyBytes e) (omega (arith, v .numbers .below)) in
       omega (arith, a .ring)
 
   within : n ≤ length (s .ring)
@@ -111,7 +112,7 @@ module _ (s : State) (sized : Sized (s .engine)) (client n : ℕ) (z : number (b
   unfolding withStaged withBatch
   last-record y x h = rw (eq-eqb (length y + length x) n h, length-append y x, h)
 
-  last-answer : (y x : List ℕ) → length y + length x ≡ n → pieceTold (pieceAnswer (upTo (length y)) (length x)) ≡ accepted (e .next)
+  last-answer : (y x : List ℕ) → length y + length x ≡ n → modelAnswerOf (pieceAnswer (upTo (length y)) (length x)) ≡ accepted (e .«next_ticket»)
   unfolding withStaged
   last-answer y x h = rw (eq-eqb (length y + length x) n h)
 
@@ -128,7 +129,7 @@ module _ (s : State) (sized : Sized (s .engine)) (client n : ℕ) (z : number (b
       ∙ ap (λ (q : List ℕ). mkState (upTo 0) q (s .memory)) (sym (copied-same (s .ring) (writeOffset e) 0 starts (omega arith)))
 
 pub cutting : (setup : Setup) (ring : List ℕ) (A : SetUpAccepted setup) (calls : List Call) (memory : List ℕ) (client : ℕ) (pieces : List (List ℕ)) (last : List ℕ) →
-    Cutting setup ring calls memory client pieces last
+    Cutting engineMachine client pieces last (finalState setup ring calls memory)
 unfolding stateAfter
 cutting setup ring A calls memory client pieces last =
     let s : State = finalState setup ring calls memory in

@@ -6,8 +6,8 @@ use Prim.Native.Nat.{ℕ, zero, suc, _+_, _*_}
 use native.Mathlib.Omega.{arith}
 use lib.ListN.{length}
 use lib.Dec.{ltb}
-use Rattle.rules.specs.declared.fault.Fault.{Fault}
-use Rattle.rules.specs.Faults.{faultNumber, faultStatus}
+use Rattle.task_check.specs.declared.fault.Fault.{Fault}
+use Rattle.task_check.specs.Faults.{faultNumber, faultStatus}
 use Rattle.batch.specs.declared.verdict.Verdict.the-variants.{Faulty}
 use Rattle.batch.specs.Batch.{decodeBatch}
 use Rattle.batch.proofs.Steps.{faulty-stopped}
@@ -23,7 +23,7 @@ use Rattle.engine.specs.Run.{oldest, boundsOfClient, oldestWords, resetOf, olde
 use Rattle.model.specs.Calls.{Call, run, completed, refused}
 use Rattle.claims.specs.Engine.{State, mkState, CallResult, performCall}
 use Rattle.claims.specs.Demand1.{refusalTableOf, encoderTable, standing, OfCalls, OfEncoder, Demand1}
-use Rattle.claims.proofs.Cases.{number, done, either, by-number, answers, harmless}
+use Rattle.claims.proofs.Cases.{number, done, either, by-number, answers, refused-no-change}
 
 -- with any number
 refused-by : (m n : ℕ) (s : State) (d : CallResult) → ¬ (n ≡ 0) → m ≡ n → either m s d .answer ≡ refused n
@@ -37,11 +37,11 @@ refused-only zero n s d done e = absurd (done n e)
 refused-only (suc m) n s d done e = let same : suc m ≡ n = cc in (same, λ z. omega arith)
 
 module _ (s : State) where
-  listed : (c : Call) (n : ℕ) → ¬ (n ≡ 0) → firstRefusal (refusalTableOf c s) ≡ n → performCall c s .answer ≡ refused n
-  listed c n some e = rw (by-number c s) (refused-by (number c s) n s (done c s) some e)
+  refused-if : (c : Call) (n : ℕ) → ¬ (n ≡ 0) → firstRefusal (refusalTableOf c s) ≡ n → performCall c s .answer ≡ refused n
+  refused-if c n some e = rw (by-number c s) (refused-by (number c s) n s (done c s) some e)
 
-  only : (c : Call) (n : ℕ) → performCall c s .answer ≡ refused n → (firstRefusal (refusalTableOf c s) ≡ n) × ¬ (n ≡ 0)
-  only c n e = refused-only (number c s) n s (done c s) (answers c s) (rw (by-number c s) at e)
+  refused-only-if : (c : Call) (n : ℕ) → performCall c s .answer ≡ refused n → (firstRefusal (refusalTableOf c s) ≡ n) × ¬ (n ≡ 0)
+  refused-only-if c n e = refused-only (number c s) n s (done c s) (answers c s) (rw (by-number c s) at e)
 
   faulty : (tasks : ℕ) (fault : Fault) (place : ℕ) → firstRefusal (refusalTableOf run s) ≡ 0 → oldestVerdict (s .engine) (s .ring) ≡ Faulty tasks fault place →
       (performCall run s ≡ record {
@@ -57,23 +57,23 @@ module _ (s : State) where
       (rw (by-number run s, z, same, e), sym (faulty-stopped tasks fault place (decodeBatch bounds (resetOf (s .engine)) (oldestWords (s .engine) (s .ring))) e .1))
 
   of-calls : OfCalls s
-  of-calls = record { listed = listed; only = only; harmless = λ c. harmless c s; faulty = faulty }
+  of-calls = record { refused-if = refused-if; refused-only-if = refused-only-if; refused-no-change = λ c. refused-no-change c s; faulty = faulty }
 
 -- ---- the encoder
 
 module _ (form : Form) (buffer : List ℕ) where
-  encoder-listed : encoderNumber (answerOf form (length buffer)) ≡ firstRefusal (encoderTable form (length buffer))
+  encoder-by-table : encoderNumber (answerOf form (length buffer)) ≡ firstRefusal (encoderTable form (length buffer))
   unfolding answerOf firstRefusal
-  encoder-listed = by (formAllowed form) (ltb (length buffer) (formSize form))
+  encoder-by-table = by (formAllowed form) (ltb (length buffer) (formSize form))
     where
       by : (a short : Bool) → encoderNumber (cond a (cond short ShortBuffer Written) Forbidden) ≡ cond (not a) 24 (cond short 12 0)
       by true true = refl
       by true false = refl
       by false short = refl
 
-  encoder-harmless : ¬ (encoderNumber (answerOf form (length buffer)) ≡ 0) → bufferAfter form buffer ≡ buffer
+  encoder-refused-no-change : ¬ (encoderNumber (answerOf form (length buffer)) ≡ 0) → bufferAfter form buffer ≡ buffer
   unfolding bufferAfter
-  encoder-harmless = by (answerOf form (length buffer))
+  encoder-refused-no-change = by (answerOf form (length buffer))
     where
       by : (a : Answer) → ¬ (encoderNumber a ≡ 0) → bufferOnAnswer a (taskBytes form) buffer ≡ buffer
       by Written some = absurd (some refl)
@@ -84,5 +84,5 @@ pub demand1 : Demand1
 demand1 = record {
   set-up = set-up-number;
   calls = of-calls;
-  encoder = λ form buffer. record { listed = encoder-listed form buffer; harmless = encoder-harmless form buffer };
+  encoder = λ form buffer. record { by-table = encoder-by-table form buffer; refused-no-change = encoder-refused-no-change form buffer };
 }

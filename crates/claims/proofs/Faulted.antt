@@ -8,7 +8,7 @@ use Rattle.batch.specs.Batch.{BatchEnd, finished, faulty, DecodedBatch, decodeB
 use Rattle.batch.proofs.Tasks.{fault-small}
 use Rattle.raster.specs.Task.{drawTasks}
 use Rattle.raster.proofs.Fold.{batch-tasks}
-use Rattle.record.specs.Queue.{waiting}
+use Rattle.engine_record.specs.Queue.{waiting}
 use Rattle.engine.specs.Run.{oldest, boundsOfClient, oldestWords, resetOf, oldestVerdict}
 use Rattle.engine.proofs.Refusals.{run-allowed}
 use Rattle.engine.proofs.Preservation.{run-waiting}

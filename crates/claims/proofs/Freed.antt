@@ -11,15 +11,15 @@ use borrow.Author.Tests.{ltb-false, le-ltb, lt-leb, le-leb, ne-eqb}
 use Rattle.word.proofs.Tests.{split}
 use Rattle.range.specs.declared.Range.{Range}
 use Rattle.range.specs.Range.{containedIn, overlaps}
-use Rattle.record.specs.declared.EngineRecord.{EngineRecord}
-use Rattle.record.specs.declared.Client.{Client}
-use Rattle.record.specs.declared.Window.{Window}
-use Rattle.record.specs.Clients.{noClient, clientAt, isOpen, windowsOf, windowRange, prefixRange, overlapsAny, badWindow}
-use Rattle.record.specs.Rules.{valid}
-use Rattle.record.proofs.Clients.{shares-cons, windows-most, open-place, place-open, closed-past}
-use Rattle.record.proofs.Opened.{shared-sym}
-use Rattle.record.proofs.Windows.{window-placed, windows-apart}
-use Rattle.record.proofs.Rules.{valid-facts}
+use Rattle.engine_record.specs.declared.EngineRecord.{EngineRecord}
+use Rattle.engine_record.specs.declared.Client.{Client}
+use Rattle.engine_record.specs.declared.Window.{Window}
+use Rattle.engine_record.specs.Clients.{noClient, clientAt, isOpen, windowsOf, windowRange, prefixRange, overlapsAny, badWindow}
+use Rattle.engine_record.specs.Rules.{valid}
+use Rattle.engine_record.proofs.Clients.{shares-cons, windows-most, open-place, place-open, closed-past}
+use Rattle.engine_record.proofs.Opened.{shared-sym}
+use Rattle.engine_record.proofs.Windows.{window-placed, windows-apart}
+use Rattle.engine_record.proofs.Rules.{valid-facts}
 use Rattle.queue.specs.Refusals.{firstRefusal, openTable}
 use Rattle.queue.specs.Calls.{withoutClient}
 use Rattle.queue.proofs.Refusals.{CloseAllowed}

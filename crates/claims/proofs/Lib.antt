@@ -12,6 +12,7 @@ pub mod SimulationSteps
 pub mod Pieces
 pub mod Runs
 pub mod Simulation
+pub mod Ring
 pub mod InTime
 pub mod Cutting
 pub mod Faulted
@@ -19,5 +20,6 @@ pub mod Theorem
 pub mod Freed
 pub mod ClosedPlaces
 pub mod Queue
+pub mod EitherEngine
 pub mod Order
 pub mod WorkedExamples

@@ -16,6 +16,7 @@ of-model setup ring =
       tenanted = c .tenanted;
       in-order = c .in-order;
       in-time = c .in-time;
-      harmless = c .harmless;
+      refused-no-change = c .refused-no-change;
+      quiet = c .quiet;
       cutting = c .cutting;
     }

@@ -11,7 +11,7 @@ use Rattle.model.specs.Properties.{ModelProperties}
 use Rattle.model.proofs.Theorems.{claims}
 use Rattle.claims.specs.ModelProperties.{batchSemantics}
 use Rattle.claims.specs.Engine.{SetUpAccepted}
-use Rattle.claims.specs.Order.{SameOutcome, Promise}
+use Rattle.claims.specs.Order.{SameOutcome, OrderHolds}
 use Rattle.claims.proofs.Confined.{confined}
 use Rattle.claims.proofs.Simulation.{like-model}
 
@@ -26,7 +26,7 @@ module _ (setup : Setup) (ring : List ℕ) (A : SetUpAccepted setup) where
         verdicts = λ client. ap (verdictsOf client) (one .every-answer) ∙ same .verdicts client ∙ sym (ap (verdictsOf client) (two .every-answer));
       }
 
-pub promise : Promise
+pub promise : OrderHolds
 promise setup ring A =
     let c : ModelProperties (batchSemantics setup) setup (length ring) = claims (batchSemantics setup) setup (length ring) in
     record {

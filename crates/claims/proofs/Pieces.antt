@@ -12,18 +12,18 @@ use Rattle.ring.specs.Segment.{LiesInRing, wrapOffset, segment}
 use Rattle.ring.specs.Copied.{copiedIn}
 use Rattle.ring.proofs.Wrapped.{wrapped-in, wrapped-below}
 use Rattle.ring.proofs.Copied.{length-copied, segment-copied}
-use Rattle.record.specs.declared.Setup.{Setup as Numbers}
-use Rattle.record.specs.declared.Batch.{Batch}
-use Rattle.record.specs.declared.Staged.{Staged}
-use Rattle.record.specs.declared.EngineRecord.{EngineRecord}
-use Rattle.record.specs.Slots.{totalLength}
-use Rattle.record.specs.Staged.{noStaged, missingBytes}
-use Rattle.record.specs.Queue.{readyBytes, writeOffset, waiting}
-use Rattle.record.specs.Rules.{valid}
-use Rattle.record.proofs.Line.{held, held-kept}
-use Rattle.record.proofs.Pieces.{copied-behind}
-use Rattle.record.proofs.Rules.{sum-waiting, ready-within}
-use Rattle.queue.specs.declared.Answer.{Answer as Told}
+use Rattle.engine_record.specs.declared.Setup.{Setup as Numbers}
+use Rattle.engine_record.specs.declared.Batch.{Batch}
+use Rattle.engine_record.specs.declared.Staged.{Staged}
+use Rattle.engine_record.specs.declared.EngineRecord.{EngineRecord}
+use Rattle.engine_record.specs.Slots.{totalLength}
+use Rattle.engine_record.specs.Staged.{noStaged, missingBytes}
+use Rattle.engine_record.specs.Queue.{readyBytes, writeOffset, waiting}
+use Rattle.engine_record.specs.Rules.{valid}
+use Rattle.engine_record.proofs.Line.{held, held-kept}
+use Rattle.engine_record.proofs.Pieces.{copied-behind}
+use Rattle.engine_record.proofs.Rules.{sum-waiting, ready-within}
+use Rattle.queue.specs.declared.Answer.{Answer as QueueAnswer}
 use Rattle.queue.specs.declared.Answer.the-variants.{Accepted, Missing}
 use Rattle.queue.specs.Calls.{newBatch, withBatch, withStaged, more, isLast, pieceOffset}
 use Rattle.queue.proofs.Refusals.{PieceAllowed, piece-allowed}
@@ -35,7 +35,7 @@ use Rattle.model.specs.Calls.{Setup, piece, accepted, missing}
 use Rattle.model.specs.State.{Staging, staging}
 use Rattle.model.specs.Model.{Step, plain, enqueue, pieceStep, effect, withStaged as withStagedM}
 use Rattle.claims.specs.ModelProperties.{batchSemantics}
-use Rattle.claims.specs.Engine.{State, mkState, pieceTold}
+use Rattle.claims.specs.Engine.{State, mkState, modelAnswerOf}
 use Rattle.claims.specs.Queue.{bytesSoFar}
 use Rattle.claims.proofs.Cases.{number, done}
 use Rattle.claims.proofs.Abstraction.{seenPlaces, places-recounted, seenBatch, seenWaiting}
@@ -43,14 +43,14 @@ use Rattle.claims.proofs.SimulationRelation.{abstraction, seenStaging, 
 use Rattle.claims.proofs.SimulationSteps.{Simulates}
 
 -- the last piece or another one, alike either way
-by-last : (setup : Setup) (n : ℕ) (b : Bool) (told told′ : Told) (engine engine′ : EngineRecord) (ring memory : List ℕ) (t t′ : Step) →
-    (b ≡ true → Simulates setup n (record { answer = pieceTold told; after = mkState engine ring memory }) t) →
-    (b ≡ false → Simulates setup n (record { answer = pieceTold told′; after = mkState engine′ ring memory }) t′) →
-    Simulates setup n (record { answer = pieceTold (cond b told told′); after = mkState (cond b engine engine′) ring memory }) (cond b t t′)
-by-last setup n true told told′ engine engine′ ring memory t t′ h k = h refl
-by-last setup n false told told′ engine engine′ ring memory t t′ h k = k refl
+by-last : (setup : Setup) (n : ℕ) (b : Bool) (answer answer′ : QueueAnswer) (engine engine′ : EngineRecord) (ring memory : List ℕ) (t t′ : Step) →
+    (b ≡ true → Simulates setup n (record { answer = modelAnswerOf answer; after = mkState engine ring memory }) t) →
+    (b ≡ false → Simulates setup n (record { answer = modelAnswerOf answer′; after = mkState engine′ ring memory }) t′) →
+    Simulates setup n (record { answer = modelAnswerOf (cond b answer answer′); after = mkState (cond b engine engine′) ring memory }) (cond b t t′)
+by-last setup n true answer answer′ engine engine′ ring memory t t′ h k = h refl
+by-last setup n false answer answer′ engine engine′ ring memory t t′ h k = k refl
 
-module _ (setup : Setup) (n : ℕ) (s : State) (S : Sound setup n s) (count : ℕ) (next : s .engine .next ≡ count % 4294967296)
+module _ (setup : Setup) (n : ℕ) (s : State) (S : Sound setup n s) (count : ℕ) (next : s .engine .«next_ticket» ≡ count % 4294967296)
     (client : ℕ) (bytes : List ℕ) (z : number (piece client bytes) s ≡ 0) where
   abbrev pub e : EngineRecord
   e = s .engine
@@ -77,7 +77,7 @@ module _ (setup : Setup) (n : ℕ) (s : State) (S : Sound setup n s) (count : �
       let v = facts setup n s S in
       let u = may .own .unfinished in
       let ready = ready-within e v (few-taken e (S .sized)) in
-      let below = wrapped-below (e .setup .ring) (e .read + readyBytes e) (omega (arith, v .numbers .below)) in
+      let below = wrapped-below (e .setup .ring) (e .«read_offset» + readyBytes e) (omega (arith, v .numbers .below)) in
       rw (may .ring) at (copied-behind (s .ring) (writeOffset e) (g .received) bytes (omega (arith, may .ring)) (omega (arith, may .ring, may .fits, u .room)))
 
   abbrev pub filled : List ℕ
@@ -87,7 +87,7 @@ module _ (setup : Setup) (n : ℕ) (s : State) (S : Sound setup n s) (count : �
   lies =
       let v = facts setup n s S in
       let ready = ready-within e v (few-taken e (S .sized)) in
-      let below = wrapped-below (e .setup .ring) (e .read + readyBytes e) (omega (arith, v .numbers .below)) in
+      let below = wrapped-below (e .setup .ring) (e .«read_offset» + readyBytes e) (omega (arith, v .numbers .below)) in
       record { starts = omega (arith, may .ring); fits = omega (arith, may .ring, long-all, may .fits, may .own .unfinished .room) }
 
   long-filled : length filled ≡ n
@@ -99,8 +99,8 @@ module _ (setup : Setup) (n : ℕ) (s : State) (S : Sound setup n s) (count : �
       let v = facts setup n s S in
       let u = may .own .unfinished in
       let bytes-ready : readyBytes e ≡ totalLength (waiting e) = sum-waiting e v (few-taken e (S .sized)) (λ b. b .length) in
-      let first : wrapOffset (length (s .ring)) (e .read + 0) ≡ e .read = rw add-zero (wrapped-in (length (s .ring)) (e .read) (omega (arith, may .ring, v .numbers .below))) in
-      rw (may .ring) at (held-kept f (s .ring) (e .read) 0 (readyBytes e) (waiting e) all (omega (arith, may .ring, v .numbers .below)) (omega arith)
+      let first : wrapOffset (length (s .ring)) (e .«read_offset» + 0) ≡ e .«read_offset» = rw add-zero (wrapped-in (length (s .ring)) (e .«read_offset») (omega (arith, may .ring, v .numbers .below))) in
+      rw (may .ring) at (held-kept f (s .ring) (e .«read_offset») 0 (readyBytes e) (waiting e) all (omega (arith, may .ring, v .numbers .below)) (omega arith)
       (omega (arith, may .ring, long-all, may .fits, u .room)) (rw (first, may .ring) (v .ends)))
 
   -- and the ring holds all the bytes that have come
@@ -136,19 +136,19 @@ module _ (setup : Setup) (n : ℕ) (s : State) (S : Sound setup n s) (count : �
       long = long-filled;
     }
 
-    last-next : ready .next ≡ suc count % 4294967296
+    last-next : ready .«next_ticket» ≡ suc count % 4294967296
     unfolding withBatch
     last-next = rw next (omega arith)
 
     last-related : Related setup n (enqueue (abstraction count s) (g .client) all .after) (mkState ready filled (s .memory))
     last-related = record {
       sound = last-sound;
-      next = last-next;
+      next-ticket = last-next;
       is = rw (last-places, added-held seenBatch e (S .sized) (s .ring) (may .ring) (g .slot) (g .client) all addable, none-seen filled ready last-none, next);
     }
 
     last-done : Simulates setup n
-        (record { answer = accepted (e .next); after = mkState (withBatch e (g .slot) (newBatch e (g .client) (g .total))) (copiedIn (s .ring) (pieceOffset e) bytes) (s .memory) })
+        (record { answer = accepted (e .«next_ticket»); after = mkState (withBatch e (g .slot) (newBatch e (g .client) (g .total))) (copiedIn (s .ring) (pieceOffset e) bytes) (s .memory) })
         (enqueue (abstraction count s) (g .client) all)
     last-done = (
       ap accepted next,
@@ -184,7 +184,7 @@ module _ (setup : Setup) (n : ℕ) (s : State) (S : Sound setup n s) (count : �
 
     on-related : Related setup n (withStagedM (abstraction count s) (staging (g .client) (g .total) all)) (mkState on filled (s .memory))
     unfolding withStaged
-    on-related = record { sound = on-sound; next = next; is = rw (on-seen, kept seenBatch) }
+    on-related = record { sound = on-sound; next-ticket = next; is = rw (on-seen, kept seenBatch) }
 
     on-done : Simulates setup n
         (record { answer = missing (missingBytes (more g (length bytes))); after = mkState on (copiedIn (s .ring) (pieceOffset e) bytes) (s .memory) })
@@ -203,5 +203,5 @@ module _ (setup : Setup) (n : ℕ) (s : State) (S : Sound setup n s) (count : �
       let other : Step = plain (missing (g .total - length all)) (withStagedM (abstraction count s) (staging (g .client) (g .total) all)) in
       subst (λ (x : Staging). Simulates setup n (done (piece client bytes) s) (pieceStep (abstraction count s) x bytes)) (sym (some-seen (s .ring) e (may .own .some)))
       (subst (λ (k : ℕ). Simulates setup n (done (piece client bytes) s) (cond (eqb k (g .total)) last other)) (sym long-all)
-      (by-last setup n (isLast g (length bytes)) (Accepted (e .next)) (Missing (missingBytes (more g (length bytes))))
+      (by-last setup n (isLast g (length bytes)) (Accepted (e .«next_ticket»)) (Missing (missingBytes (more g (length bytes))))
       (withBatch e (g .slot) (newBatch e (g .client) (g .total))) (withStaged e (more g (length bytes))) (copiedIn (s .ring) (pieceOffset e) bytes) (s .memory) last other last-done on-done))

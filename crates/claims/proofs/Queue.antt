@@ -7,15 +7,15 @@ use native.Mathlib.Omega.{arith}
 use lib.ListN.{length}
 use lib.Seq.{getD-set-same, getD-set-other}
 use lib.Dec.{ltb}
-use Rattle.record.specs.declared.Batch.{Batch}
-use Rattle.record.specs.declared.Client.{Client}
-use Rattle.record.specs.Clients.{noClient, clientAt, isOpen, lowestClosed}
-use Rattle.record.specs.Slots.{lowestFree}
-use Rattle.record.specs.Queue.{readySlots, waiting}
-use Rattle.record.proofs.Line.{held}
-use Rattle.record.proofs.Clients.{closed-below, closed-is, closed-least, open-place, place-open}
-use Rattle.record.proofs.Windows.{window-placed}
-use Rattle.record.proofs.Rules.{valid-facts, write-newest, write-first, free-room}
+use Rattle.engine_record.specs.declared.Batch.{Batch}
+use Rattle.engine_record.specs.declared.Client.{Client}
+use Rattle.engine_record.specs.Clients.{noClient, clientAt, isOpen, lowestClosed}
+use Rattle.engine_record.specs.Slots.{lowestFree}
+use Rattle.engine_record.specs.Queue.{readySlots, waiting}
+use Rattle.engine_record.proofs.Line.{held}
+use Rattle.engine_record.proofs.Clients.{closed-below, closed-is, closed-least, open-place, place-open}
+use Rattle.engine_record.proofs.Windows.{window-placed}
+use Rattle.engine_record.proofs.Rules.{valid-facts, write-newest, write-first, free-room}
 use Rattle.queue.specs.Refusals.{firstRefusal}
 use Rattle.queue.specs.Calls.{newBatch, withBatch, withStaged, isLast, withClient, withoutClient}
 use Rattle.queue.proofs.Refusals.{open-allowed, submit-allowed, close-allowed}
@@ -29,7 +29,7 @@ use Rattle.model.proofs.Locality.{zero-local, zero-in}
 use Rattle.claims.specs.Engine.{State, mkState, performCall}
 use Rattle.claims.specs.Demand1.{refusalTableOf}
 use Rattle.claims.specs.Demand3.{finalState}
-use Rattle.claims.specs.Queue.{bytesSoFar, contents, Submitted, Begun, Continued, Finished, Cancelled, Taken, SameQueue, Opened, Closed, Queue, Promise}
+use Rattle.claims.specs.Queue.{bytesSoFar, contents, Submitted, Begun, Continued, Finished, Cancelled, Taken, SameQueue, Opened, Closed, Queue, QueueHolds}
 use Rattle.claims.proofs.Cases.{given, done, either, by-number}
 use Rattle.claims.proofs.SimulationRelation.{Sound, facts}
 use Rattle.claims.proofs.Pieces.{may, copied, filled, kept, come, whole, addable}
@@ -68,8 +68,8 @@ module _ (setup : Setup) (n : ℕ) (s : State) (S : Sound setup n s) where
       })
 
   -- the next ticket is its own remainder
-  own : s .engine .next ≡ s .engine .next % 4294967296
-  own = omega (arith, S .sized .next)
+  own : s .engine .«next_ticket» ≡ s .engine .«next_ticket» % 4294967296
+  own = omega (arith, S .sized .next-ticket)
 
   begins : (client total : ℕ) → firstRefusal (refusalTableOf (begin client total) s) ≡ 0 → Begun client total s (performCall (begin client total) s .after)
   unfolding withStaged
@@ -79,44 +79,44 @@ module _ (setup : Setup) (n : ℕ) (s : State) (S : Sound setup n s) where
     continued : isLast (s .engine .staged) (length bytes) ≡ false → Continued bytes s (performCall (piece client bytes) s .after)
     unfolding withStaged
     continued other =
-        rw (allowed (piece client bytes) z, other, copied setup n s S (s .engine .next) own client bytes z)
+        rw (allowed (piece client bytes) z, other, copied setup n s S (s .engine .«next_ticket») own client bytes z)
         (record {
           on = refl;
-          come = come setup n s S (s .engine .next) own client bytes z;
+          come = come setup n s S (s .engine .«next_ticket») own client bytes z;
           waits = refl;
-          kept = contents-held _ _ ∙ kept setup n s S (s .engine .next) own client bytes z alone ∙ sym (contents-held _ _);
+          kept = contents-held _ _ ∙ kept setup n s S (s .engine .«next_ticket») own client bytes z alone ∙ sym (contents-held _ _);
         })
 
     -- of a batch whose length is that of all the bytes that have come
     whole-held : isLast (s .engine .staged) (length bytes) ≡ true →
-        contents (filled setup n s S (s .engine .next) own client bytes z)
+        contents (filled setup n s S (s .engine .«next_ticket») own client bytes z)
         (waiting (withBatch (s .engine) (s .engine .staged .slot) (newBatch (s .engine) (s .engine .staged .client) (s .engine .staged .total))))
         ≡ contents (s .ring) (waiting (s .engine)) ++ (bytesSoFar s ++ bytes) ∷ []
     whole-held last =
         subst
-        (λ (t : ℕ). contents (filled setup n s S (s .engine .next) own client bytes z)
+        (λ (t : ℕ). contents (filled setup n s S (s .engine .«next_ticket») own client bytes z)
         (waiting (withBatch (s .engine) (s .engine .staged .slot) (newBatch (s .engine) (s .engine .staged .client) t)))
         ≡ contents (s .ring) (waiting (s .engine)) ++ (bytesSoFar s ++ bytes) ∷ [])
-        (whole setup n s S (s .engine .next) own client bytes z last)
+        (whole setup n s S (s .engine .«next_ticket») own client bytes z last)
         (contents-held _ _
-        ∙ added-held alone (s .engine) (S .sized) (s .ring) (may setup n s S (s .engine .next) own client bytes z .ring) (s .engine .staged .slot) (s .engine .staged .client) (bytesSoFar s ++ bytes)
-        (addable setup n s S (s .engine .next) own client bytes z last)
+        ∙ added-held alone (s .engine) (S .sized) (s .ring) (may setup n s S (s .engine .«next_ticket») own client bytes z .ring) (s .engine .staged .slot) (s .engine .staged .client) (bytesSoFar s ++ bytes)
+        (addable setup n s S (s .engine .«next_ticket») own client bytes z last)
         ∙ ap (λ (l : List (List ℕ)). l ++ (bytesSoFar s ++ bytes) ∷ []) (sym (contents-held _ _)))
 
     finished : isLast (s .engine .staged) (length bytes) ≡ true → Finished bytes s (performCall (piece client bytes) s .after)
     unfolding withBatch
     finished last =
-        rw (allowed (piece client bytes) z, last, copied setup n s S (s .engine .next) own client bytes z)
+        rw (allowed (piece client bytes) z, last, copied setup n s S (s .engine .«next_ticket») own client bytes z)
         (record {
           none = refl;
           last = added-waiting (s .engine) (S .sized) (s .engine .staged .slot) (s .engine .staged .client) (s .engine .staged .total)
-              (staged-addable (s .engine) client (may setup n s S (s .engine .next) own client bytes z .own));
+              (staged-addable (s .engine) client (may setup n s S (s .engine .«next_ticket») own client bytes z .own));
           copied = whole-held last;
         })
 
   cancelled : (client : ℕ) → firstRefusal (refusalTableOf (cancel client) s) ≡ 0 → Cancelled s (performCall (cancel client) s .after)
   unfolding withStaged
-  cancelled client z = rw (allowed (cancel client) z) (record { none = refl; waits = refl; read = refl; ring = refl })
+  cancelled client z = rw (allowed (cancel client) z) (record { none = refl; waits = refl; read-offset = refl; ring = refl })
 
   taken : firstRefusal (refusalTableOf run s) ≡ 0 → Taken s (performCall run s .after)
   unfolding contents
@@ -130,7 +130,7 @@ module _ (setup : Setup) (n : ℕ) (s : State) (S : Sound setup n s) where
         whole = oldest-words (s .engine) (S .sized) (s .ring) (length (s .memory)) a;
         kept = ap (contents (s .ring)) first;
         staged = run-kept (s .engine) .2;
-        so-far = rw (run-offset setup n s S (s .engine .next) own z, run-kept (s .engine) .2);
+        so-far = rw (run-offset setup n s S (s .engine .«next_ticket») own z, run-kept (s .engine) .2);
       })
 
   -- ---- open
@@ -153,7 +153,7 @@ module _ (setup : Setup) (n : ℕ) (s : State) (S : Sound setup n s) where
 
   opened-kept : (w : Window) → (ring memory : List ℕ) → SameQueue s (mkState (withClient (s .engine) (given w)) ring memory)
   unfolding withClient
-  opened-kept w ring memory = record { setup = refl; slots = refl; read = refl; next = refl; staged = refl }
+  opened-kept w ring memory = record { setup = refl; slots = refl; read-offset = refl; next-ticket = refl; staged = refl }
 
   opened : (w : Window) → firstRefusal (refusalTableOf (opens w) s) ≡ 0 → Opened w s (performCall (opens w) s .after)
   opened w z =
@@ -187,7 +187,7 @@ module _ (setup : Setup) (n : ℕ) (s : State) (S : Sound setup n s) where
 
   closed-kept : (client : ℕ) → (ring memory : List ℕ) → SameQueue s (mkState (withoutClient (s .engine) client) ring memory)
   unfolding withoutClient
-  closed-kept client ring memory = record { setup = refl; slots = refl; read = refl; next = refl; staged = refl }
+  closed-kept client ring memory = record { setup = refl; slots = refl; read-offset = refl; next-ticket = refl; staged = refl }
 
   closed : (client : ℕ) → firstRefusal (refusalTableOf (close client) s) ≡ 0 → Closed client s (performCall (close client) s .after)
   closed client z =
@@ -224,5 +224,5 @@ module _ (setup : Setup) (n : ℕ) (s : State) (S : Sound setup n s) where
     free = free-room (s .engine) (facts setup n s S) few;
   }
 
-pub promise : Promise
+pub promise : QueueHolds
 promise setup ring A calls memory = queue setup (length ring) (finalState setup ring calls memory) (at-end setup ring A calls memory .sound)

@@ -1,6 +1,6 @@
 -- Engine and model refuse alike.
 use mathlib.Core.Path.{_≡_, refl, sym, ap, ap₂, _∙_}
-use Rattle.record.specs.Staged.{stagedBy, missingBytes}
+use Rattle.engine_record.specs.Staged.{stagedBy, missingBytes}
 use Rattle.model.specs.State.{isOpen as isOpenM, stagedBy as stagedByM, missingBytes as missingBytesM, countOf}
 use mathlib.Core.List.{List, [], _∷_}
 use mathlib.Core.Bool.{Bool, true, false, cond, _||_, _&&_, not}
@@ -12,11 +12,11 @@ use lib.ListN.{length}
 use borrow.Author.Tests.{lt-ltb, le-ltb, le-leb, lt-leb, eqb-true, eqb-false, not-true}
 use Rattle.word.proofs.Tests.{split, and-true}
 use Rattle.range.specs.Range.{containedIn, overlaps}
-use Rattle.record.specs.declared.Setup.{Setup as Numbers}
-use Rattle.record.specs.declared.Window.{Window as Place}
-use Rattle.record.specs.Slots.{readyBatches, countOf as countIn}
-use Rattle.record.specs.Clients.{isOpen, openWindows, windowRange, prefixRange, overlapsAny, badWindow as badPlace, windowsValid}
-use Rattle.record.proofs.Windows.{placed, shared-tests, shared-first}
+use Rattle.engine_record.specs.declared.Setup.{Setup as Numbers}
+use Rattle.engine_record.specs.declared.Window.{Window as Place}
+use Rattle.engine_record.specs.Slots.{readyBatches, countOf as countIn}
+use Rattle.engine_record.specs.Clients.{isOpen, openWindows, windowRange, prefixRange, overlapsAny, badWindow as badPlace, windowsValid}
+use Rattle.engine_record.proofs.Windows.{placed, shared-tests, shared-first}
 use Rattle.queue.specs.Refusals.{firstRefusal, submitTable}
 use Rattle.model.specs.Windows.{Window, window, overlap, overlapAny}
 use Rattle.model.specs.Calls.{Setup, Call, opens, submit, run, pending, begin, piece, cancel, close}

@@ -9,13 +9,13 @@ use Rattle.word.specs.Word.{words}
 use Rattle.ring.specs.Segment.{segment, wrapOffset}
 use Rattle.ring.proofs.Wrapped.{wrapped-add}
 use Rattle.register.specs.Bank.{resetBank}
-use Rattle.rules.specs.declared.task.Bounds.{Bounds}
+use Rattle.task_check.specs.declared.task.Bounds.{Bounds}
 use Rattle.batch.specs.Batch.{decodeBatch, verdictOf}
-use Rattle.record.specs.declared.Setup.{Setup as Numbers}
-use Rattle.record.specs.declared.EngineRecord.{EngineRecord}
-use Rattle.record.specs.Slots.{sumOver, totalLength}
-use Rattle.record.specs.Queue.{readyBytes, writeOffset, waiting}
-use Rattle.record.proofs.Rules.{valid-facts, sum-waiting, ready-within}
+use Rattle.engine_record.specs.declared.Setup.{Setup as Numbers}
+use Rattle.engine_record.specs.declared.EngineRecord.{EngineRecord}
+use Rattle.engine_record.specs.Slots.{sumOver, totalLength}
+use Rattle.engine_record.specs.Queue.{readyBytes, writeOffset, waiting}
+use Rattle.engine_record.proofs.Rules.{valid-facts, sum-waiting, ready-within}
 use Rattle.queue.proofs.Validity.{few-taken}
 use Rattle.engine.specs.Run.{oldest, boundsOfClient, oldestWords, withoutOldest}
 use Rattle.engine.proofs.Refusals.{RunAllowed, run-allowed}
@@ -31,7 +31,7 @@ use Rattle.claims.proofs.Abstraction.{seenPlaces, places-recounted, see
 use Rattle.claims.proofs.SimulationRelation.{abstraction, seenStaging, Sound, window-at}
 use Rattle.claims.proofs.SimulationSteps.{Simulates}
 
-module _ (setup : Setup) (n : ℕ) (s : State) (S : Sound setup n s) (count : ℕ) (next : s .engine .next ≡ count % 4294967296) (z : number run s ≡ 0) where
+module _ (setup : Setup) (n : ℕ) (s : State) (S : Sound setup n s) (count : ℕ) (next : s .engine .«next_ticket» ≡ count % 4294967296) (z : number run s ≡ 0) where
   allowed : RunAllowed (s .engine) (length (s .ring)) (length (s .memory))
   allowed = run-allowed (s .engine) (length (s .ring)) (length (s .memory)) z
 
@@ -66,7 +66,7 @@ module _ (setup : Setup) (n : ℕ) (s : State) (S : Sound setup n s) (count : �
     long = S .long;
   }
 
-  run-next : done run s .after .engine .next ≡ count % 4294967296
+  run-next : done run s .after .engine .«next_ticket» ≡ count % 4294967296
   unfolding withoutOldest
   run-next = next
 
@@ -84,9 +84,9 @@ module _ (setup : Setup) (n : ℕ) (s : State) (S : Sound setup n s) (count : �
       sum-waiting e v (few-taken e (S .sized)) (λ b. b .length) ∙ ap totalLength (run-waiting e (S .sized) (length (s .ring)) (length (s .memory)) allowed)
       in
       let within = ready-within e v (few-taken e (S .sized)) in
-      ap (λ (x : ℕ). wrapOffset (e .setup .ring) (wrapOffset (e .setup .ring) (e .read + oldest e .length) + x)) rest
-      ∙ wrapped-add (e .setup .ring) (e .read) (oldest e .length) (totalLength (waiting after)) (v .numbers .below) (omega arith)
-      ∙ ap (λ (x : ℕ). wrapOffset (e .setup .ring) (e .read + x)) (sym all)
+      ap (λ (x : ℕ). wrapOffset (e .setup .ring) (wrapOffset (e .setup .ring) (e .«read_offset» + oldest e .length) + x)) rest
+      ∙ wrapped-add (e .setup .ring) (e .«read_offset») (oldest e .length) (totalLength (waiting after)) (v .numbers .below) (omega arith)
+      ∙ ap (λ (x : ℕ). wrapOffset (e .setup .ring) (e .«read_offset» + x)) (sym all)
 
   run-staged : seenStaging (s .ring) (withoutOldest (s .engine)) ≡ seenStaging (s .ring) (s .engine)
   unfolding seenStaging
@@ -96,16 +96,16 @@ module _ (setup : Setup) (n : ℕ) (s : State) (S : Sound setup n s) (count : �
   unfolding withoutOldest
   run-places = places-recounted (s .engine .clients) (oldest (s .engine) .client) _
 
-  abbrev told : Bounds → ResetRule → List ℕ → Answer
-  told b r ws = completed (oldest (s .engine) .client) (oldest (s .engine) .ticket) (completionStatusOf (verdictOf (decodeBatch b (resetBank r) ws)))
+  abbrev reported : Bounds → ResetRule → List ℕ → Answer
+  reported b r ws = completed (oldest (s .engine) .client) (oldest (s .engine) .ticket) (completionStatusOf (verdictOf (decodeBatch b (resetBank r) ws)))
 
   run-like : Simulates setup n (done run s) (runStep (batchSemantics setup) (setup .common) (abstraction count s) (first ∷ rest))
   run-like = (
-    ap (λ (r : ResetRule). told (boundsOfClient (s .engine) (oldest (s .engine) .client)) r (oldestWords (s .engine) (s .ring))) rule
-        ∙ ap₂ (λ (b : Bounds) (ws : List ℕ). told b (setup .reset) ws) bounds read,
+    ap (λ (r : ResetRule). reported (boundsOfClient (s .engine) (oldest (s .engine) .client)) r (oldestWords (s .engine) (s .ring))) rule
+        ∙ ap₂ (λ (b : Bounds) (ws : List ℕ). reported b (setup .reset) ws) bounds read,
     record {
       sound = run-sound;
-      next = run-next;
+      next-ticket = run-next;
       is = rw (run-staged, run-places, bounds, rule, read);
     },
   )

@@ -3,7 +3,7 @@ use mathlib.Core.Path.{_≡_, refl, ap, ap₂, sym, subst, _∙_}
 use mathlib.Core.List.{List, [], _∷_}
 use Prim.Native.Nat.{ℕ}
 use lib.ListN.{length}
-use Rattle.record.proofs.Line.{held}
+use Rattle.engine_record.proofs.Line.{held}
 use Rattle.queue.specs.Refusals.{firstRefusal, setUpTable}
 use Rattle.queue.specs.Calls.{unlessRefused, initialRecord as freshRecord, setUpResult}
 use Rattle.queue.proofs.Refusals.{set-up-allowed}
@@ -27,14 +27,14 @@ use Rattle.claims.proofs.Runs.{run-done}
 module _ (setup : Setup) (n : ℕ) where
   -- a call that is not refused
   all-done : (c : Call) (model : Model) (s : State) (R : Related setup n model s) → number c s ≡ 0 → Simulates setup n (done c s) (effect (batchSemantics setup) setup n c (abstraction (model .accepted) s))
-  all-done (opens w) model s R z = open-done setup n s (R .sound) (model .accepted) (R .next) w z
-  all-done (submit client bytes) model s R z = submit-done setup n s (R .sound) (model .accepted) (R .next) client bytes z
-  all-done run model s R z = run-done setup n s (R .sound) (model .accepted) (R .next) z
-  all-done (begin client total) model s R z = begin-done setup n s (R .sound) (model .accepted) (R .next) client total z
-  all-done (piece client bytes) model s R z = piece-done setup n s (R .sound) (model .accepted) (R .next) client bytes z
-  all-done (cancel client) model s R z = cancel-done setup n s (R .sound) (model .accepted) (R .next) client z
-  all-done (close client) model s R z = close-done setup n s (R .sound) (model .accepted) (R .next) client z
-  all-done (pending client) model s R z = pending-done setup n s (R .sound) (model .accepted) (R .next) client
+  all-done (opens w) model s R z = open-done setup n s (R .sound) (model .accepted) (R .next-ticket) w z
+  all-done (submit client bytes) model s R z = submit-done setup n s (R .sound) (model .accepted) (R .next-ticket) client bytes z
+  all-done run model s R z = run-done setup n s (R .sound) (model .accepted) (R .next-ticket) z
+  all-done (begin client total) model s R z = begin-done setup n s (R .sound) (model .accepted) (R .next-ticket) client total z
+  all-done (piece client bytes) model s R z = piece-done setup n s (R .sound) (model .accepted) (R .next-ticket) client bytes z
+  all-done (cancel client) model s R z = cancel-done setup n s (R .sound) (model .accepted) (R .next-ticket) client z
+  all-done (close client) model s R z = close-done setup n s (R .sound) (model .accepted) (R .next-ticket) client z
+  all-done (pending client) model s R z = pending-done setup n s (R .sound) (model .accepted) (R .next-ticket) client
 
   -- any call
   pub step-simulates : (c : Call) (model : Model) (s : State) → Related setup n model s → Simulates setup n (performCall c s) (step (batchSemantics setup) setup n c model)
@@ -82,7 +82,7 @@ module _ (setup : Setup) (ring : List ℕ) (A : SetUpAccepted setup) where
       numbers = refl;
       long = refl;
     };
-    next = refl;
+    next-ticket = refl;
     is = rw (fresh-waiting (numbersIn setup), none-seen ring (freshRecord (numbersIn setup)) refl);
   }
 

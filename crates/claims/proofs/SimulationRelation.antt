@@ -13,16 +13,16 @@ use Rattle.ring.specs.Segment.{wrapOffset, segment}
 use mathlib.Core.Logic.{⊎-elim}
 use Rattle.ring.proofs.Wrapped.{wrapped-in, wrapped-below}
 use Rattle.ring.proofs.Segment.{length-segment}
-use Rattle.record.proofs.Unfinished.{Unfinished, staged-cases}
-use Rattle.record.specs.declared.Setup.{Setup as Numbers}
-use Rattle.record.specs.declared.EngineRecord.{EngineRecord}
-use Rattle.record.specs.Staged.{noStaged, isIdle, stagedBy, stagedSlots, missingBytes}
-use Rattle.record.specs.Slots.{readyBatches, countOf as countIn}
-use Rattle.record.specs.Clients.{isOpen, clientAt}
-use Rattle.record.specs.Queue.{readySlots, readyBytes, writeOffset, waiting}
-use Rattle.record.specs.Rules.{valid}
-use Rattle.record.proofs.Clients.{closed-past, open-place}
-use Rattle.record.proofs.Rules.{Valid, valid-facts, sum-waiting, length-waiting, ready-within}
+use Rattle.engine_record.proofs.Unfinished.{Unfinished, staged-cases}
+use Rattle.engine_record.specs.declared.Setup.{Setup as Numbers}
+use Rattle.engine_record.specs.declared.EngineRecord.{EngineRecord}
+use Rattle.engine_record.specs.Staged.{noStaged, isIdle, stagedBy, stagedSlots, missingBytes}
+use Rattle.engine_record.specs.Slots.{readyBatches, countOf as countIn}
+use Rattle.engine_record.specs.Clients.{isOpen, clientAt}
+use Rattle.engine_record.specs.Queue.{readySlots, readyBytes, writeOffset, waiting}
+use Rattle.engine_record.specs.Rules.{valid}
+use Rattle.engine_record.proofs.Clients.{closed-past, open-place}
+use Rattle.engine_record.proofs.Rules.{Valid, valid-facts, sum-waiting, length-waiting, ready-within}
 use Rattle.queue.proofs.Validity.{Sized, few-taken}
 use Rattle.model.specs.Calls.{Setup}
 use Rattle.model.specs.State.{Model, free, isTaken, Staging, idle, staging, isIdle as isIdleM, stagedBy as stagedByM, stagedSlots as stagedSlotsM, stagedBytes as stagedBytesM, missingBytes as missingBytesM, totalBytes, countOf, windowOf}
@@ -106,7 +106,7 @@ pub record Sound (setup : Setup) (n : ℕ) (s : State) : Type 0 where
 
 pub record Related (setup : Setup) (n : ℕ) (model : Model) (s : State) : Type 0 where
   pub sound : Sound setup n s
-  pub next : s .engine .next ≡ model .accepted % 4294967296
+  pub next-ticket : s .engine .«next_ticket» ≡ model .accepted % 4294967296
   pub is : model ≡ abstraction (model .accepted) s
 
 -- ---- what both read
@@ -130,10 +130,10 @@ module _ (setup : Setup) (n : ℕ) (s : State) (S : Sound setup n s) where
   pub bytes-count : n ≡ setup .ring → totalBytes (seenWaiting (s .ring) (waiting (s .engine))) ≡ readyBytes (s .engine)
   bytes-count same =
       let ring : s .engine .setup .ring ≡ length (s .ring) = ap (λ (x : Numbers). x .ring) (S .numbers) ∙ omega (arith, S .long) in
-      let first : wrapOffset (length (s .ring)) (s .engine .read + 0) ≡ s .engine .read =
-      rw add-zero (wrapped-in (length (s .ring)) (s .engine .read) (omega (arith, facts .numbers .below)))
+      let first : wrapOffset (length (s .ring)) (s .engine .«read_offset» + 0) ≡ s .engine .«read_offset» =
+      rw add-zero (wrapped-in (length (s .ring)) (s .engine .«read_offset») (omega (arith, facts .numbers .below)))
       in
-      waits-bytes (s .ring) (s .engine .read) 0 (waiting (s .engine)) (omega (arith, facts .numbers .below)) (omega (arith, facts .within)) (rw (first, ← ring) (facts .ends))
+      waits-bytes (s .ring) (s .engine .«read_offset») 0 (waiting (s .engine)) (omega (arith, facts .numbers .below)) (omega (arith, facts .within)) (rw (first, ← ring) (facts .ends))
       ∙ sym (sum-waiting (s .engine) facts (few-taken (s .engine) (S .sized)) (λ b. b .length))
 
   -- the ring holds as many bytes of the staged submission as have come
@@ -141,7 +141,7 @@ module _ (setup : Setup) (n : ℕ) (s : State) (S : Sound setup n s) where
   staged-long same =
       let ring : s .engine .setup .ring ≡ length (s .ring) = ap (λ (x : Numbers). x .ring) (S .numbers) ∙ omega (arith, S .long) in
       let ready = ready-within (s .engine) facts (few-taken (s .engine) (S .sized)) in
-      let below = wrapped-below (s .engine .setup .ring) (s .engine .read + readyBytes (s .engine)) (omega (arith, facts .numbers .below)) in
+      let below = wrapped-below (s .engine .setup .ring) (s .engine .«read_offset» + readyBytes (s .engine)) (omega (arith, facts .numbers .below)) in
       let short : s .engine .staged .received ≤ s .engine .setup .ring =
       ⊎-elim (λ (z : s .engine .staged ≡ noStaged). rw z (omega arith)) (λ (u : (isIdle (s .engine .staged) ≡ false) × Unfinished (s .engine)). omega (arith, u .1 .short, u .1 .room)) (staged-cases (s .engine) (facts .staged))
       in

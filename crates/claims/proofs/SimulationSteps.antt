@@ -8,13 +8,13 @@ use Prim.Native.Nat.{ℕ, zero, suc, _%_}
 use native.Mathlib.Omega.{arith}
 use lib.ListN.{length, set}
 use Rattle.ring.proofs.Copied.{length-copied}
-use Rattle.record.specs.declared.Batch.{Batch as Ready}
-use Rattle.record.specs.Slots.{lowestFree}
-use Rattle.record.specs.Staged.{noStaged}
-use Rattle.record.specs.Rules.{valid}
-use Rattle.record.proofs.Rules.{length-good}
+use Rattle.engine_record.specs.declared.Batch.{Batch as Ready}
+use Rattle.engine_record.specs.Slots.{lowestFree}
+use Rattle.engine_record.specs.Staged.{noStaged}
+use Rattle.engine_record.specs.Rules.{valid}
+use Rattle.engine_record.proofs.Rules.{length-good}
 use Rattle.ring.specs.Segment.{segment}
-use Rattle.record.specs.Queue.{writeOffset}
+use Rattle.engine_record.specs.Queue.{writeOffset}
 use Rattle.queue.specs.Calls.{unlessRefused, withClient, withoutClient, newBatch, withBatch, submitted, withStaged, begun, beginResult, cancelResult}
 use Rattle.queue.proofs.Refusals.{open-allowed, SubmitAllowed, submit-allowed, CloseAllowed, close-allowed}
 use Rattle.queue.proofs.Validity.{open-sized, open-valid, open-waiting, close-sized, close-valid, close-waiting}
@@ -23,7 +23,7 @@ use Rattle.queue.proofs.Preservation.{begin-preserves, cancel-preserves}
 use Rattle.queue.proofs.Room.{submit-lies}
 use Rattle.model.specs.Windows.{Window}
 use Rattle.model.specs.Calls.{Setup, opens, submit, pending, begin, cancel, close, opened, accepted, ready}
-use Rattle.model.specs.State.{Model, free, taken, lowestFree as lowestPlace, idle, staging}
+use Rattle.model.specs.State.{Model, free, taken, lowestFreeId, idle, staging}
 use Rattle.model.specs.Model.{Step, refuseOr, effect}
 use Rattle.claims.specs.ModelProperties.{batchSemantics}
 use Rattle.claims.specs.Engine.{State, CallResult}
@@ -45,7 +45,7 @@ either-alike setup n k k′ model s d t e R h = rw (← e) (go k h)
     go zero h = h refl
     go (suc k) h = (refl, R)
 
-module _ (setup : Setup) (n : ℕ) (s : State) (S : Sound setup n s) (count : ℕ) (next : s .engine .next ≡ count % 4294967296) where
+module _ (setup : Setup) (n : ℕ) (s : State) (S : Sound setup n s) (count : ℕ) (next : s .engine .«next_ticket» ≡ count % 4294967296) where
   -- ---- open
 
   open-sound : (w : Window) → number (opens w) s ≡ 0 → Sound setup n (done (opens w) s .after)
@@ -61,11 +61,11 @@ module _ (setup : Setup) (n : ℕ) (s : State) (S : Sound setup n s) (count : �
   unfolding seenStaging withClient
   open-staged w = refl
 
-  open-next : (w : Window) → done (opens w) s .after .engine .next ≡ count % 4294967296
+  open-next : (w : Window) → done (opens w) s .after .engine .«next_ticket» ≡ count % 4294967296
   unfolding withClient
   open-next w = next
 
-  open-places : (w : Window) → seenPlaces (withClient (s .engine) (given w) .clients) ≡ set (seenPlaces (s .engine .clients)) (lowestPlace (seenPlaces (s .engine .clients))) (taken w)
+  open-places : (w : Window) → seenPlaces (withClient (s .engine) (given w) .clients) ≡ set (seenPlaces (s .engine .clients)) (lowestFreeId (seenPlaces (s .engine .clients))) (taken w)
   unfolding withClient
   open-places w = places-set (s .engine .clients) _ _ ∙ ap (λ (k : ℕ). set (seenPlaces (s .engine .clients)) k (taken w)) (sym (places-lowest (s .engine .clients)))
 
@@ -75,7 +75,7 @@ module _ (setup : Setup) (n : ℕ) (s : State) (S : Sound setup n s) (count : �
     ap opened (sym (places-lowest (s .engine .clients))),
     record {
       sound = open-sound w z;
-      next = open-next w;
+      next-ticket = open-next w;
       is = rw (open-places w, open-waiting (s .engine) (given w) (S .sized), open-staged w);
     },
   )
@@ -112,7 +112,7 @@ module _ (setup : Setup) (n : ℕ) (s : State) (S : Sound setup n s) (count : �
       long = length-copied (s .ring) (writeOffset (s .engine)) bytes (submit-lies (s .engine) (s .ring) client (length bytes) allowed) ∙ S .long;
     }
 
-    submit-next : done (submit client bytes) s .after .engine .next ≡ suc count % 4294967296
+    submit-next : done (submit client bytes) s .after .engine .«next_ticket» ≡ suc count % 4294967296
     unfolding withBatch
     submit-next = rw next (omega arith)
 
@@ -122,7 +122,7 @@ module _ (setup : Setup) (n : ℕ) (s : State) (S : Sound setup n s) (count : �
       ap accepted next,
       record {
         sound = submit-sound;
-        next = submit-next;
+        next-ticket = submit-next;
         is = rw (submit-places, added-held seenBatch (s .engine) (S .sized) (s .ring) (allowed .ring) at client bytes addable, none-seen (copiedIn (s .ring) (writeOffset (s .engine)) bytes) (submitted (s .engine) client (length bytes)) submit-none, next);
       },
     )
@@ -136,7 +136,7 @@ module _ (setup : Setup) (n : ℕ) (s : State) (S : Sound setup n s) (count : �
 
     begin-sound : Sound setup n (done (begin client total) s .after)
     unfolding withStaged
-    begin-sound = record { sized = record { clients = S .sized .clients; slots = S .sized .slots; next = S .sized .next }; ok = begin-ok; numbers = S .numbers; long = S .long }
+    begin-sound = record { sized = record { clients = S .sized .clients; slots = S .sized .slots; next-ticket = S .sized .next-ticket }; ok = begin-ok; numbers = S .numbers; long = S .long }
 
     begin-seen : seenStaging (s .ring) (withStaged (s .engine) (begun (s .engine) client total)) ≡ staging client total []
     unfolding seenStaging withStaged segment
@@ -146,7 +146,7 @@ module _ (setup : Setup) (n : ℕ) (s : State) (S : Sound setup n s) (count : �
 
     pub begin-done : Simulates setup n (done (begin client total) s) (effect (batchSemantics setup) setup n (begin client total) (abstraction count s))
     unfolding effect withStaged
-    begin-done = (refl, record { sound = begin-sound; next = next; is = rw begin-seen })
+    begin-done = (refl, record { sound = begin-sound; next-ticket = next; is = rw begin-seen })
 
   module _ (client : ℕ) (z : number (cancel client) s ≡ 0) where
     cancel-ok : valid (withStaged (s .engine) noStaged) ≡ true
@@ -155,7 +155,7 @@ module _ (setup : Setup) (n : ℕ) (s : State) (S : Sound setup n s) (count : �
 
     cancel-sound : Sound setup n (done (cancel client) s .after)
     unfolding withStaged
-    cancel-sound = record { sized = record { clients = S .sized .clients; slots = S .sized .slots; next = S .sized .next }; ok = cancel-ok; numbers = S .numbers; long = S .long }
+    cancel-sound = record { sized = record { clients = S .sized .clients; slots = S .sized .slots; next-ticket = S .sized .next-ticket }; ok = cancel-ok; numbers = S .numbers; long = S .long }
 
     cancel-seen : seenStaging (s .ring) (withStaged (s .engine) noStaged) ≡ idle
     unfolding withStaged
@@ -163,7 +163,7 @@ module _ (setup : Setup) (n : ℕ) (s : State) (S : Sound setup n s) (count : �
 
     pub cancel-done : Simulates setup n (done (cancel client) s) (effect (batchSemantics setup) setup n (cancel client) (abstraction count s))
     unfolding effect withStaged
-    cancel-done = (refl, record { sound = cancel-sound; next = next; is = rw cancel-seen })
+    cancel-done = (refl, record { sound = cancel-sound; next-ticket = next; is = rw cancel-seen })
 
   -- ---- close
 
@@ -180,7 +180,7 @@ module _ (setup : Setup) (n : ℕ) (s : State) (S : Sound setup n s) (count : �
       long = S .long;
     }
 
-    close-next : done (close client) s .after .engine .next ≡ count % 4294967296
+    close-next : done (close client) s .after .engine .«next_ticket» ≡ count % 4294967296
     unfolding withoutClient
     close-next = next
 
@@ -198,7 +198,7 @@ module _ (setup : Setup) (n : ℕ) (s : State) (S : Sound setup n s) (count : �
       refl,
       record {
         sound = close-sound;
-        next = close-next;
+        next-ticket = close-next;
         is = rw (close-places, close-waiting (s .engine) client, close-staged, window-at setup n s S count client (may .owner));
       },
     )
@@ -207,4 +207,4 @@ module _ (setup : Setup) (n : ℕ) (s : State) (S : Sound setup n s) (count : �
 
   pub pending-done : (client : ℕ) → Simulates setup n (done (pending client) s) (effect (batchSemantics setup) setup n (pending client) (abstraction count s))
   unfolding effect
-  pending-done client = (ap ready (sym (client-count setup n s S client)), record { sound = S; next = next; is = refl })
+  pending-done client = (ap ready (sym (client-count setup n s S client)), record { sound = S; next-ticket = next; is = refl })

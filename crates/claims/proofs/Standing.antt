@@ -18,14 +18,14 @@ use Rattle.register.specs.declared.bank.Bank.{Bank}
 use Rattle.register.specs.declared.bank.WriteResult.{WriteResult}
 use Rattle.register.specs.declared.bank.WriteResult.the-variants.{Written, Refused}
 use Rattle.register.specs.declared.task.Task.{Task}
-use Rattle.rules.specs.declared.fault.Fault.{Fault}
-use Rattle.rules.specs.declared.fault.Fault.the-variants.{ReservedBits, GroupLength}
-use Rattle.rules.specs.declared.task.Bounds.{Bounds}
-use Rattle.rules.specs.declared.task.TaskCheck.{TaskCheck}
-use Rattle.rules.specs.declared.task.TaskCheck.the-variants.{Valid, Invalid}
-use Rattle.rules.specs.Rules.{checkTask}
+use Rattle.task_check.specs.declared.fault.Fault.{Fault}
+use Rattle.task_check.specs.declared.fault.Fault.the-variants.{ReservedBits, GroupLength}
+use Rattle.task_check.specs.declared.task.Bounds.{Bounds}
+use Rattle.task_check.specs.declared.task.TaskCheck.{TaskCheck}
+use Rattle.task_check.specs.declared.task.TaskCheck.the-variants.{Valid, Invalid}
+use Rattle.task_check.specs.Rules.{checkTask}
 use Rattle.batch.specs.declared.verdict.Verdict.the-variants.{Faulty}
-use Rattle.batch.specs.Batch.{DecodedBatch, BatchEnd, finished, faulty, stopWith, consTask, DecoderState, start, inside, reservedBits, badGroupLength, decodeHeader, afterWrite, afterTaskCheck, groupOf, decodeFrom, decodeBatch, verdictOf}
+use Rattle.batch.specs.Batch.{DecodedBatch, BatchEnd, finished, faulty, stopWith, consTask, DecoderState, betweenTasks, inGroup, reservedBits, badGroupLength, decodeHeader, afterWrite, afterTaskCheck, groupOf, decodeFrom, decodeBatch, verdictOf}
 use Rattle.batch.proofs.Readings.{onFrom, onWith}
 use Rattle.batch.proofs.Steps.{faulty-stopped}
 use Rattle.raster.specs.Task.{drawTasks}
@@ -65,12 +65,12 @@ module _ (bounds : Bounds) where
     bank : Bank
     reads : decodeFrom bounds b k position (take count ws) ≡ record { tasks = r .tasks; ending = finished; bank = bank }
     low : Above (k + count) (r .ending)
-    rest : decodeFrom bounds bank (k + count) start (drop count ws) ≡ stopWith (r .bank) (r .ending)
+    rest : decodeFrom bounds bank (k + count) betweenTasks (drop count ws) ≡ stopWith (r .bank) (r .ending)
 
   -- where a group is read, its task may be the faulty one
   abbrev Claim : Bank → ℕ → DecoderState → List ℕ → DecodedBatch → Type 0
-  Claim b k start ws r = Cut b k start 0 ws r
-  Claim b k (inside left offset ends head) ws r = head ≤ k → First head r ⊎ Cut b k (inside left offset ends head) left ws r
+  Claim b k betweenTasks ws r = Cut b k betweenTasks 0 ws r
+  Claim b k (inGroup left offset ends head) ws r = head ≤ k → First head r ⊎ Cut b k (inGroup left offset ends head) left ws r
 
   -- a header follows
   header-cut : (b : Bank) (k h : ℕ) (ws : List ℕ) (position : DecoderState)
@@ -95,7 +95,7 @@ module _ (bounds : Bounds) where
                 ∙ goes-on b k h (length (take (c .count) ws)) (onFrom bounds b k (take (c .count) ws)) e (whole (field 15 2 h) (length ws) _ l (omega (arith, c .enough, long)))
                 ∙ c .reads;
             low = above-less (k + suc (c .count)) (k + 1 + c .count) (after .ending) (omega arith) (c .low);
-            rest = ap (λ (m : ℕ). decodeFrom bounds (c .bank) m start (drop (c .count) ws)) (next-word k (c .count)) ∙ c .rest;
+            rest = ap (λ (m : ℕ). decodeFrom bounds (c .bank) m betweenTasks (drop (c .count) ws)) (next-word k (c .count)) ∙ c .rest;
           }
 
       by : (r l : Bool) → reservedBits h ≡ r → badGroupLength (field 15 2 h) (length ws) ≡ l
@@ -105,14 +105,14 @@ module _ (bounds : Bounds) where
       by false true er el = inl (refl, omega arith)
       by false false er el = ⊎-elim (λ (n : First k after). inl n) (λ (c : Cut b (k + 1) (groupOf k h) (field 15 2 h) ws after). inr (further er el c)) (on (omega arith))
 
-  read-none : (b : Bank) (k : ℕ) → decodeFrom bounds b k start [] ≡ stopWith b finished
+  read-none : (b : Bank) (k : ℕ) → decodeFrom bounds b k betweenTasks [] ≡ stopWith b finished
   unfolding decodeFrom
   read-none b k = refl
 
   -- before a task
-  start-none : (b : Bank) (k : ℕ) (ws : List ℕ) → First k (decodeFrom bounds b k start ws) → Cut b k start 0 ws (decodeFrom bounds b k start ws)
-  start-none b k ws n =
-      let r : DecodedBatch = decodeFrom bounds b k start ws in
+  betweenTasks-none : (b : Bank) (k : ℕ) (ws : List ℕ) → First k (decodeFrom bounds b k betweenTasks ws) → Cut b k betweenTasks 0 ws (decodeFrom bounds b k betweenTasks ws)
+  betweenTasks-none b k ws n =
+      let r : DecodedBatch = decodeFrom bounds b k betweenTasks ws in
       record {
         count = 0;
         enough = omega arith;
@@ -120,55 +120,55 @@ module _ (bounds : Bounds) where
         bank = b;
         reads = read-none b k ∙ ap (λ (ts : List Task). record { tasks = ts; ending = finished; bank = b }) (sym (n .0));
         low = above-less (k + 0) k (r .ending) (omega arith) (n .1);
-        rest = ap (λ (m : ℕ). decodeFrom bounds b m start ws) (add-zero k) ∙ ap (λ (ts : List Task). record { tasks = ts; ending = r .ending; bank = r .bank }) (n .0);
+        rest = ap (λ (m : ℕ). decodeFrom bounds b m betweenTasks ws) (add-zero k) ∙ ap (λ (ts : List Task). record { tasks = ts; ending = r .ending; bank = r .bank }) (n .0);
       }
 
-  start-cut : (b : Bank) (k h : ℕ) (ws : List ℕ) → Claim b (k + 1) (groupOf k h) ws (decodeFrom bounds b (k + 1) (groupOf k h) ws)
-      → Cut b k start 0 (h ∷ ws) (decodeFrom bounds b k start (h ∷ ws))
+  betweenTasks-cut : (b : Bank) (k h : ℕ) (ws : List ℕ) → Claim b (k + 1) (groupOf k h) ws (decodeFrom bounds b (k + 1) (groupOf k h) ws)
+      → Cut b k betweenTasks 0 (h ∷ ws) (decodeFrom bounds b k betweenTasks (h ∷ ws))
   unfolding decodeFrom
-  start-cut b k h ws on =
-      ⊎-elim (start-none b k (h ∷ ws)) (λ (c : Cut b k start 0 (h ∷ ws) (decodeFrom bounds b k start (h ∷ ws))). c)
-      (header-cut b k h ws start (λ xs. refl) on)
+  betweenTasks-cut b k h ws on =
+      ⊎-elim (betweenTasks-none b k (h ∷ ws)) (λ (c : Cut b k betweenTasks 0 (h ∷ ws) (decodeFrom bounds b k betweenTasks (h ∷ ws))). c)
+      (header-cut b k h ws betweenTasks (λ xs. refl) on)
 
   -- in a group
   word-cut : (b : Bank) (k n offset : ℕ) (ends : Bool) (head w : ℕ) (ws : List ℕ)
-      → ((next : Bank) → Claim next (k + 1) (inside n (offset + 4) ends head) ws (decodeFrom bounds next (k + 1) (inside n (offset + 4) ends head) ws))
-      → Claim b k (inside (suc n) offset ends head) (w ∷ ws) (decodeFrom bounds b k (inside (suc n) offset ends head) (w ∷ ws))
+      → ((next : Bank) → Claim next (k + 1) (inGroup n (offset + 4) ends head) ws (decodeFrom bounds next (k + 1) (inGroup n (offset + 4) ends head) ws))
+      → Claim b k (inGroup (suc n) offset ends head) (w ∷ ws) (decodeFrom bounds b k (inGroup (suc n) offset ends head) (w ∷ ws))
   unfolding decodeFrom
   word-cut b k n offset ends head w ws on lower = by (writeRegister b offset w) refl
     where
       by : (x : WriteResult) → writeRegister b offset w ≡ x
-          → First head (afterWrite b k x (onWith bounds k (inside n (offset + 4) ends head) ws))
-          ⊎ Cut b k (inside (suc n) offset ends head) (suc n) (w ∷ ws) (afterWrite b k x (onWith bounds k (inside n (offset + 4) ends head) ws))
+          → First head (afterWrite b k x (onWith bounds k (inGroup n (offset + 4) ends head) ws))
+          ⊎ Cut b k (inGroup (suc n) offset ends head) (suc n) (w ∷ ws) (afterWrite b k x (onWith bounds k (inGroup n (offset + 4) ends head) ws))
       by (Refused f) e = inl (refl, omega arith)
       by (Written next) e =
-          let r = decodeFrom bounds next (k + 1) (inside n (offset + 4) ends head) ws in
+          let r = decodeFrom bounds next (k + 1) (inGroup n (offset + 4) ends head) ws in
           ⊎-elim (λ (z : First head r). inl z)
-          (λ (c : Cut next (k + 1) (inside n (offset + 4) ends head) n ws r). inr (record {
+          (λ (c : Cut next (k + 1) (inGroup n (offset + 4) ends head) n ws r). inr (record {
             count = suc (c .count);
             enough = omega (arith, c .enough);
             within = omega (arith, c .within);
             bank = c .bank;
-            reads = ap (λ (x : WriteResult). afterWrite b k x (onWith bounds k (inside n (offset + 4) ends head) (take (c .count) ws))) e ∙ c .reads;
+            reads = ap (λ (x : WriteResult). afterWrite b k x (onWith bounds k (inGroup n (offset + 4) ends head) (take (c .count) ws))) e ∙ c .reads;
             low = above-less (k + suc (c .count)) (k + 1 + c .count) (r .ending) (omega arith) (c .low);
-            rest = ap (λ (m : ℕ). decodeFrom bounds (c .bank) m start (drop (c .count) ws)) (next-word k (c .count)) ∙ c .rest;
+            rest = ap (λ (m : ℕ). decodeFrom bounds (c .bank) m betweenTasks (drop (c .count) ws)) (next-word k (c .count)) ∙ c .rest;
           }))
           (on next (omega arith))
 
   -- after a group that ends the task
-  ended : (b : Bank) (k offset head : ℕ) (ws : List ℕ) → decodeFrom bounds b k (inside zero offset true head) ws ≡ afterTaskCheck (checkTask bounds (taskOf b)) b head (decodeFrom bounds b k start ws)
+  ended : (b : Bank) (k offset head : ℕ) (ws : List ℕ) → decodeFrom bounds b k (inGroup zero offset true head) ws ≡ afterTaskCheck (checkTask bounds (taskOf b)) b head (decodeFrom bounds b k betweenTasks ws)
   unfolding decodeFrom
   ended b k offset head [] = refl
   ended b k offset head (w ∷ ws) = refl
 
-  judged-cut : (b : Bank) (k offset head : ℕ) (ws : List ℕ) → Cut b k start 0 ws (decodeFrom bounds b k start ws)
-      → Claim b k (inside zero offset true head) ws (decodeFrom bounds b k (inside zero offset true head) ws)
+  judged-cut : (b : Bank) (k offset head : ℕ) (ws : List ℕ) → Cut b k betweenTasks 0 ws (decodeFrom bounds b k betweenTasks ws)
+      → Claim b k (inGroup zero offset true head) ws (decodeFrom bounds b k (inGroup zero offset true head) ws)
   judged-cut b k offset head ws c lower = rw (ended b k offset head ws) (by (checkTask bounds (taskOf b)) refl)
     where
       after : DecodedBatch
-      after = decodeFrom bounds b k start ws
+      after = decodeFrom bounds b k betweenTasks ws
 
-      by : (check : TaskCheck) → checkTask bounds (taskOf b) ≡ check → First head (afterTaskCheck check b head after) ⊎ Cut b k (inside zero offset true head) 0 ws (afterTaskCheck check b head after)
+      by : (check : TaskCheck) → checkTask bounds (taskOf b) ≡ check → First head (afterTaskCheck check b head after) ⊎ Cut b k (inGroup zero offset true head) 0 ws (afterTaskCheck check b head after)
       by Valid e = inr (record {
         count = c .count;
         enough = c .enough;
@@ -176,7 +176,7 @@ module _ (bounds : Bounds) where
         bank = c .bank;
         reads =
             ended b k offset head (take (c .count) ws)
-            ∙ ap (λ (check : TaskCheck). afterTaskCheck check b head (decodeFrom bounds b k start (take (c .count) ws))) e
+            ∙ ap (λ (check : TaskCheck). afterTaskCheck check b head (decodeFrom bounds b k betweenTasks (take (c .count) ws))) e
             ∙ ap (consTask (taskOf b)) (c .reads);
         low = c .low;
         rest = c .rest;
@@ -185,22 +185,22 @@ module _ (bounds : Bounds) where
 
   cut-from : (b : Bank) (k : ℕ) (position : DecoderState) (ws : List ℕ) → Claim b k position ws (decodeFrom bounds b k position ws)
   unfolding decodeFrom
-  cut-from b k start [] = start-none b k [] (refl, tt)
-  cut-from b k start (h ∷ ws) = start-cut b k h ws (cut-from b (k + 1) (groupOf k h) ws)
-  cut-from b k (inside (suc n) offset ends head) [] = λ lower. inl (refl, omega arith)
-  cut-from b k (inside (suc n) offset ends head) (w ∷ ws) = word-cut b k n offset ends head w ws (λ next. cut-from next (k + 1) (inside n (offset + 4) ends head) ws)
-  cut-from b k (inside zero offset false head) [] = λ lower. inl (refl, omega arith)
-  cut-from b k (inside zero offset false head) (h ∷ ws) = λ lower.
+  cut-from b k betweenTasks [] = betweenTasks-none b k [] (refl, tt)
+  cut-from b k betweenTasks (h ∷ ws) = betweenTasks-cut b k h ws (cut-from b (k + 1) (groupOf k h) ws)
+  cut-from b k (inGroup (suc n) offset ends head) [] = λ lower. inl (refl, omega arith)
+  cut-from b k (inGroup (suc n) offset ends head) (w ∷ ws) = word-cut b k n offset ends head w ws (λ next. cut-from next (k + 1) (inGroup n (offset + 4) ends head) ws)
+  cut-from b k (inGroup zero offset false head) [] = λ lower. inl (refl, omega arith)
+  cut-from b k (inGroup zero offset false head) (h ∷ ws) = λ lower.
       let r = decodeHeader b k h (length ws) (onFrom bounds b k ws) in
-      ⊎-elim (λ (n : First k r). inl (n .0, above-less head k (r .ending) lower (n .1))) (λ (c : Cut b k (inside zero offset false head) 0 (h ∷ ws) r). inr c)
-      (header-cut b k h ws (inside zero offset false head) (λ xs. refl) (cut-from b (k + 1) (groupOf k h) ws))
-  cut-from b k (inside zero offset true head) [] = judged-cut b k offset head [] (start-none b k [] (refl, tt))
-  cut-from b k (inside zero offset true head) (h ∷ ws) = judged-cut b k offset head (h ∷ ws) (start-cut b k h ws (cut-from b (k + 1) (groupOf k h) ws))
+      ⊎-elim (λ (n : First k r). inl (n .0, above-less head k (r .ending) lower (n .1))) (λ (c : Cut b k (inGroup zero offset false head) 0 (h ∷ ws) r). inr c)
+      (header-cut b k h ws (inGroup zero offset false head) (λ xs. refl) (cut-from b (k + 1) (groupOf k h) ws))
+  cut-from b k (inGroup zero offset true head) [] = judged-cut b k offset head [] (betweenTasks-none b k [] (refl, tt))
+  cut-from b k (inGroup zero offset true head) (h ∷ ws) = judged-cut b k offset head (h ∷ ws) (betweenTasks-cut b k h ws (cut-from b (k + 1) (groupOf k h) ws))
 
 pub standing-before : (bounds : Bounds) (bank : Bank) (words memory : List ℕ) (tasks : ℕ) (fault : Fault) (offset : ℕ) → verdictOf (decodeBatch bounds bank words) ≡ Faulty tasks fault offset
     → Standing bounds bank words memory tasks fault offset
 standing-before bounds bank words memory tasks fault offset v =
-    let c = cut-from bounds bank 0 start words in
+    let c = cut-from bounds bank 0 betweenTasks words in
     let r = decodeBatch bounds bank words in
     let stopped = faulty-stopped tasks fault offset r v in
     let none : 0 + c .count ≡ c .count = omega arith in
@@ -214,8 +214,8 @@ standing-before bounds bank words memory tasks fault offset v =
           ∙ ap (λ (d : DecodedBatch). drawTasks (d .tasks) memory) (sym (c .reads))
           ∙ sym (batch-tasks bounds bank (take (c .count) words) memory);
       begins =
-          ap (λ (d : DecodedBatch). decodeFrom bounds (d .bank) (c .count) start (drop (c .count) words)) (c .reads)
-          ∙ ap (λ (m : ℕ). decodeFrom bounds (c .bank) m start (drop (c .count) words)) (sym none)
+          ap (λ (d : DecodedBatch). decodeFrom bounds (d .bank) (c .count) betweenTasks (drop (c .count) words)) (c .reads)
+          ∙ ap (λ (m : ℕ). decodeFrom bounds (c .bank) m betweenTasks (drop (c .count) words)) (sym none)
           ∙ c .rest
           ∙ ap (stopWith (r .bank)) (stopped .0);
     }

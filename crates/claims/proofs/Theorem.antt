@@ -11,8 +11,9 @@ use Rattle.model.specs.Model.{step, answers, memories, after, modelAfterAll}
 use Rattle.model.specs.Tenancy.{entered}
 use Rattle.model.specs.Noninterference.{LowEquivalent}
 use Rattle.claims.specs.ModelProperties.{batchSemantics}
-use Rattle.claims.specs.Engine.{performCall, answersOf, memoriesOf, stateAfter, SetUpAccepted, initialState}
-use Rattle.claims.specs.Demand3.{Isolation, enteredState, leftState, Noninterference, Demand3Holds}
+use Rattle.claims.specs.Engine.{State, performCall, answersOf, memoriesOf, stateAfter, SetUpAccepted, initialState}
+use Rattle.model.specs.Machine.{Isolation, enteredState, leftState, Noninterference}
+use Rattle.claims.specs.Demand3.{engineMachine, Demand3Holds}
 use Rattle.claims.proofs.ModelProperties.{of-model}
 use Rattle.claims.proofs.Demand1.{demand1}
 use Rattle.claims.proofs.SimulationRelation.{Related}
@@ -22,7 +23,8 @@ use Rattle.claims.proofs.Cutting.{cutting}
 use Rattle.claims.proofs.Faulted.{stands}
 
 module _ (setup : Setup) (A : SetUpAccepted setup) where
-  separate : (ring : List ℕ) (calls : List Call) (memory : List ℕ) → Isolation setup ring calls memory
+  separate : (ring : List ℕ) (calls : List Call) (memory : List ℕ) →
+      Isolation (batchSemantics setup) setup (length ring) calls memory engineMachine (initialState setup ring memory)
   separate ring calls memory =
       let same = like-model setup ring A calls memory .every-byte in
       let q = of-model setup (length ring) .separate calls memory in
@@ -45,32 +47,39 @@ module _ (setup : Setup) (A : SetUpAccepted setup) where
     abbrev way : BatchSemantics
     way = batchSemantics setup
 
-    entered-related : Related setup n (entered way setup n (initialModel memory) before w) (enteredState setup ring before w memory)
+    abbrev entered-state : State
+    entered-state = enteredState engineMachine before w (initialState setup ring memory)
+
+    abbrev left-state : State
+    left-state = leftState engineMachine before w (initialState setup ring memory) during
+
+    entered-related : Related setup n (entered way setup n (initialModel memory) before w) entered-state
     entered-related = step-simulates setup n (opens w) (modelAfterAll way setup n before memory) (stateAfter before (initialState setup ring memory)) (at-end setup ring A before memory) .1
 
-    left-related : Related setup n (after way setup n during (entered way setup n (initialModel memory) before w)) (leftState setup ring before w during memory)
+    left-related : Related setup n (after way setup n during (entered way setup n (initialModel memory) before w)) left-state
     left-related = calls-simulate setup n during _ _ entered-related .1
 
     answers-before : answersOf (before ++ opens w ∷ []) (initialState setup ring memory) ≡ answers way setup n (before ++ opens w ∷ []) (initialModel memory)
     answers-before = like-model setup ring A (before ++ opens w ∷ []) memory .every-answer
 
-    answers-during : answersOf during (enteredState setup ring before w memory) ≡ answers way setup n during (entered way setup n (initialModel memory) before w)
+    answers-during : answersOf during entered-state ≡ answers way setup n during (entered way setup n (initialModel memory) before w)
     answers-during = calls-simulate setup n during _ _ entered-related .0
 
     throughout : memoriesOf (before ++ opens w ∷ during) (initialState setup ring memory) ≡ memories way setup n (before ++ opens w ∷ during) (initialModel memory)
     throughout = remember setup n (before ++ opens w ∷ during) (initialModel memory) (initialState setup ring memory) (start setup ring A memory)
 
-    closing-told : (later : List Call) → answersOf (close client ∷ later) (leftState setup ring before w during memory) ≡ answers way setup n (close client ∷ later) (after way setup n during (entered way setup n (initialModel memory) before w))
-    closing-told later = calls-simulate setup n (close client ∷ later) _ _ left-related .0
+    closing-answers : (later : List Call) → answersOf (close client ∷ later) left-state ≡ answers way setup n (close client ∷ later) (after way setup n during (entered way setup n (initialModel memory) before w))
+    closing-answers later = calls-simulate setup n (close client ∷ later) _ _ left-related .0
 
-    closing-left : (later : List Call) → memoriesOf (close client ∷ later) (leftState setup ring before w during memory) ≡ memories way setup n (close client ∷ later) (after way setup n during (entered way setup n (initialModel memory) before w))
+    closing-left : (later : List Call) → memoriesOf (close client ∷ later) left-state ≡ memories way setup n (close client ∷ later) (after way setup n during (entered way setup n (initialModel memory) before w))
     closing-left later = remember setup n (close client ∷ later) _ _ left-related
 
-    closing : performCall (close client) (leftState setup ring before w during memory) .answer ≡ step way setup n (close client) (after way setup n during (entered way setup n (initialModel memory) before w)) .answer
+    closing : performCall (close client) left-state .answer ≡ step way setup n (close client) (after way setup n during (entered way setup n (initialModel memory) before w)) .answer
     closing = step-simulates setup n (close client) _ _ left-related .0
 
   noninterference : (client : ℕ) (ring ring′ : List ℕ) (before : List Call) (w : Window) (during during′ : List Call) (memory memory′ : List ℕ) → length ring ≡ length ring′ →
-      LowEquivalent (batchSemantics setup) setup (length ring) client before w during during′ memory memory′ → Noninterference setup ring client ring′ before w during during′ memory memory′
+      LowEquivalent (batchSemantics setup) setup (length ring) client before w during during′ memory memory′ →
+      Noninterference engineMachine client before w during during′ (initialState setup ring memory) (initialState setup ring′ memory′)
   noninterference client ring ring′ before w during during′ memory memory′ long t =
       let q = of-model setup (length ring) .noninterference client before w during during′ memory memory′ t in
       record {
@@ -79,7 +88,7 @@ module _ (setup : Setup) (A : SetUpAccepted setup) where
         throughout = rw (throughout ring client before w during memory, throughout ring′ client before w during′ memory′, ← long) (q .throughout);
         from-closing = λ later z.
             let c = q .from-closing later (sym (closing ring client before w during memory) ∙ z) in (
-              rw (closing-told ring client before w during memory later, closing-told ring′ client before w during′ memory′ later, ← long) (c .0),
+              rw (closing-answers ring client before w during memory later, closing-answers ring′ client before w during′ memory′ later, ← long) (c .0),
               rw (closing-left ring client before w during memory later, closing-left ring′ client before w during′ memory′ later, ← long) (c .1),
             );
       }
@@ -92,6 +101,6 @@ promise setup ring A = record {
   noninterference = λ client ring′. noninterference setup A client ring ring′;
   in-time = in-time setup ring A;
   cutting = cutting setup ring A;
-  harmless = λ call s. demand1 .calls s .harmless call;
+  refused-no-change = λ call s. demand1 .calls s .refused-no-change call;
   stands = stands setup ring A;
 }

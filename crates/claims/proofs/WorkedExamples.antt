@@ -9,7 +9,7 @@ use Rattle.surface.specs.Surface.{span}
 use Rattle.register.specs.Table.{registerKindOf}
 use Rattle.register.specs.Bank.{surfaceAfterWrite, bankAfterWrite, writeRegister}
 use Rattle.register.specs.Task.{surfaceOf, transformOf, alphaOf, sourceOfBank as sourceIn, destinationOf, blendingOf, taskOf}
-use Rattle.rules.specs.Rules.{badSides, badStride, badSource, badOutput, badDestination, badSurface, sizeMismatch, outOfBounds, aliases, outputOverlaps, checkTask}
+use Rattle.task_check.specs.Rules.{badSides, badStride, badSource, badOutput, badDestination, badSurface, sizeMismatch, outOfBounds, aliases, outputOverlaps, checkTask}
 use Rattle.batch.specs.Batch.{decodeFrom}
 use Rattle.claims.specs.WorkedExamples.{actual, expected, WorkedExamples}
 

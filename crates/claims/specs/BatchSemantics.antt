@@ -4,7 +4,7 @@ use Prim.Native.Nat.{ℕ}
 use Rattle.word.specs.Word.{words}
 use Rattle.range.specs.Range.{rangeOf}
 use Rattle.register.specs.declared.bank.Bank.{Bank}
-use Rattle.rules.specs.declared.task.Bounds.{Bounds}
+use Rattle.task_check.specs.declared.task.Bounds.{Bounds}
 use Rattle.batch.specs.declared.verdict.Verdict.{Verdict}
 use Rattle.batch.specs.Batch.{decodeBatch, verdictOf, statusWordOf, faultNumberOf, faultOffsetOf}
 use Rattle.raster.specs.Batch.{drawBatch}
@@ -14,7 +14,7 @@ use Rattle.model.specs.BatchSemantics.{BatchSemantics}
 
 -- what a client may touch: its window, and the first `common` bytes of memory
 abbrev pub boundsOf : Window → ℕ → Bounds
-boundsOf w common = record { window = rangeOf (w .start) (w .length); common = common }
+boundsOf w common = record { window = rangeOf (w .start) (w .length); «common_length» = common }
 
 -- status, fault and offset of a verdict
 abbrev pub completionStatusOf : Verdict → Numbers

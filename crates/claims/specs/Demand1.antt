@@ -6,9 +6,9 @@ use mathlib.Core.List.{List, [], _∷_}
 use Prim.Native.Nat.{ℕ, _+_, _*_}
 use lib.ListN.{length}
 use lib.Dec.{ltb}
-use Rattle.record.specs.declared.Setup.{Setup}
-use Rattle.rules.specs.declared.fault.Fault.{Fault}
-use Rattle.rules.specs.Faults.{faultNumber, faultStatus}
+use Rattle.engine_record.specs.declared.Setup.{Setup}
+use Rattle.task_check.specs.declared.fault.Fault.{Fault}
+use Rattle.task_check.specs.Faults.{faultNumber, faultStatus}
 use Rattle.register.specs.declared.task.Task.{Task}
 use Rattle.batch.specs.declared.verdict.Verdict.the-variants.{Faulty}
 use Rattle.batch.specs.Batch.{decodeBatch, tasksDrawn}
@@ -20,6 +20,7 @@ use Rattle.queue.specs.Refusals.{RefusalRow, _when_, firstRefusal, setUpTable, 
 use Rattle.queue.specs.Calls.{setUpResult}
 use Rattle.engine.specs.Run.{runTable, oldest, boundsOfClient, oldestWords, resetOf, oldestVerdict, withoutOldest}
 use Rattle.model.specs.Calls.{Call, opens, submit, run, pending, begin, piece, cancel, close, completed, refused}
+use Rattle.model.specs.Machine.{RefusalNoOp}
 use Rattle.claims.specs.Engine.{State, mkState, performCall}
 
 -- the rows of the paper's table that a call can be refused by, in its order
@@ -44,17 +45,13 @@ encoderTable form size =
 abbrev pub standing : State → List Task
 standing s = tasksDrawn (decodeBatch (boundsOfClient (s .engine) (oldest (s .engine) .client)) (resetOf (s .engine)) (oldestWords (s .engine) (s .ring)))
 
--- a refused call leaves record, ring and memory as they were, whatever they are
-abbrev pub RefusalNoOp : Call → State → Type 0
-RefusalNoOp call s = (number : ℕ) → performCall call s .answer ≡ refused number → performCall call s .after ≡ s
-
 -- the eight calls on a record
 pub record OfCalls (s : State) : Type 0 where
   -- "A refusal comes exactly under its listed condition, in the listed order": it is the first row whose condition holds; without one there is none
-  pub listed : (call : Call) (n : ℕ) → ¬ (n ≡ 0) → firstRefusal (refusalTableOf call s) ≡ n → performCall call s .answer ≡ refused n
-  pub only : (call : Call) (n : ℕ) → performCall call s .answer ≡ refused n → (firstRefusal (refusalTableOf call s) ≡ n) × ¬ (n ≡ 0)
-  -- "and changes nothing"
-  pub harmless : (call : Call) → RefusalNoOp call s
+  pub refused-if : (call : Call) (n : ℕ) → ¬ (n ≡ 0) → firstRefusal (refusalTableOf call s) ≡ n → performCall call s .answer ≡ refused n
+  pub refused-only-if : (call : Call) (n : ℕ) → performCall call s .answer ≡ refused n → (firstRefusal (refusalTableOf call s) ≡ n) × ¬ (n ≡ 0)
+  -- "and changes nothing": a refused call leaves record, ring and memory as they were, whatever they are
+  pub refused-no-change : (call : Call) → RefusalNoOp (performCall call s .answer) s (performCall call s .after)
   -- a faulty batch "leaves with fault number, place, status", and "tasks before the faulty one stand, and the status word carries their number in the upper
   -- half, finish bit clear" (02, 5): a run that is not refused, and finds a fault. Memory after is memory with these tasks drawn, and they are that many
   pub faulty : (tasks : ℕ) (fault : Fault) (place : ℕ) → firstRefusal (refusalTableOf run s) ≡ 0 → oldestVerdict (s .engine) (s .ring) ≡ Faulty tasks fault place →
@@ -67,8 +64,8 @@ pub record OfCalls (s : State) : Type 0 where
 
 -- the encoder; "and changes nothing" is said of the buffer that is lent
 pub record OfEncoder (form : Form) (buffer : List ℕ) : Type 0 where
-  pub listed : encoderNumber (answerOf form (length buffer)) ≡ firstRefusal (encoderTable form (length buffer))
-  pub harmless : ¬ (encoderNumber (answerOf form (length buffer)) ≡ 0) → bufferAfter form buffer ≡ buffer
+  pub by-table : encoderNumber (answerOf form (length buffer)) ≡ firstRefusal (encoderTable form (length buffer))
+  pub refused-no-change : ¬ (encoderNumber (answerOf form (length buffer)) ≡ 0) → bufferAfter form buffer ≡ buffer
 
 pub record Demand1 : Type 0 where
   -- set up's refusal, 0 for none, is by its table; it is lent nothing

@@ -6,10 +6,10 @@ use mathlib.Core.List.{List}
 use Prim.Native.Nat.{ℕ, _+_, _*_, _<_, _≤_}
 use lib.ListN.{length, take, drop}
 use Rattle.register.specs.declared.bank.Bank.{Bank}
-use Rattle.rules.specs.declared.fault.Fault.{Fault}
-use Rattle.rules.specs.declared.task.Bounds.{Bounds}
+use Rattle.task_check.specs.declared.fault.Fault.{Fault}
+use Rattle.task_check.specs.declared.task.Bounds.{Bounds}
 use Rattle.batch.specs.declared.verdict.Verdict.the-variants.{Faultless, Faulty}
-use Rattle.batch.specs.Batch.{faulty, start, stopWith, decodeFrom, decodeBatch, verdictOf, tasksDrawn}
+use Rattle.batch.specs.Batch.{faulty, betweenTasks, stopWith, decodeFrom, decodeBatch, verdictOf, tasksDrawn}
 use Rattle.batch.specs.Marks.{taskEndCount}
 use Rattle.encoder.specs.declared.Answer.the-variants.{Written}
 use Rattle.encoder.specs.Forms.{Form, formSize}
@@ -35,7 +35,7 @@ pub record Standing (bounds : Bounds) (bank : Bank) (words memory : List ℕ) (t
   pub faultless : verdictOf (decodeBatch bounds bank (take before words)) ≡ Faultless tasks
   pub same : drawBatch bounds bank words memory ≡ drawBatch bounds bank (take before words) memory
   -- read on from there, with the registers as those words left them: no task is finished before the fault
-  pub begins : decodeFrom bounds (decodeBatch bounds bank (take before words) .bank) before start (drop before words)
+  pub begins : decodeFrom bounds (decodeBatch bounds bank (take before words) .bank) before betweenTasks (drop before words)
       ≡ stopWith (decodeBatch bounds bank words .bank) (faulty fault offset)
 
 -- what holds of any batch of these words, read from any bank on, within any bounds, drawn in any memory

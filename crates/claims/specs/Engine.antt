@@ -4,8 +4,8 @@ use mathlib.Core.Path.{_≡_}
 use mathlib.Core.List.{List, [], _∷_}
 use Prim.Native.Nat.{ℕ, zero, suc}
 use lib.ListN.{length}
-use Rattle.record.specs.declared.EngineRecord.{EngineRecord}
-use Rattle.queue.specs.declared.Answer.{Answer as Told}
+use Rattle.engine_record.specs.declared.EngineRecord.{EngineRecord}
+use Rattle.queue.specs.declared.Answer.{Answer as QueueAnswer}
 use Rattle.queue.specs.declared.Answer.the-variants.{Refused, Done, Opened, Accepted, Ready, Missing}
 use Rattle.queue.specs.declared.Reply.{Reply}
 use Rattle.queue.specs.Answers.{refusalNumberOf, valueOf}
@@ -39,14 +39,21 @@ answerOrRefusal (suc n) answer = refused (suc n)
 abbrev pub completion : CompletionValues → Answer
 completion v = completed (v .client) (v .ticket) (record { status = v .status; fault = v .fault; offset = v .offset })
 
--- 02, 6: "A piece answers the bytes still to come, the last its ticket."
-abbrev pub pieceTold : Told → Answer
-pieceTold (Accepted ticket) = accepted ticket
-pieceTold (Missing bytes) = missing bytes
-pieceTold (Opened client) = opened client
-pieceTold (Ready count) = ready count
-pieceTold Done = done
-pieceTold (Refused number) = refused number
+-- The model's answer for the queue's, used of a piece. 02, 6: "A piece answers the bytes still to come, the last its ticket."
+abbrev pub modelAnswerOf : QueueAnswer → Answer
+modelAnswerOf (Accepted ticket) = accepted ticket
+modelAnswerOf (Missing bytes) = missing bytes
+modelAnswerOf (Opened client) = opened client
+modelAnswerOf (Ready count) = ready count
+modelAnswerOf Done = done
+modelAnswerOf (Refused number) = refused number
+
+-- a run that gave this result and left this memory (01, "Engine, desks, queue": run)
+abbrev pub runCall : State → RunResult → (memory : List ℕ) → CallResult
+runCall s r memory = record {
+  answer = answerOrRefusal (refusalOf (r .outcome)) (completion (valuesOf (r .outcome)));
+  after = mkState (r .engine) (s .ring) memory;
+}
 
 unfoldable pub performCall : Call → State → CallResult
 performCall (opens w) s =
@@ -58,14 +65,9 @@ performCall (submit client bytes) s =
       answer = answerOrRefusal (refusalNumberOf (r .answer)) (accepted (valueOf (r .answer)));
       after = mkState (r .engine) (submitRing (s .engine) (s .ring) client bytes) (s .memory);
     }
-performCall run s =
-    let r : RunResult = runResult (s .engine) (s .ring) (s .memory) in
-    record {
-      answer = answerOrRefusal (refusalOf (r .outcome)) (completion (valuesOf (r .outcome)));
-      after = mkState (r .engine) (s .ring) (runMemory (s .engine) (s .ring) (s .memory));
-    }
+performCall run s = runCall s (runResult (s .engine) (s .ring) (s .memory)) (runMemory (s .engine) (s .ring) (s .memory))
 performCall (pending client) s =
-    let a : Told = pendingAnswer (s .engine) client in
+    let a : QueueAnswer = pendingAnswer (s .engine) client in
     record { answer = answerOrRefusal (refusalNumberOf a) (ready (valueOf a)); after = s }
 performCall (begin client total) s =
     let r : Reply = beginResult (s .engine) (length (s .ring)) client total in
@@ -73,7 +75,7 @@ performCall (begin client total) s =
 performCall (piece client bytes) s =
     let r : Reply = pieceResult (s .engine) (s .ring) client bytes in
     record {
-      answer = answerOrRefusal (refusalNumberOf (r .answer)) (pieceTold (r .answer));
+      answer = answerOrRefusal (refusalNumberOf (r .answer)) (modelAnswerOf (r .answer));
       after = mkState (r .engine) (pieceRing (s .engine) (s .ring) client bytes) (s .memory);
     }
 performCall (cancel client) s =

@@ -2,9 +2,11 @@
 pub mod BatchSemantics
 pub mod ModelProperties
 pub mod Engine
+pub mod Ring
 pub mod Demand1
 pub mod Demand2
 pub mod Demand3
 pub mod Queue
+pub mod EitherEngine
 pub mod Order
 pub mod WorkedExamples

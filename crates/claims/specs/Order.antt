@@ -1,6 +1,6 @@
 -- Order between clients (02, 9: "Order between desks"), whole: of the model at the real definitions of reading, judging and drawing, and of the engine
 -- itself. The words are those of crate model, specs/Order (`Reordered`, `executions`, `submissions`, `AllRun`, `verdictsOf`) and specs/Properties (the statements of the model).
--- proofs/Order.antt proves `Promise`; no premise is left over but that set up was accepted.
+-- proofs/Order.antt proves `OrderHolds`. One hypothesis: set up was accepted.
 use mathlib.Core.Path.{_≡_}
 use mathlib.Core.List.{List}
 use Prim.Native.Nat.{ℕ}
@@ -45,5 +45,5 @@ pub record Order (setup : Setup) (ring : List ℕ) : Type 0 where
   pub engine-submissions : (calls calls′ : List Call) (memory : List ℕ) → EngineSubmissions setup ring calls calls′ memory
 
 -- The promise.
-abbrev pub Promise : Type 0
-Promise = (setup : Setup) (ring : List ℕ) → SetUpAccepted setup → Order setup ring
+abbrev pub OrderHolds : Type 0
+OrderHolds = (setup : Setup) (ring : List ℕ) → SetUpAccepted setup → Order setup ring

@@ -1,5 +1,5 @@
 -- The queue (01, "Engine, desks, queue"; 02, 6), of the engine after any list of calls from an accepted set up: where a batch is put, whole or by
--- pieces, which one run takes, and that the others wait on with their bytes. proofs/Queue.antt proves `Promise`, and
+-- pieces, which one run takes, and that the others wait on with their bytes. proofs/Queue.antt proves `QueueHolds`, and
 -- proofs/ClosedPlaces.antt `ClosedPlacesFree`.
 use mathlib.Core.Path.{_≡_}
 use mathlib.Core.Bool.{true, false}
@@ -9,14 +9,14 @@ use Prim.Native.Nat.{ℕ, _+_, _-_, _≤_, _<_}
 use lib.ListN.{length}
 use Rattle.word.specs.Word.{words}
 use Rattle.ring.specs.Segment.{segment, wrapOffset}
-use Rattle.record.specs.declared.Batch.{Batch}
-use Rattle.record.specs.declared.Client.{Client}
-use Rattle.record.specs.declared.EngineRecord.{EngineRecord}
-use Rattle.record.specs.Slots.{totalLength}
-use Rattle.record.specs.Staged.{noStaged}
-use Rattle.record.specs.Clients.{clientAt, isOpen, lowestClosed}
-use Rattle.record.specs.Queue.{freeBytes, writeOffset, waiting}
-use Rattle.record.specs.Rules.{valid}
+use Rattle.engine_record.specs.declared.Batch.{Batch}
+use Rattle.engine_record.specs.declared.Client.{Client}
+use Rattle.engine_record.specs.declared.EngineRecord.{EngineRecord}
+use Rattle.engine_record.specs.Slots.{totalLength}
+use Rattle.engine_record.specs.Staged.{noStaged}
+use Rattle.engine_record.specs.Clients.{clientAt, isOpen, lowestClosed}
+use Rattle.engine_record.specs.Queue.{freeBytes, writeOffset, waiting}
+use Rattle.engine_record.specs.Rules.{valid}
 use Rattle.queue.specs.Refusals.{firstRefusal}
 use Rattle.queue.specs.Calls.{newBatch, begun, more, isLast}
 use Rattle.engine.specs.Run.{oldest, oldestWords}
@@ -66,13 +66,13 @@ pub record Finished (bytes : List ℕ) (s after : State) : Type 0 where
 pub record Cancelled (s after : State) : Type 0 where
   pub none : after .engine .staged ≡ noStaged
   pub waits : waiting (after .engine) ≡ waiting (s .engine)
-  pub read : after .engine .read ≡ s .engine .read
+  pub read-offset : after .engine .«read_offset» ≡ s .engine .«read_offset»
   pub ring : after .ring ≡ s .ring
 
 -- before and after a run that is not refused: it took the first that waited, which lay at the read offset; the others wait on, with their bytes
 pub record Taken (s after : State) : Type 0 where
   pub first : waiting (s .engine) ≡ oldest (s .engine) ∷ waiting (after .engine)
-  pub at-read : oldest (s .engine) .offset ≡ s .engine .read
+  pub at-read : oldest (s .engine) .offset ≡ s .engine .«read_offset»
   pub whole : oldestWords (s .engine) (s .ring) ≡ words (bytesIn (s .ring) (oldest (s .engine)))
   pub kept : contents (s .ring) (waiting (s .engine)) ≡ bytesIn (s .ring) (oldest (s .engine)) ∷ contents (after .ring) (waiting (after .engine))
   -- 02, 6: "Runs go on meanwhile": the open hand-over lies where it lay, with its bytes
@@ -83,8 +83,8 @@ pub record Taken (s after : State) : Type 0 where
 pub record SameQueue (s after : State) : Type 0 where
   pub setup : after .engine .setup ≡ s .engine .setup
   pub slots : after .engine .slots ≡ s .engine .slots
-  pub read : after .engine .read ≡ s .engine .read
-  pub next : after .engine .next ≡ s .engine .next
+  pub read-offset : after .engine .«read_offset» ≡ s .engine .«read_offset»
+  pub next-ticket : after .engine .«next_ticket» ≡ s .engine .«next_ticket»
   pub staged : after .engine .staged ≡ s .engine .staged
 
 -- before and after an accepted opening: it takes "the lowest free id" (02, 11), and all else is as it was
@@ -125,15 +125,15 @@ withClients engine clients = record {
   setup = engine .setup;
   clients = clients;
   slots = engine .slots;
-  read = engine .read;
-  next = engine .next;
+  «read_offset» = engine .«read_offset»;
+  «next_ticket» = engine .«next_ticket»;
   staged = engine .staged;
 }
 
 -- what closed places hold does not matter: of any valid record, whatever calls made it or none, with any other closed clients in any of its closed places, all
 -- calls answer the same and leave the same memory. Four clients, eight slots and a ticket of 32 bits are what a record's type says
 abbrev pub ClosedPlacesFree : Type 0
-ClosedPlacesFree = (s : State) → valid (s .engine) ≡ true → length (s .engine .clients) ≡ 4 → length (s .engine .slots) ≡ 8 → s .engine .next < 4294967296 →
+ClosedPlacesFree = (s : State) → valid (s .engine) ≡ true → length (s .engine .clients) ≡ 4 → length (s .engine .slots) ≡ 8 → s .engine .«next_ticket» < 4294967296 →
     (clients : List Client) → SameButClosed (s .engine .clients) clients → (calls : List Call) →
     let other : State = mkState (withClients (s .engine) clients) (s .ring) (s .memory) in
     (answersOf calls other ≡ answersOf calls s) × (memoriesOf calls other ≡ memoriesOf calls s)
@@ -150,7 +150,7 @@ pub record Queue (s : State) : Type 0 where
   -- "Submit copies the batch into the ring after the newest one (at the read offset if none is ready)"
   pub after-newest : (batches : List Batch) (newest : Batch) → waiting (s .engine) ≡ batches ++ newest ∷ [] →
       writeOffset (s .engine) ≡ wrapOffset (s .engine .setup .ring) (newest .offset + newest .length)
-  pub none-ready : waiting (s .engine) ≡ [] → writeOffset (s .engine) ≡ s .engine .read
+  pub none-ready : waiting (s .engine) ≡ [] → writeOffset (s .engine) ≡ s .engine .«read_offset»
   pub submitted : (client : ℕ) (bytes : List ℕ) → firstRefusal (refusalTableOf (submit client bytes) s) ≡ 0 →
       Submitted client bytes s (performCall (submit client bytes) s .after)
   -- 02, 6: "begin a batch with its total length and then hand over pieces of any length, zero too"; "it can be cancelled"
@@ -165,5 +165,5 @@ pub record Queue (s : State) : Type 0 where
   -- "free ring bytes are the ring less the waiting lengths", the staged total among them (02, 6)
   pub free : freeBytes (s .engine) ≡ s .engine .setup .ring - (totalLength (waiting (s .engine)) + s .engine .staged .total)
 
-abbrev pub Promise : Type 0
-Promise = (setup : Setup) (ring : List ℕ) → SetUpAccepted setup → (calls : List Call) (memory : List ℕ) → Queue (finalState setup ring calls memory)
+abbrev pub QueueHolds : Type 0
+QueueHolds = (setup : Setup) (ring : List ℕ) → SetUpAccepted setup → (calls : List Call) (memory : List ℕ) → Queue (finalState setup ring calls memory)

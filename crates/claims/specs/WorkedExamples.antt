@@ -24,8 +24,8 @@ use Rattle.transform.specs.declared.Point.{Point}
 use Rattle.transform.specs.Transform.{rotatedSize, sourcePixel}
 use Rattle.surface.specs.Surface.{span}
 use Rattle.register.specs.Bank.{resetBank}
-use Rattle.rules.specs.declared.task.Bounds.{Bounds}
-use Rattle.batch.specs.Batch.{DecoderState, start, inside, groupOf, decodeBatch, verdictOf, statusWordOf}
+use Rattle.task_check.specs.declared.task.Bounds.{Bounds}
+use Rattle.batch.specs.Batch.{DecoderState, betweenTasks, inGroup, groupOf, decodeBatch, verdictOf, statusWordOf}
 
 -- a row: what is computed, and what the paper says
 infix 70 _gives_
@@ -44,12 +44,12 @@ expected ((c gives s) ∷ rows) = s ∷ expected rows
 
 -- a header's offset, its length in bytes, and 1 if it ends the task
 abbrev pub group : DecoderState → List ℕ
-group start = []
-group (inside left offset ends head) = offset ∷ 4 * left ∷ cond ends 1 0 ∷ []
+group betweenTasks = []
+group (inGroup left offset ends head) = offset ∷ 4 * left ∷ cond ends 1 0 ∷ []
 
 -- a run's first byte and its last
-abbrev pub ends : Range → List ℕ
-ends r = r .start ∷ (r .end - 1) ∷ []
+abbrev pub firstAndLast : Range → List ℕ
+firstAndLast r = r .start ∷ (r .end - 1) ∷ []
 
 -- n bytes that count up
 abbrev pub counting : (from n : ℕ) → List ℕ
@@ -64,8 +64,8 @@ abbrev pub shade : Colour → List ℕ
 shade c = c .red ∷ c .alpha ∷ []
 
 -- a row of two pixels turned by a quarter, first flipped or not: the size of what comes out, and the pixels down its first column
-abbrev pub turned : (flipped : Bool) → (p q : ℕ) → List ℕ
-turned flipped p q =
+abbrev pub rotatedRow : (flipped : Bool) → (p q : ℕ) → List ℕ
+rotatedRow flipped p q =
     let size : Size = record { width = 2; height = 1 } in
     let setting : Transform = record { flip = record { horizontal = flipped; vertical = false }; rotation = Rotate90 } in
     let out : Size = rotatedSize Rotate90 size in
@@ -84,7 +84,7 @@ task address =
 
 -- of the first client of 01's replay program
 abbrev pub bounds : Bounds
-bounds = record { window = record { start = 16384; end = 28672 }; common = 16384 }
+bounds = record { window = record { start = 16384; end = 28672 }; «common_length» = 16384 }
 
 -- ---- the table; p and q are any two pixels
 
@@ -97,7 +97,7 @@ examples p q =
     -- "R1 ring 128, offset 120, length 24: bytes 120 to 127, 0 to 15."
     ∷ segment (counting 0 128) 120 24 gives (counting 120 8 ++ counting 0 16)
     -- "S1 span of 4 by 3 ARGB8888 at 16, stride 24: 16 to 79."
-    ∷ ends (span (record { address = 16; stride = 24; width = 4; height = 3; format = Argb8888 })) gives (16 ∷ 79 ∷ [])
+    ∷ firstAndLast (span (record { address = 16; stride = 24; width = 4; height = 3; format = Argb8888 })) gives (16 ∷ 79 ∷ [])
     -- "B1 SRC_OVER, s 200, sa 128, d 100, da 255: 250, alpha 255."
     ∷ shade (blended (blendModeFactors SrcOver) (grey 200 128) (grey 100 255)) gives (250 ∷ 255 ∷ [])
     -- "B2 the same under NONE: 150, alpha 191."
@@ -109,9 +109,9 @@ examples p q =
     -- "P1 565 word 0x1234: 16, 69, 165, and back."
     ∷ (let c : Colour = unpacked (layoutOf Rgb565) 0x1234 in c .red ∷ c .green ∷ c .blue ∷ packed (layoutOf Rgb565) c ∷ []) gives (16 ∷ 69 ∷ 165 ∷ 0x1234 ∷ [])
     -- "F1 row p q, turn 1: column p, q."
-    ∷ turned false p q gives (1 ∷ 2 ∷ p ∷ q ∷ [])
+    ∷ rotatedRow false p q gives (1 ∷ 2 ∷ p ∷ q ∷ [])
     -- "F2 with H flip: q, p."
-    ∷ turned true p q gives (1 ∷ 2 ∷ q ∷ p ∷ [])
+    ∷ rotatedRow true p q gives (1 ∷ 2 ∷ q ∷ p ∷ [])
     -- "T1 three tasks: 0x00030001."
     ∷ (statusWordOf (verdictOf (decodeBatch bounds (resetBank Unblended) (task 16384 ++ task 16384 ++ task 16384))) ∷ []) gives (0x00030001 ∷ [])
     ∷ []

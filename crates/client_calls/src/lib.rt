@@ -15,11 +15,11 @@ pub fn set_up(bytes: &mut [u8], ring: usize, memory: usize, common: usize, reset
 }
 
 // Opens a client with a window.
-pub fn open(bytes: &mut [u8], start: u32, length: u32, client: &mut u32) -> u32
-    ensures { λ r. ⌜ Opens (now (bytes .entry)) (record { start = start; length = length }) r (now (client .exit)) (now (bytes .exit)) ⌝ }
+pub fn open(bytes: &mut [u8], start: u32, size: u32, client: &mut u32) -> u32
+    ensures { λ r. ⌜ Opens (now (bytes .entry)) (record { start = start; length = size }) r (now (client .exit)) (now (bytes .exit)) ⌝ }
 {
     let engine = record_decoder::decode(bytes);
-    let reply = clients::open(engine, start, length);
+    let reply = clients::open(engine, start, size);
     results::write_value(bytes, reply, client)
 }
 

@@ -2,18 +2,18 @@
 ghost use mathlib.Core.Path.{_≡_};
 ghost use Prim.Native.Nat.{_<_};
 ghost use lib.ListN.{length, getD};
-ghost use Rattle.record.specs.Clients.{noClient, windowRange, lowestClosed};
+ghost use Rattle.engine_record.specs.Clients.{noClient, windowRange, lowestClosed};
 ghost use Rattle.queue.specs.Refusals.{firstRefusal, setUpTable, openTable, closeTable, pendingTable};
 ghost use Rattle.queue.specs.Calls.{initialRecord, setUpResult, withClient, openResult, withoutClient, pendingAnswer};
+use engine_record::Client;
+use engine_record::EngineRecord;
+use engine_record::Setup;
+use engine_record::Slot;
+use engine_record::SlotState;
+use engine_record::Window;
 use queue::Answer;
 use queue::Reply;
 use range::Range;
-use record::Client;
-use record::EngineRecord;
-use record::Setup;
-use record::Slot;
-use record::SlotState;
-use record::Window;
 use reset::ResetRule;
 
 // A place that is not open.
@@ -43,17 +43,17 @@ fn fresh_record(setup: Setup) -> EngineRecord
         setup: setup,
         clients: clients,
         slots: slots,
-        read: 0,
-        next: 0,
-        staged: record::no_staged(),
+        read_offset: 0,
+        next_ticket: 0,
+        staged: engine_record::no_staged(),
     }
 }
 
 fn set_up_refusal(setup: Setup) -> u32
     ensures { λ r. ⌜ r ≡ firstRefusal (setUpTable setup) ⌝ }
 {
-    let no2 = queue::first_refusal(record::bad_memory(setup), 2, 0);
-    queue::first_refusal(record::bad_ring(setup), 1, no2)
+    let no2 = queue::first_refusal(engine_record::bad_memory(setup), 2, 0);
+    queue::first_refusal(engine_record::bad_ring(setup), 1, no2)
 }
 
 // Set up with the lengths of ring, memory and common, and the reset rule.
@@ -88,13 +88,13 @@ pub fn set_up(ring: usize, memory: usize, common: usize, reset: ResetRule) -> Re
 fn open_refusal(engine: EngineRecord, w: Window) -> u32
     ensures { λ r. ⌜ r ≡ firstRefusal (openTable engine w) ⌝ }
 {
-    if !record::is_valid(engine) {
+    if !validity::is_valid(engine) {
         return 11;
     }
     let setup = engine.setup;
     let clients = engine.clients;
-    let id = record::lowest_closed(clients);
-    let bad = record::bad_window(setup, clients, 0, w);
+    let id = windows::lowest_closed(clients);
+    let bad = windows::bad_window(setup, clients, 0, w);
     queue::first_refusal(4 <= id, 3, queue::first_refusal(bad, 4, 0))
 }
 
@@ -115,12 +115,12 @@ fn with_client(engine: EngineRecord, id: usize, w: Window) -> EngineRecord
 }
 
 // Opens a client with a window.
-pub fn open(engine: EngineRecord, start: u32, length: u32) -> Reply
-    ensures { λ r. ⌜ r ≡ openResult engine (record { start = start; length = length }) ⌝ }
+pub fn open(engine: EngineRecord, start: u32, size: u32) -> Reply
+    ensures { λ r. ⌜ r ≡ openResult engine (record { start = start; length = size }) ⌝ }
 {
     let w = Window {
         start: start,
-        length: length,
+        length: size,
     };
     let number = open_refusal(engine, w);
     if number != 0 {
@@ -130,7 +130,7 @@ pub fn open(engine: EngineRecord, start: u32, length: u32) -> Reply
         };
     }
     let clients = engine.clients;
-    let id = record::lowest_closed(clients);
+    let id = windows::lowest_closed(clients);
     Reply {
         answer: Answer::Opened(id as u32),
         engine: with_client(engine, id, w),
@@ -144,12 +144,12 @@ pub fn close_refusal(engine: EngineRecord, given: usize, client: u32) -> u32
     let setup = engine.setup;
     let slots = engine.slots;
     let staged = engine.staged;
-    let ready = record::count_of(slots, client);
+    let ready = slots::count_of(slots, client);
     let own = queue::staged_by(staged, client);
     let no18 = queue::first_refusal((0 < ready) | own, 18, 0);
-    let no5 = queue::first_refusal(!record::is_open(engine, client), 5, no18);
+    let no5 = queue::first_refusal(!windows::is_open(engine, client), 5, no18);
     let no10 = queue::first_refusal(!(given == setup.memory), 10, no5);
-    queue::first_refusal(!record::is_valid(engine), 11, no10)
+    queue::first_refusal(!validity::is_valid(engine), 11, no10)
 }
 
 // The record without a client: its id and its window are free.
@@ -188,8 +188,8 @@ fn pending_at(clients: [Client; 4], client: u32) -> u32
 fn pending_refusal(engine: EngineRecord, client: u32) -> u32
     ensures { λ r. ⌜ r ≡ firstRefusal (pendingTable engine client) ⌝ }
 {
-    let no5 = queue::first_refusal(!record::is_open(engine, client), 5, 0);
-    queue::first_refusal(!record::is_valid(engine), 11, no5)
+    let no5 = queue::first_refusal(!windows::is_open(engine, client), 5, 0);
+    queue::first_refusal(!validity::is_valid(engine), 11, no5)
 }
 
 // How many batches of a client are ready.

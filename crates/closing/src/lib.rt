@@ -3,9 +3,9 @@ ghost use mathlib.Core.Path.{_≡_};
 ghost use lib.ListN.{length};
 ghost use Rattle.queue.specs.Calls.{closeResult};
 ghost use Rattle.engine.specs.Close.{closeMemory};
+use engine_record::EngineRecord;
 use queue::Answer;
 use queue::Reply;
-use record::EngineRecord;
 
 // Closes a client: its window is filled with zeros, and its id and window are free. Either engine closes so: nothing is drawn.
 pub fn close(engine: EngineRecord, memory: &mut [u8], client: u32) -> Reply

@@ -17,7 +17,7 @@ use ppm::ParsedNumber;
 // What was handed to the system to write: so many bytes; and whether it took them.
 pub struct Printed {
     pub size: usize,
-    pub well: bool,
+    pub ok: bool,
 }
 
 // Hands two texts to the system, for standard error: what, and what is wrong with it. Whether it took them is the system's, and no
@@ -29,12 +29,12 @@ pub fn complain(what: &[u8], why: &[u8]) -> Printed
     let is_explained = io::write_all(STDERR_FILENO, why);
     Printed {
         size: what.len() + why.len(),
-        well: is_named & is_explained,
+        ok: is_named & is_explained,
     }
 }
 
-// The number that an argument's text spells; that it spells none is reported, with the argument's name. One that was too long for its buffer is an empty
-// text (`os::arg`), and so none.
+// The number that an argument's text is; that it is none is reported, with the argument's name. An argument that was too long for its buffer is an empty
+// text (`os::arg`), and so no number.
 pub fn number_in(text: &[u8], name: &[u8]) -> ParsedNumber
     ensures { λ r. ⌜ r ≡ parseNumber (now (text .entry)) ⌝ }
 {
@@ -83,7 +83,7 @@ pub fn open_argument(index: usize, path: &mut [u8]) -> Opened
 // What a reading brought: so many bytes, none at the end of the file or if it failed, and whether it went well.
 pub struct Piece {
     pub count: usize,
-    pub well: bool,
+    pub ok: bool,
 }
 
 // Reads once. What failed is reported, with the file's name.
@@ -96,20 +96,17 @@ pub fn read_piece(fd: i32, name: &[u8], piece: &mut [u8]) -> Piece
     }
     Piece {
         count: io::count(got, piece),
-        well: 0 <= got,
+        ok: 0 <= got,
     }
 }
 
 // Hands the first n bytes of `out` to the system, for standard output. What did fail is reported on standard error. Where there are no n
 // bytes none is handed over, and it did not go well; else whether it did is the system's, and no contract can say which.
 pub fn print(out: &[u8], n: usize) -> Printed
-    ensures { λ r. ⌜ (r .size ≡ cond (leb n (length (now (out .entry)))) n 0) × (length (now (out .entry)) < n → r .well ≡ false) ⌝ }
+    ensures { λ r. ⌜ (r .size ≡ cond (leb n (length (now (out .entry)))) n 0) × (length (now (out .entry)) < n → r .ok ≡ false) ⌝ }
 {
     if out.len() < n {
-        return Printed {
-            size: 0,
-            well: false,
-        };
+        return Printed { size: 0, ok: false };
     }
     let is_written = io::write_all(STDOUT_FILENO, &out[..n]);
     if !is_written {
@@ -117,6 +114,6 @@ pub fn print(out: &[u8], n: usize) -> Printed
     }
     Printed {
         size: n,
-        well: is_written,
+        ok: is_written,
     }
 }

@@ -1,6 +1,7 @@
 // Two settings of flips and quarter turns as one, and the setting that undoes one (02, request 8).
 ghost use mathlib.Core.Path.{_≡_};
-ghost use Rattle.orientation.specs.Bits.{turns, rotationOf, weight, settingOf, bitsOf};
+ghost use Rattle.transform.specs.Transform.{rotationOf};
+ghost use Rattle.orientation.specs.Bits.{turns, weight, settingOf, bitsOf};
 ghost use Rattle.orientation.specs.Compose.{quarter, added, turnedBack, isOdd, flippedTwice, exchanged, compose, inverse};
 use transform::Flip;
 use transform::Rotation;

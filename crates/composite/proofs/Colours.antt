@@ -11,8 +11,8 @@ use Rattle.pixel.specs.declared.blend.BlendFactors.{BlendFactors}
 use Rattle.pixel.specs.declared.format.Format.the-variants.{Argb8888}
 use Rattle.register.specs.declared.task.Alpha.{Alpha}
 use Rattle.register.specs.declared.task.Blending.{Blending}
-use Rattle.rows.specs.Row.{colourIn, rowStored}
-use Rattle.rows.specs.Mixed.{composite}
+use Rattle.row_pixels.specs.Row.{colourIn, rowStored}
+use Rattle.row_pixels.specs.Composite.{composite}
 use Rattle.lanes.specs.Lanes.{Done}
 use Rattle.lanes.proofs.Passes.{to-end}
 use Rattle.alpha_modes.specs.Mode.{modeAt}

@@ -5,7 +5,7 @@ use Prim.Native.Nat.{ℕ, _*_, _≤_}
 use lib.ListN.{length}
 use Rattle.pixel.specs.declared.format.Format.the-variants.{Argb8888}
 use Rattle.register.specs.declared.task.Blending.{Blending}
-use Rattle.rows.specs.Row.{RowIsWide}
+use Rattle.row_pixels.specs.Row.{RowIsWide}
 use Rattle.plan.specs.Plan.{Planned}
 use Rattle.plan.specs.declared.Plan.{Plan}
 

@@ -1,8 +1,8 @@
 // A row of colours blended with a row of colours, in place: a premultiplied source divided, alpha modes, then the rule.
 ghost use mathlib.Core.Path.{_≡_};
 ghost use Rattle.pixel.specs.declared.format.Format.the-variants.{Argb8888};
-ghost use Rattle.rows.specs.Row.{colourIn, rowStored};
-ghost use Rattle.rows.specs.Mixed.{composite};
+ghost use Rattle.row_pixels.specs.Row.{colourIn, rowStored};
+ghost use Rattle.row_pixels.specs.Composite.{composite};
 ghost use Rattle.composite.specs.Buffer.{Mixes};
 use alpha_modes::alpha_row;
 use combine::blend_row;

@@ -11,7 +11,7 @@ use Rattle.transform.specs.Transform.{sourcePixel}
 use Rattle.orientation.specs.Compose.{opposite, SameOrientation}
 use Rattle.orientation.specs.Laws.{Alike}
 use Rattle.transform.specs.declared.Transform.{Transform}
-use Rattle.orientation.proofs.Settings.{tells}
+use Rattle.orientation.proofs.Settings.{distinguishes}
 use Rattle.orientation.proofs.Same.{exactly, turned-square}
 use Rattle.surface.specs.declared.Surface.{Surface}
 use Rattle.surface.specs.Surface.{span}
@@ -20,7 +20,7 @@ use Rattle.surface.specs.Rows.{overwriteRows, rowByte}
 use Rattle.surface.specs.Drawn.{loadPixel, drawRectangle, drawSurface}
 use Rattle.surface.proofs.Outside.{drawnOn-ext}
 use Rattle.register.specs.Size.{sizeOf}
-use Rattle.rows.specs.Row.{colourAt, sourcePixelOf}
+use Rattle.row_pixels.specs.Row.{colourAt, sourcePixelOf}
 use Rattle.composition.specs.Twice.{turned, Fits, EqualDrawing, Orientations}
 use Rattle.raster.proofs.RowByRow.{stride-some}
 
@@ -35,7 +35,7 @@ equal a b h = record {
       (λ x y u v. ap (colourAt s memory) (h .source (sizeOf s) (record { x = x; y = y }) (rw (f .size) (record { across = u; down = v }))));
 }
 
--- ---- another orientation: a picture of 2 by 2 that tells
+-- ---- another orientation: a picture of 2 by 2 that shows the difference
 
 -- the pixels 1, 2, 3 and 4, and room for them
 memory : List ℕ
@@ -51,22 +51,22 @@ shown t = turned (picture 0) t (picture 8) memory
 abbrev first : List ℕ → ℕ
 first bytes = getD bytes 8 0 + 5 * getD bytes 10 0
 
-told : (a b : Transform) → shown a ≡ shown b → SameOrientation a b
+shown-same : (a b : Transform) → shown a ≡ shown b → SameOrientation a b
 unfolding shown memory turned opposite drawSurface drawRectangle mapi overwriteRows rowByte byteOf colourAt sourcePixelOf loadPixel pixelAt packed unpacked widened narrowed sourcePixel
-told a b e = tells (λ (t : Transform). first (shown t)) tt a b (ap first e)
+shown-same a b e = distinguishes (λ (t : Transform). first (shown t)) tt a b (ap first e)
 
 fits : (t : Transform) → Fits (length memory) (picture 0) t (picture 8)
 unfolding memory span
 fits t = record {
   size = turned-square (t .rotation);
   format = refl;
-  rows = record { wide = lit< tt; narrow = lit≤ tt; high = lit< tt; low = lit≤ tt; spaced = lit≤ tt };
+  rows = record { width-positive = lit< tt; width-max = lit≤ tt; height-positive = lit< tt; height-max = lit≤ tt; rows-apart = lit≤ tt };
   inside = lit≤ tt;
 }
 
 same : (a b : Transform) → EqualDrawing a b → SameOrientation a b
 unfolding shown
-same a b h = told a b (h .bytes (picture 0) (picture 8) memory (fits a))
+same a b h = shown-same a b (h .bytes (picture 0) (picture 8) memory (fits a))
 
 pub orientations : Orientations
 orientations a b = (same a b, λ o. equal a b (exactly .alike a b o))

@@ -28,7 +28,7 @@ use Rattle.register.specs.declared.task.SourceMode.{SourceMode}
 use Rattle.register.specs.declared.task.SourceMode.the-variants.{Buffer, Colour, GradientX, GradientY}
 use Rattle.register.specs.Task.{isBuffer}
 use Rattle.register.specs.Size.{sizeOf}
-use Rattle.rows.specs.Row.{colourAt, sourcePixelOf}
+use Rattle.row_pixels.specs.Row.{colourAt, sourcePixelOf}
 use Rattle.raster.specs.Task.{sourceModeColour, sourceColour, drawTask}
 use Rattle.composition.specs.Twice.{turned, Fits, Tasks, twice, once, TwoTurns, TwoTasks}
 use Rattle.raster.proofs.RowByRow.{stride-some}
@@ -68,7 +68,7 @@ module _ (s : Surface) (setting : Transform) (o : Surface) (memory : List ℕ) w
       colourAt o (turned s setting o memory) p ≡ colourAt s memory (sourcePixel setting (sizeOf s) p)
   unfolding turned colourAt sourcePixelOf
   turned-loaded f p w =
-      loaded-drawn o (λ (x y : ℕ). colourAt s memory (sourcePixelOf s setting x y)) memory (f .rows .spaced) (f .inside) (p .x) (p .y) (w .across) (w .down)
+      loaded-drawn o (λ (x y : ℕ). colourAt s memory (sourcePixelOf s setting x y)) memory (f .rows .rows-apart) (f .inside) (p .x) (p .y) (w .across) (w .down)
       ∙ ap (λ (g : Format). unpacked (layoutOf g) (packed (layoutOf g) (colourAt s memory (sourcePixel setting (sizeOf s) p)))) (sym (f .format))
       ∙ loaded-again (s .format) memory _
 
@@ -97,9 +97,9 @@ module _ (s m o : Surface) (a b : Transform) (memory : List ℕ) (f : Fits (leng
   output i y j r =
       let l : i < length memory = omega (arith, byte-in-span o i y j r .1, g .inside) in
       let x : j / bytesPerPixel (o .format) < o .width = div-lt-iff-lt-mul (bytes-some (o .format)) .1 (r .column) in
-      inside-row o _ between (g .rows .spaced) i y j (omega (arith, length-turned s a m memory)) r
+      inside-row o _ between (g .rows .rows-apart) i y j (omega (arith, length-turned s a m memory)) r
       ∙ ap (λ (c : Channels). byteOf (packed (layoutOf (o .format)) c) (j % bytesPerPixel (o .format))) (colours (j / bytesPerPixel (o .format)) y x (r .row))
-      ∙ sym (inside-row o _ memory (g .rows .spaced) i y j l r)
+      ∙ sym (inside-row o _ memory (g .rows .rows-apart) i y j l r)
 
   -- and one that the first drawing leaves is the same after the second
   others : (i : ℕ) → i < length memory → ((y j : ℕ) → InRow m i y j → ⊥) → getD (twice s m o a b memory) i 0 ≡ getD (once s m o a b memory) i 0

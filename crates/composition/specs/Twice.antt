@@ -20,7 +20,7 @@ use Rattle.surface.specs.Drawn.{drawSurface}
 use Rattle.register.specs.declared.task.Task.{Task}
 use Rattle.register.specs.Task.{isBuffer}
 use Rattle.register.specs.Size.{sizeOf}
-use Rattle.rows.specs.Row.{colourAt, sourcePixelOf}
+use Rattle.row_pixels.specs.Row.{colourAt, sourcePixelOf}
 use Rattle.raster.specs.Task.{drawTask}
 use Rattle.raster.specs.Preconditions.{ValidRectangle, EndsBelow, Drawable}
 
@@ -38,7 +38,7 @@ pub record Fits (n : ℕ) (s : Surface) (setting : Transform) (o : Surface) : Ty
 
 -- a task of which the request speaks: it may be drawn (so no byte lies in rows of its source and its output), reads its source from memory, in the
 -- output's format, and does not blend
-pub record Plain (window : Range) (n : ℕ) (t : Task) : Type 0 where
+pub record UnblendedCopy (window : Range) (n : ℕ) (t : Task) : Type 0 where
   pub drawable : Drawable window n t
   pub reads : isBuffer (t .source .mode) ≡ true
   pub unblended : t .blending .on ≡ false
@@ -50,7 +50,7 @@ pub record Copies (n : ℕ) (t : Task) : Type 0 where
   pub draws : (memory : List ℕ) → drawTask t memory ≡ turned (t .source .surface) (t .source .transform) (t .output) memory
 
 abbrev pub Tasks : Type 0
-Tasks = (window : Range) (n : ℕ) (t : Task) → Plain window n t → Copies n t
+Tasks = (window : Range) (n : ℕ) (t : Task) → UnblendedCopy window n t → Copies n t
 
 -- s drawn with a setting into m, and m with another into o; and s drawn with the composed setting into o
 module _ (s m o : Surface) (a b : Transform) (memory : List ℕ) where
@@ -80,7 +80,7 @@ pub record InPlace (first second one : Task) : Type 0 where
 
 abbrev pub TwoTasks : Type 0
 TwoTasks = (window : Range) (memory : List ℕ) (first second one : Task) →
-    Plain window (length memory) first → Plain window (length memory) second → Plain window (length memory) one → InPlace first second one →
+    UnblendedCopy window (length memory) first → UnblendedCopy window (length memory) second → UnblendedCopy window (length memory) one → InPlace first second one →
     (i y j : ℕ) → InRow (one .output) i y j → getD (drawTask second (drawTask first memory)) i 0 ≡ getD (drawTask one memory) i 0
 
 -- two settings draw every picture alike

@@ -12,7 +12,7 @@ use Rattle.pixel.specs.declared.format.Format.the-variants.{Argb8888, Rgb565}
 use Rattle.surface.specs.Drawn.{loadPixel}
 use Rattle.surface.specs.Rows.{rowByte}
 use Rattle.surface.proofs.Loaded.{pixel-bytes}
-use Rattle.rows.specs.Row.{colourIn}
+use Rattle.row_pixels.specs.Row.{colourIn}
 use Rattle.lanes.specs.Lanes.{two, Done}
 use Rattle.lanes.proofs.Laws.{under-or}
 use Rattle.lanes.proofs.Passes.{more-done}

@@ -17,7 +17,7 @@ use Rattle.pixel.specs.declared.format.Format.the-variants.{Argb8888, Rgb888}
 use Rattle.surface.specs.Drawn.{loadPixel}
 use Rattle.surface.specs.Rows.{rowByte}
 use Rattle.surface.proofs.Loaded.{loaded-bytes}
-use Rattle.rows.specs.Row.{colourIn}
+use Rattle.row_pixels.specs.Row.{colourIn}
 use Rattle.lanes.specs.Lanes.{Done}
 use Rattle.lanes.proofs.Passes.{more-done}
 use Rattle.row_colours.proofs.Colours.{Row, bytesAt, all-bytes, four-bytes, colour-is}

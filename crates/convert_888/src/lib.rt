@@ -4,7 +4,7 @@ ghost use Prim.Native.Nat.{_+_, _*_, _≤_};
 ghost use lib.ListN.{length};
 ghost use Rattle.pixel.specs.declared.format.Format.the-variants.{Argb8888, Rgb888};
 ghost use Rattle.surface.specs.Drawn.{loadPixel};
-ghost use Rattle.rows.specs.Row.{colourIn, rowStored, RowIsWide};
+ghost use Rattle.row_pixels.specs.Row.{colourIn, rowStored, RowIsWide};
 ghost use Rattle.convert_888.specs.Three.{Three};
 
 // Three bytes stored: blue, green and red.

@@ -3,22 +3,22 @@ ghost use mathlib.Core.Path.{_≡_};
 ghost use mathlib.Core.Bool.{true};
 ghost use Prim.Native.Nat.{_≤_, _<_};
 ghost use lib.ListN.{length, getD, set};
-ghost use Rattle.record.specs.Slots.{free};
-ghost use Rattle.record.specs.Tickets.{slotOfTicket};
-ghost use Rattle.record.specs.Clients.{noClient};
-ghost use Rattle.record.specs.Queue.{readySlots};
-ghost use Rattle.record.specs.Rules.{valid};
-ghost use Rattle.record.specs.Checking.{checkedOf};
+ghost use Rattle.engine_record.specs.Slots.{free};
+ghost use Rattle.engine_record.specs.Tickets.{slotOfTicket};
+ghost use Rattle.engine_record.specs.Clients.{noClient};
+ghost use Rattle.engine_record.specs.Queue.{readySlots};
+ghost use Rattle.engine_record.specs.Rules.{valid};
+ghost use Rattle.engine_record.specs.Checking.{checkedOf};
 ghost use Rattle.queue.specs.Refusals.{firstRefusal};
 ghost use Rattle.engine.specs.Run.{runTable, oldestTicket, oldest, boundsOfClient, resetOf, pendingLowered, withoutOldest};
-use record::Batch;
-use record::Checked;
-use record::Client;
-use record::EngineRecord;
-use record::Slot;
-use record::SlotState;
+use engine_record::Batch;
+use engine_record::Checked;
+use engine_record::Client;
+use engine_record::EngineRecord;
+use engine_record::Slot;
+use engine_record::SlotState;
 use register::Bank;
-use rules::Bounds;
+use task_check::Bounds;
 
 // What run is refused with, 0 if it takes a batch; `found` is what the check of the record found, `ring` and `memory` are the lengths of what is lent.
 pub fn run_refusal(engine: EngineRecord, found: Checked, ring: usize, memory: usize) -> u32
@@ -43,7 +43,7 @@ pub fn bounds_for(engine: EngineRecord, client: u32) -> Bounds
     let clients = engine.clients;
     Bounds {
         window: clients::window_of(clients, client),
-        common: setup.common,
+        common_length: setup.common,
     }
 }
 
@@ -57,7 +57,7 @@ pub fn bank_for(engine: EngineRecord) -> Bank
 }
 
 // One batch fewer pending for a client.
-fn lower(clients: [Client; 4], client: u32) -> [Client; 4]
+fn lower_pending(clients: [Client; 4], client: u32) -> [Client; 4]
     requires { ⌜ (client < 4) × (1 ≤ getD clients client noClient .pending) ⌝ }
     ensures { λ r. ⌜ r ≡ pendingLowered clients client ⌝ }
 {
@@ -79,11 +79,11 @@ pub fn oldest_slot(engine: EngineRecord, ready: usize) -> usize
     ensures { λ r. ⌜ r ≡ slotOfTicket (oldestTicket engine) (engine .slots) ⌝ }
 {
     let slots = engine.slots;
-    record::slot_of_age(slots, engine.next, ready)
+    slots::slot_of_age(slots, engine.next_ticket, ready)
 }
 
 // The slots with one of them free.
-fn freed(slots: [Slot; 8], at: usize) -> [Slot; 8]
+fn with_slot_free(slots: [Slot; 8], at: usize) -> [Slot; 8]
     requires { ⌜ at < 8 ⌝ }
     ensures { λ r. ⌜ r ≡ set slots at free ⌝ }
 {
@@ -103,11 +103,11 @@ pub fn without_oldest(engine: EngineRecord, at: usize, batch: Batch) -> EngineRe
     let setup = engine.setup;
     let clients = engine.clients;
     let slots = engine.slots;
-    let fewer = lower(clients, batch.client);
-    let left = freed(slots, at);
+    let fewer = lower_pending(clients, batch.client);
+    let left = with_slot_free(slots, at);
     let mut after = engine;
     after.clients = fewer;
     after.slots = left;
-    after.read = record::wrap_offset(setup.ring, engine.read + batch.length);
+    after.read_offset = engine_record::wrap_offset(setup.ring, engine.read_offset + batch.length);
     after
 }

@@ -13,9 +13,9 @@ use Rattle.records.specs.declared.Edition.the-variants.{First, Second}
 use Rattle.records.specs.Records.{Entry}
 
 -- "Replay of edition 1 files must go on with 0x00001300" (02, request 2); edition 2's "engine resets 0x090 to 0x00000B01"
-abbrev pub resetOf : Edition → ResetRule
-resetOf First = Unblended
-resetOf Second = SrcOver
+abbrev pub resetRuleOf : Edition → ResetRule
+resetRuleOf First = Unblended
+resetRuleOf Second = SrcOver
 
 -- "each record carries after the desk byte a big-endian 32-bit word with the reader's score bits": whether they are a score's. A record of
 -- edition 1 has no score to be bad

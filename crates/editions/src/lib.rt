@@ -1,12 +1,12 @@
 // What the editions of a replay file ask of the engine: the reset rule, and a score that is looked at before a record is submitted.
 ghost use mathlib.Core.Path.{_≡_};
-ghost use Rattle.editions.specs.Editions.{resetOf, scoreIn};
+ghost use Rattle.editions.specs.Editions.{resetRuleOf, scoreIn};
 use records::Edition;
 use reset::ResetRule;
 
 // The reset rule of an edition's engine.
-pub fn reset_of(edition: Edition) -> ResetRule
-    ensures { λ r. ⌜ r ≡ resetOf edition ⌝ }
+pub fn reset_rule_of(edition: Edition) -> ResetRule
+    ensures { λ r. ⌜ r ≡ resetRuleOf edition ⌝ }
 {
     match edition {
         Edition::First => ResetRule::Unblended,

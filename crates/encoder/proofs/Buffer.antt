@@ -13,7 +13,7 @@ use Rattle.word.specs.Splice.{spliced}
 use Rattle.word.proofs.Splice.{length-spliced}
 use Rattle.word.proofs.Written.{length-bytes}
 use Rattle.register.specs.declared.bank.Bank.{Bank}
-use Rattle.rules.specs.declared.task.Bounds.{Bounds}
+use Rattle.task_check.specs.declared.task.Bounds.{Bounds}
 use Rattle.batch.specs.Batch.{decodeBatch}
 use Rattle.encoder.specs.declared.Answer.{Answer}
 use Rattle.encoder.specs.declared.Answer.the-variants.{Written, Forbidden, ShortBuffer}

@@ -14,9 +14,9 @@ use Rattle.register.specs.Bank.{surfaceAfterWrite, stepsAfterWrite, bankAfterWr
 use Rattle.register.specs.Task.{taskOf}
 use Rattle.register.specs.declared.bank.Bank.{Bank}
 use Rattle.register.specs.declared.bank.WriteResult.the-variants.{Written}
-use Rattle.rules.specs.declared.task.Bounds.{Bounds}
-use Rattle.rules.specs.Rules.{checkTask}
-use Rattle.batch.specs.Batch.{start, inside, reservedBits, badGroupLength, afterTaskCheck, decodeFrom}
+use Rattle.task_check.specs.declared.task.Bounds.{Bounds}
+use Rattle.task_check.specs.Rules.{checkTask}
+use Rattle.batch.specs.Batch.{betweenTasks, inGroup, reservedBits, badGroupLength, afterTaskCheck, decodeFrom}
 use Rattle.encoder.specs.Words.{taskWords, shadedWords}
 
 -- the register at an offset takes a word
@@ -39,8 +39,8 @@ storedFrom b offset (w ∷ ws) = storedFrom (bankAfterWrite b offset w) (offset 
 
 -- the words of a group, from word k on
 words-read : (bounds : Bounds) (b : Bank) (k offset : ℕ) (ends : Bool) (head : ℕ) (vs rest : List ℕ) → TakenFrom offset vs
-    → decodeFrom bounds b k (inside (length vs) offset ends head) (vs ++ rest)
-    ≡ decodeFrom bounds (storedFrom b offset vs) (k + length vs) (inside zero (offset + 4 * length vs) ends head) rest
+    → decodeFrom bounds b k (inGroup (length vs) offset ends head) (vs ++ rest)
+    ≡ decodeFrom bounds (storedFrom b offset vs) (k + length vs) (inGroup zero (offset + 4 * length vs) ends head) rest
 unfolding decodeFrom
 words-read bounds b k offset ends head [] rest t =
     let e : k + 0 ≡ k = omega arith in
@@ -60,8 +60,8 @@ fine-length vs rest h =
 -- a group of these words, whose header is word k
 group-read : (bounds : Bounds) (b : Bank) (k next h : ℕ) (vs rest : List ℕ) → reservedBits h ≡ false → field 15 2 h ≡ length vs
     → 0 < length vs → next ≡ k + 1 + length vs → TakenFrom (field 31 16 h) vs
-    → decodeFrom bounds b k start (h ∷ vs ++ rest)
-    ≡ decodeFrom bounds (storedFrom b (field 31 16 h) vs) next (inside zero (field 31 16 h + 4 * length vs) (eqb (field 0 0 h) 1) k) rest
+    → decodeFrom bounds b k betweenTasks (h ∷ vs ++ rest)
+    ≡ decodeFrom bounds (storedFrom b (field 31 16 h) vs) next (inGroup zero (field 31 16 h + 4 * length vs) (eqb (field 0 0 h) 1) k) rest
 unfolding decodeFrom
 group-read bounds b k next h vs rest e l s n t =
     rw (e, l, fine-length vs rest s, n) (words-read bounds b (k + 1) (field 31 16 h) (eqb (field 0 0 h) 1) k vs rest t)
@@ -69,26 +69,26 @@ group-read bounds b k next h vs rest e l s n t =
 -- a group that does not end the task, and another header after it
 group-on : (bounds : Bounds) (b : Bank) (k next h : ℕ) (vs : List ℕ) (h′ : ℕ) (ws : List ℕ) → reservedBits h ≡ false → field 15 2 h ≡ length vs
     → 0 < length vs → next ≡ k + 1 + length vs → eqb (field 0 0 h) 1 ≡ false → TakenFrom (field 31 16 h) vs
-    → decodeFrom bounds b k start (h ∷ vs ++ (h′ ∷ ws)) ≡ decodeFrom bounds (storedFrom b (field 31 16 h) vs) next start (h′ ∷ ws)
+    → decodeFrom bounds b k betweenTasks (h ∷ vs ++ (h′ ∷ ws)) ≡ decodeFrom bounds (storedFrom b (field 31 16 h) vs) next betweenTasks (h′ ∷ ws)
 unfolding decodeFrom
 group-on bounds b k next h vs h′ ws e l s n m t =
     group-read bounds b k next h vs (h′ ∷ ws) e l s n t
     ∙ rw m (header (storedFrom b (field 31 16 h) vs) (field 31 16 h + 4 * length vs))
   where
-    header : (c : Bank) (offset : ℕ) → decodeFrom bounds c next (inside zero offset false k) (h′ ∷ ws) ≡ decodeFrom bounds c next start (h′ ∷ ws)
+    header : (c : Bank) (offset : ℕ) → decodeFrom bounds c next (inGroup zero offset false k) (h′ ∷ ws) ≡ decodeFrom bounds c next betweenTasks (h′ ∷ ws)
     header c offset = refl
 
 -- a group that ends the task
 group-last : (bounds : Bounds) (b : Bank) (k next h : ℕ) (vs ws : List ℕ) → reservedBits h ≡ false → field 15 2 h ≡ length vs
     → 0 < length vs → next ≡ k + 1 + length vs → eqb (field 0 0 h) 1 ≡ true → TakenFrom (field 31 16 h) vs → (after : Bank) → storedFrom b (field 31 16 h) vs ≡ after
-    → decodeFrom bounds b k start (h ∷ vs ++ ws) ≡ afterTaskCheck (checkTask bounds (taskOf after)) after k (decodeFrom bounds after next start ws)
+    → decodeFrom bounds b k betweenTasks (h ∷ vs ++ ws) ≡ afterTaskCheck (checkTask bounds (taskOf after)) after k (decodeFrom bounds after next betweenTasks ws)
 unfolding decodeFrom
 group-last bounds b k next h vs ws e l s n m t after is =
     group-read bounds b k next h vs ws e l s n t ∙ rw (m, is) (ended ws)
   where
     ended : (rest : List ℕ)
-        → decodeFrom bounds after next (inside zero (field 31 16 h + 4 * length vs) true k) rest
-        ≡ afterTaskCheck (checkTask bounds (taskOf after)) after k (decodeFrom bounds after next start rest)
+        → decodeFrom bounds after next (inGroup zero (field 31 16 h + 4 * length vs) true k) rest
+        ≡ afterTaskCheck (checkTask bounds (taskOf after)) after k (decodeFrom bounds after next betweenTasks rest)
     ended [] = refl
     ended (w ∷ rest) = refl
 
@@ -214,7 +214,7 @@ from2 b rest =
 
 -- the groups from the second on, read from a bank in which the others are written
 rest-read : (bounds : Bounds) (c b : Bank) (k end next : ℕ) (rest : List ℕ) → AllTaken b → after6 c b ≡ b → end ≡ k + 12 → next ≡ k + 14
-    → decodeFrom bounds c k start (0x0050000C ∷ from2 b rest) ≡ afterTaskCheck (checkTask bounds (taskOf b)) b end (decodeFrom bounds b next start rest)
+    → decodeFrom bounds c k betweenTasks (0x0050000C ∷ from2 b rest) ≡ afterTaskCheck (checkTask bounds (taskOf b)) b end (decodeFrom bounds b next betweenTasks rest)
 rest-read bounds c b k end next rest t is e n =
     let from6 : List ℕ = b .output .address ∷ rest in
     let from5 : List ℕ = words5 b ++ (0x01100005 ∷ from6) in
@@ -236,7 +236,7 @@ first-stored old b = refl
 
 -- from any bank and any word on: one task, of which this bank is the registers, and then the rest
 pub task-read : (bounds : Bounds) (old b : Bank) (k : ℕ) (rest : List ℕ) → AllTaken b → b .steps ≡ old .steps
-    → decodeFrom bounds old k start (taskWords b ++ rest) ≡ afterTaskCheck (checkTask bounds (taskOf b)) b (k + 18) (decodeFrom bounds b (k + 20) start rest)
+    → decodeFrom bounds old k betweenTasks (taskWords b ++ rest) ≡ afterTaskCheck (checkTask bounds (taskOf b)) b (k + 18) (decodeFrom bounds b (k + 20) betweenTasks rest)
 unfolding taskWords
 task-read bounds old b k rest t e =
     group-on bounds old k (k + 6) 0x00100014 (words1 b) 0x0050000C (from2 b rest) refl refl (omega arith) (omega arith) refl (first b t)
@@ -252,7 +252,7 @@ unfolding bankAfterWrite surfaceAfterWrite stepsAfterWrite
 all-stored old b = refl
 
 pub shaded-read : (bounds : Bounds) (old b : Bank) (k : ℕ) (rest : List ℕ) → AllTaken b → StepsTaken (b .steps)
-    → decodeFrom bounds old k start (shadedWords b ++ rest) ≡ afterTaskCheck (checkTask bounds (taskOf b)) b (k + 23) (decodeFrom bounds b (k + 25) start rest)
+    → decodeFrom bounds old k betweenTasks (shadedWords b ++ rest) ≡ afterTaskCheck (checkTask bounds (taskOf b)) b (k + 23) (decodeFrom bounds b (k + 25) betweenTasks rest)
 unfolding shadedWords
 shaded-read bounds old b k rest t s =
     group-on bounds old k (k + 6) 0x00100014 (words1 b) 0x00300010 (stepWords (b .steps) ++ (0x0050000C ∷ from2 b rest)) refl refl (omega arith) (omega arith) refl (first b t)

@@ -12,9 +12,9 @@ use Rattle.word.proofs.Words.{Below32, words-back}
 use Rattle.gradient.specs.declared.Steps.{Steps}
 use Rattle.register.specs.Bank.{resetSteps}
 use Rattle.register.specs.declared.bank.Bank.{Bank}
-use Rattle.rules.specs.declared.task.Bounds.{Bounds}
-use Rattle.rules.specs.Rules.{checkTask}
-use Rattle.batch.specs.Batch.{DecodedBatch, finished, start, afterTaskCheck, decodeFrom, decodeBatch}
+use Rattle.task_check.specs.declared.task.Bounds.{Bounds}
+use Rattle.task_check.specs.Rules.{checkTask}
+use Rattle.batch.specs.Batch.{DecodedBatch, finished, betweenTasks, afterTaskCheck, decodeFrom, decodeBatch}
 use Rattle.batch.specs.Marks.{taskEndCountFrom, taskEndCount}
 use Rattle.encoder.specs.declared.fields.Fields.{Fields}
 use Rattle.encoder.specs.Fields.{allowed, stepsAllowed}
@@ -45,11 +45,11 @@ kept-steps steps f = refl
 
 -- one task, and then the reading goes on with the rest of the words
 pub goes-on : (bounds : Bounds) (bank : Bank) (k : ℕ) (w : Form) (rest : List ℕ) → formAllowed w ≡ true
-    → decodeFrom bounds bank k start (formWords w ++ rest)
-    ≡ afterTaskCheck (checkTask bounds (taskWith (stepsAfter (bank .steps) w) (fieldsIn w))) (bankWith bank w) (k + endHeader w) (decodeFrom bounds (bankWith bank w) (k + (endHeader w + 2)) start rest)
+    → decodeFrom bounds bank k betweenTasks (formWords w ++ rest)
+    ≡ afterTaskCheck (checkTask bounds (taskWith (stepsAfter (bank .steps) w) (fieldsIn w))) (bankWith bank w) (k + endHeader w) (decodeFrom bounds (bankWith bank w) (k + (endHeader w + 2)) betweenTasks rest)
 goes-on bounds bank k (firstForm f) rest ok =
     let steps : Steps = bank .steps in
-    ap (λ (l : List ℕ). decodeFrom bounds bank k start (l ++ rest)) (any-steps steps f)
+    ap (λ (l : List ℕ). decodeFrom bounds bank k betweenTasks (l ++ rest)) (any-steps steps f)
     ∙ (rw (task-back steps f ok) at (task-read bounds bank (bankOf steps f) k rest (all-taken steps f ok) (kept-steps steps f)))
 goes-on bounds bank k (secondForm f steps) rest ok =
     let both = and-true (allowed f) (stepsAllowed steps) ok in
@@ -57,7 +57,7 @@ goes-on bounds bank k (secondForm f steps) rest ok =
     rw (task-back steps f (both .0)) at (shaded-read bounds bank (bankOf steps f) k rest (all-taken steps f (both .0)) taken)
 
 -- any tasks, one after the other
-tasks-from : (bounds : Bounds) (bank : Bank) (k : ℕ) (ws : List Form) → AllAllowed ws → decodeFrom bounds bank k start (allWords ws) ≡ expectedDecoding bounds bank k ws
+tasks-from : (bounds : Bounds) (bank : Bank) (k : ℕ) (ws : List Form) → AllAllowed ws → decodeFrom bounds bank k betweenTasks (allWords ws) ≡ expectedDecoding bounds bank k ws
 unfolding allWords expectedDecoding decodeFrom
 tasks-from bounds bank k [] ok = refl
 tasks-from bounds bank k (w ∷ ws) ok =

@@ -4,6 +4,6 @@ pub mod Registers
 pub mod Words
 pub mod Forms
 pub mod Encoder
-pub mod Solid
 pub mod RoundTrip
 pub mod ReadsBack
+pub mod Solid

@@ -8,8 +8,8 @@ use Rattle.word.specs.Word.{words}
 use Rattle.reset.specs.declared.ResetRule.{ResetRule}
 use Rattle.register.specs.Bank.{resetBank, resetSteps}
 use Rattle.register.specs.declared.bank.Bank.{Bank}
-use Rattle.rules.specs.declared.task.Bounds.{Bounds}
-use Rattle.rules.specs.Rules.{checkTask}
+use Rattle.task_check.specs.declared.task.Bounds.{Bounds}
+use Rattle.task_check.specs.Rules.{checkTask}
 use Rattle.batch.specs.Batch.{finished, stopWith, afterTaskCheck, decodeBatch}
 use Rattle.batch.specs.Marks.{taskEndCount}
 use Rattle.encoder.specs.declared.Answer.the-variants.{Written}
@@ -21,16 +21,16 @@ use Rattle.encoder.specs.RoundTrip.{taskWith, allTasks, allBytes, AllAll
 
 pub record EncodeDecodeRoundTrip (bounds : Bounds) (bank : Bank) : Type 0 where
   -- what the encoder leaves in a buffer that it takes: the first form keeps the bank's steps, the second writes them
-  pub one : (w : Form) (buffer : List ℕ) → Fits32Bits (fieldsIn w) → answerOf w (length buffer) ≡ Written →
+  pub one-task : (w : Form) (buffer : List ℕ) → Fits32Bits (fieldsIn w) → answerOf w (length buffer) ≡ Written →
       decodeBatch bounds bank (words (take (formSize w) (bufferAfter w buffer))) ≡ expectedDecoding bounds bank 0 (w ∷ [])
   -- "the first form takes no steps and, first in its batch, stands for steps of zero", under either reset rule
-  pub first : (rule : ResetRule) (f : Fields) (buffer : List ℕ) → Fits32Bits f → answerOf (firstForm f) (length buffer) ≡ Written →
+  pub first-in-batch : (rule : ResetRule) (f : Fields) (buffer : List ℕ) → Fits32Bits f → answerOf (firstForm f) (length buffer) ≡ Written →
       decodeBatch bounds (resetBank rule) (words (take 80 (bufferAfter (firstForm f) buffer)))
       ≡ afterTaskCheck (checkTask bounds (taskWith resetSteps f)) (bankOf resetSteps f) 18 (stopWith (bankOf resetSteps f) finished)
   -- encoded tasks, one after the other
-  pub all : (ws : List Form) → AllAllowed ws → AllFit32Bits ws → decodeBatch bounds bank (words (allBytes ws)) ≡ expectedDecoding bounds bank 0 ws
+  pub many-tasks : (ws : List Form) → AllAllowed ws → AllFit32Bits ws → decodeBatch bounds bank (words (allBytes ws)) ≡ expectedDecoding bounds bank 0 ws
   -- if 25 to 28 come of none of them, the same tasks in order
-  pub same : (ws : List Form) → AllAllowed ws → AllPassTaskCheck bounds (bank .steps) ws →
+  pub in-order : (ws : List Form) → AllAllowed ws → AllPassTaskCheck bounds (bank .steps) ws →
       expectedDecoding bounds bank 0 ws ≡ record { tasks = allTasks (bank .steps) ws; ending = finished; bank = bankAfter bank ws }
   -- and each has exactly one task-end mark
-  pub marked : (ws : List Form) → AllAllowed ws → AllFit32Bits ws → taskEndCount (words (allBytes ws)) ≡ length ws
+  pub one-task-end-each : (ws : List Form) → AllAllowed ws → AllFit32Bits ws → taskEndCount (words (allBytes ws)) ≡ length ws

@@ -12,16 +12,17 @@ use Rattle.pixel.specs.declared.format.Format.the-variants.{Argb8888}
 use Rattle.gradient.specs.declared.Steps.{Steps}
 use Rattle.surface.specs.declared.Surface.{Surface}
 use Rattle.transform.specs.declared.Transform.{Transform}
-use Rattle.register.specs.Task.{rotationOf, sourceModeOf}
+use Rattle.transform.specs.Transform.{rotationOf}
+use Rattle.register.specs.Task.{sourceModeOf}
 use Rattle.register.specs.declared.bank.Bank.{Bank}
 use Rattle.register.specs.declared.task.Alpha.{Alpha}
 use Rattle.register.specs.declared.task.Source.{Source}
 use Rattle.register.specs.declared.task.Destination.{Destination}
 use Rattle.register.specs.declared.task.Blending.{Blending}
 use Rattle.register.specs.declared.task.Task.{Task}
-use Rattle.rules.specs.declared.task.Bounds.{Bounds}
-use Rattle.rules.specs.declared.task.TaskCheck.the-variants.{Valid}
-use Rattle.rules.specs.Rules.{checkTask}
+use Rattle.task_check.specs.declared.task.Bounds.{Bounds}
+use Rattle.task_check.specs.declared.task.TaskCheck.the-variants.{Valid}
+use Rattle.task_check.specs.Rules.{checkTask}
 use Rattle.batch.specs.Batch.{DecodedBatch, finished, stopWith, afterTaskCheck}
 use Rattle.encoder.specs.declared.fields.SurfaceFields.{SurfaceFields}
 use Rattle.encoder.specs.declared.fields.AlphaFields.{AlphaFields}

@@ -13,8 +13,8 @@ use Rattle.encoder.specs.declared.fields.Fields.{Fields}
 
 -- ---- the fields of a bank at reset: all 0, but for blending
 
-abbrev pub resetSurface : SurfaceFields
-resetSurface = record { width = 0; height = 0; stride = 0; address = 0; format = 0 }
+abbrev pub resetSurfaceFields : SurfaceFields
+resetSurfaceFields = record { width = 0; height = 0; stride = 0; address = 0; format = 0 }
 
 abbrev pub resetAlpha : AlphaFields
 resetAlpha = record { mode = 0; global = 0 }
@@ -23,10 +23,10 @@ abbrev pub resetTransform : TransformFields
 resetTransform = record { horizontal = 0; vertical = 0; rotation = 0 }
 
 abbrev pub resetSource : SourceFields
-resetSource = record { surface = resetSurface; alpha = resetAlpha; transform = resetTransform; mode = 0; enable = 0 }
+resetSource = record { surface = resetSurfaceFields; alpha = resetAlpha; transform = resetTransform; mode = 0; enable = 0 }
 
 abbrev pub resetDestination : DestinationFields
-resetDestination = record { surface = resetSurface; alpha = resetAlpha; enable = 0 }
+resetDestination = record { surface = resetSurfaceFields; alpha = resetAlpha; enable = 0 }
 
 -- by the reset rule (02, request 2: "the writer's 'rest at reset' takes the choice too"): NONE and off, or SRC_OVER and on
 abbrev pub resetBlending : ResetRule → BlendingFields
@@ -34,7 +34,7 @@ resetBlending Unblended = record { source = 2; destination = 3; on = 0; premulti
 resetBlending SrcOver = record { source = 1; destination = 3; on = 1; premultiplied = 0 }
 
 abbrev pub resetFields : ResetRule → Fields
-resetFields rule = record { source = resetSource; destination = resetDestination; output = resetSurface; colour = 0; blending = resetBlending rule }
+resetFields rule = record { source = resetSource; destination = resetDestination; output = resetSurfaceFields; colour = 0; blending = resetBlending rule }
 
 -- ---- a solid rectangle
 

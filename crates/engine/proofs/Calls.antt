@@ -4,12 +4,12 @@ use mathlib.Core.List.{List}
 use Prim.Native.Nat.{ℕ, zero, suc}
 use Rattle.ring.specs.Segment.{batchWords}
 use Rattle.register.specs.declared.bank.Bank.{Bank}
-use Rattle.rules.specs.declared.task.Bounds.{Bounds}
+use Rattle.task_check.specs.declared.task.Bounds.{Bounds}
 use Rattle.batch.specs.declared.verdict.Verdict.{Verdict}
 use Rattle.batch.specs.Batch.{decodeBatch, verdictOf}
 use Rattle.raster.specs.Batch.{drawBatch}
-use Rattle.record.specs.declared.Batch.{Batch}
-use Rattle.record.specs.declared.EngineRecord.{EngineRecord}
+use Rattle.engine_record.specs.declared.Batch.{Batch}
+use Rattle.engine_record.specs.declared.EngineRecord.{EngineRecord}
 use Rattle.queue.specs.Calls.{unlessRefused}
 use Rattle.engine.specs.declared.Completion.{Completion}
 use Rattle.engine.specs.declared.Outcome.the-variants.{Refused, Completed}

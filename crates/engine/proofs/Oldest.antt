@@ -9,23 +9,23 @@ use lib.Dec.{eqb}
 use borrow.Author.Tests.{eq-eqb}
 use Rattle.word.proofs.Tests.{and-true}
 use Rattle.ring.specs.Segment.{wrapOffset}
-use Rattle.rules.specs.declared.task.Bounds.{Bounds}
+use Rattle.task_check.specs.declared.task.Bounds.{Bounds}
 use Rattle.raster.specs.Preconditions.{BoundsInMemory}
-use Rattle.record.specs.declared.Batch.{Batch}
-use Rattle.record.specs.declared.Client.{Client}
-use Rattle.record.specs.declared.Slot.{Slot}
-use Rattle.record.specs.declared.EngineRecord.{EngineRecord}
-use Rattle.record.specs.Slots.{free, readyBatches, sumOver, countOf}
-use Rattle.record.specs.Tickets.{ticketBefore, slotOfTicket, batchOfTicket, ticketsConsecutive, inTicketOrder}
-use Rattle.record.specs.Clients.{isOpen, clientAt}
-use Rattle.record.specs.Queue.{readySlots, waiting}
-use Rattle.record.specs.Rules.{clientsOpen, valid}
-use Rattle.record.proofs.Slots.{ready-most}
-use Rattle.record.proofs.Order.{oldest as is-oldest}
-use Rattle.record.proofs.Rules.{LengthGood, Valid, valid-facts, sum-waiting}
-use Rattle.record.proofs.Taken.{first, waiting-first, first-good}
-use Rattle.record.proofs.Clients.{open-place}
-use Rattle.record.proofs.Windows.{window-placed}
+use Rattle.engine_record.specs.declared.Batch.{Batch}
+use Rattle.engine_record.specs.declared.Client.{Client}
+use Rattle.engine_record.specs.declared.Slot.{Slot}
+use Rattle.engine_record.specs.declared.EngineRecord.{EngineRecord}
+use Rattle.engine_record.specs.Slots.{free, readyBatches, sumOver, countOf}
+use Rattle.engine_record.specs.Tickets.{ticketBefore, slotOfTicket, batchOfTicket, ticketsConsecutive, inTicketOrder}
+use Rattle.engine_record.specs.Clients.{isOpen, clientAt}
+use Rattle.engine_record.specs.Queue.{readySlots, waiting}
+use Rattle.engine_record.specs.Rules.{clientsOpen, valid}
+use Rattle.engine_record.proofs.Slots.{ready-most}
+use Rattle.engine_record.proofs.Order.{oldest as is-oldest}
+use Rattle.engine_record.proofs.Rules.{LengthGood, Valid, valid-facts, sum-waiting}
+use Rattle.engine_record.proofs.Taken.{first, waiting-first, first-good}
+use Rattle.engine_record.proofs.Clients.{open-place}
+use Rattle.engine_record.proofs.Windows.{window-placed}
 use Rattle.queue.proofs.Room.{pending-right}
 use Rattle.engine.specs.Run.{oldestTicket, oldest, boundsOfClient, pendingLowered, withoutOldest}
 
@@ -37,8 +37,8 @@ owner-open engine ok some = go (readySlots engine) refl some
     go : (n : ℕ) → readySlots engine ≡ n → 0 < n → isOpen engine (oldest engine .client) ≡ true
     go zero e h = absurd (omega arith)
     go (suc k) e h =
-        let b : Batch = batchOfTicket (ticketBefore (engine .next) (suc k)) (engine .slots) in
-        rw e (and-true (isOpen engine (b .client)) (clientsOpen engine (inTicketOrder k (engine .next) (engine .slots))) (rw e at (valid-facts engine ok .owners)) .0)
+        let b : Batch = batchOfTicket (ticketBefore (engine .«next_ticket») (suc k)) (engine .slots) in
+        rw e (and-true (isOpen engine (b .client)) (clientsOpen engine (inTicketOrder k (engine .«next_ticket») (engine .slots))) (rw e at (valid-facts engine ok .owners)) .0)
 
 -- it is one of the four
 pub owner-small : (engine : EngineRecord) → valid engine ≡ true → 0 < readySlots engine → oldest engine .client < 4
@@ -51,9 +51,9 @@ slot-below engine ok some eight =
     let k : ℕ = readySlots engine - 1 in
     let more : readySlots engine ≡ suc k = omega arith in
     let few = ready-most (engine .slots) in
-    let given : ticketsConsecutive (suc k) (engine .next) (engine .slots) ≡ true = ap (λ (n : ℕ). ticketsConsecutive n (engine .next) (engine .slots)) (sym more) ∙ valid-facts engine ok .given in
-    let found = is-oldest (engine .next) k (engine .slots) (omega arith) given .found in
-    let same : slotOfTicket (oldestTicket engine) (engine .slots) ≡ slotOfTicket (ticketBefore (engine .next) (suc k)) (engine .slots) = ap (λ (n : ℕ). slotOfTicket (ticketBefore (engine .next) n) (engine .slots)) more in
+    let given : ticketsConsecutive (suc k) (engine .«next_ticket») (engine .slots) ≡ true = ap (λ (n : ℕ). ticketsConsecutive n (engine .«next_ticket») (engine .slots)) (sym more) ∙ valid-facts engine ok .given in
+    let found = is-oldest (engine .«next_ticket») k (engine .slots) (omega arith) given .found in
+    let same : slotOfTicket (oldestTicket engine) (engine .slots) ≡ slotOfTicket (ticketBefore (engine .«next_ticket») (suc k)) (engine .slots) = ap (λ (n : ℕ). slotOfTicket (ticketBefore (engine .«next_ticket») n) (engine .slots)) more in
     omega arith
 
 -- k batches are ready beside it
@@ -68,7 +68,7 @@ module _ (engine : EngineRecord) (ok : valid engine ≡ true) (k : ℕ) (more : 
   first-is = rw more
 
   -- it is the first in ticket order
-  oldest-first : waiting engine ≡ oldest engine ∷ inTicketOrder k (engine .next) (engine .slots)
+  oldest-first : waiting engine ≡ oldest engine ∷ inTicketOrder k (engine .«next_ticket») (engine .slots)
   oldest-first = rw first-is (waiting-first engine ok k more few four)
 
   -- its client has it for one
@@ -77,7 +77,7 @@ module _ (engine : EngineRecord) (ok : valid engine ≡ true) (k : ℕ) (more : 
   owned =
       let client : ℕ = oldest engine .client in
       let all = sum-waiting engine v (omega (arith, few)) (λ b. cond (eqb (b .client) client) 1 0) in
-      let parts : countOf client (waiting engine) ≡ cond (eqb client client) 1 0 + countOf client (inTicketOrder k (engine .next) (engine .slots)) = ap (countOf client) oldest-first in
+      let parts : countOf client (waiting engine) ≡ cond (eqb client client) 1 0 + countOf client (inTicketOrder k (engine .«next_ticket») (engine .slots)) = ap (countOf client) oldest-first in
       let own : _≡_ {A = ℕ} (cond (eqb client client) 1 0) 1 = rw (eq-eqb client client refl) in
       omega arith
 
@@ -90,7 +90,7 @@ pub record Takes (engine : EngineRecord) : Type 0 where
   pub slot : slotOfTicket (oldestTicket engine) (engine .slots) < 8
   pub client : oldest engine .client < 4
   pub counted : 1 ≤ clientAt engine (oldest engine .client) .pending
-  pub offset : engine .read + oldest engine .length < 65536
+  pub offset : engine .«read_offset» + oldest engine .length < 65536
 
 pub takes : (engine : EngineRecord) → valid engine ≡ true → 0 < readySlots engine → length (engine .clients) ≡ 4 → length (engine .slots) ≡ 8 → Takes engine
 takes engine ok some four eight =
@@ -107,8 +107,8 @@ takes engine ok some four eight =
 -- the record that the code makes without it
 pub without-made : (engine : EngineRecord) (at : ℕ) → at ≡ slotOfTicket (oldestTicket engine) (engine .slots) → (b : Batch) → b ≡ oldest engine →
     (clients : List Client) → clients ≡ pendingLowered (engine .clients) (b .client) → (slots : List Slot) → slots ≡ set (engine .slots) at free →
-    (read : ℕ) → read ≡ wrapOffset (engine .setup .ring) (engine .read + b .length) →
-    record { setup = engine .setup; clients = clients; slots = slots; read = read; next = engine .next; staged = engine .staged } ≡ withoutOldest engine
+    (read : ℕ) → read ≡ wrapOffset (engine .setup .ring) (engine .«read_offset» + b .length) →
+    record { setup = engine .setup; clients = clients; slots = slots; «read_offset» = read; «next_ticket» = engine .«next_ticket»; staged = engine .staged } ≡ withoutOldest engine
 unfolding withoutOldest
 without-made engine at ea b eb clients ec slots es read er = rw (ec, es, er, ea, eb)
 

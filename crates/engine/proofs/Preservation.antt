@@ -9,16 +9,16 @@ use lib.ListN.{length, getD, length-set}
 use Rattle.word.specs.Word.{words}
 use Rattle.ring.specs.Segment.{segment, LiesInRing}
 use Rattle.ring.proofs.Segment.{batch-words}
-use Rattle.record.specs.declared.Batch.{Batch}
-use Rattle.record.specs.declared.EngineRecord.{EngineRecord}
-use Rattle.record.specs.Slots.{free}
-use Rattle.record.specs.Tickets.{slotOfTicket}
-use Rattle.record.specs.Clients.{noClient, isOpen}
-use Rattle.record.specs.Queue.{readySlots, waiting}
-use Rattle.record.specs.Rules.{valid}
-use Rattle.record.proofs.Line.{held}
-use Rattle.record.proofs.Rules.{LengthGood, valid-facts}
-use Rattle.record.proofs.Taken.{first, taken, waiting-first, first-at, taken-valid, taken-waiting}
+use Rattle.engine_record.specs.declared.Batch.{Batch}
+use Rattle.engine_record.specs.declared.EngineRecord.{EngineRecord}
+use Rattle.engine_record.specs.Slots.{free}
+use Rattle.engine_record.specs.Tickets.{slotOfTicket}
+use Rattle.engine_record.specs.Clients.{noClient, isOpen}
+use Rattle.engine_record.specs.Queue.{readySlots, waiting}
+use Rattle.engine_record.specs.Rules.{valid}
+use Rattle.engine_record.proofs.Line.{held}
+use Rattle.engine_record.proofs.Rules.{LengthGood, valid-facts}
+use Rattle.engine_record.proofs.Taken.{first, taken, waiting-first, first-at, taken-valid, taken-waiting}
 use Rattle.queue.proofs.Validity.{Sized}
 use Rattle.queue.proofs.Preservation.{unless-keeps}
 use Rattle.engine.specs.declared.Outcome.{Outcome}
@@ -55,7 +55,7 @@ unfolding withoutOldest
 run-sized engine s = record {
   clients = length-set (engine .clients) (oldest engine .client) (record { window = getD (engine .clients) (oldest engine .client) noClient .window; pending = getD (engine .clients) (oldest engine .client) noClient .pending - 1; opened = getD (engine .clients) (oldest engine .client) noClient .opened }) ∙ s .clients;
   slots = length-set (engine .slots) (slotOfTicket (oldestTicket engine) (engine .slots)) free ∙ s .slots;
-  next = s .next;
+  next-ticket = s .next-ticket;
 }
 
 -- k batches are ready beside it
@@ -76,11 +76,11 @@ module _ (engine : EngineRecord) (s : Sized engine) (ok : valid engine ≡ true)
   waits : waiting engine ≡ oldest engine ∷ waiting (withoutOldest engine)
   waits = rw (taken-is, is) (waiting-first engine ok k more less (s .clients) ∙ rw (taken-waiting engine ok k more less (s .clients)))
 
-  at-read : oldest engine .offset ≡ engine .read
+  at-read : oldest engine .offset ≡ engine .«read_offset»
   at-read = rw is (first-at engine ok k more less (s .clients))
 
 -- set-up numbers, the next ticket and the staged submission are as they were
-pub run-kept : (engine : EngineRecord) → (withoutOldest engine .setup ≡ engine .setup) × (withoutOldest engine .next ≡ engine .next) × (withoutOldest engine .staged ≡ engine .staged)
+pub run-kept : (engine : EngineRecord) → (withoutOldest engine .setup ≡ engine .setup) × (withoutOldest engine .«next_ticket» ≡ engine .«next_ticket») × (withoutOldest engine .staged ≡ engine .staged)
 unfolding withoutOldest
 run-kept engine = (refl, refl, refl)
 
@@ -100,7 +100,7 @@ module _ (engine : EngineRecord) (s : Sized engine) (given lent : ℕ) (a : RunA
   run-waiting = waits engine s (a .ok) behind more
 
   -- it lies at the read offset, with a length that submit allows
-  pub oldest-at : oldest engine .offset ≡ engine .read
+  pub oldest-at : oldest engine .offset ≡ engine .«read_offset»
   oldest-at = at-read engine s (a .ok) behind more
 
   pub oldest-good : LengthGood (engine .setup .ring) (oldest engine .length)

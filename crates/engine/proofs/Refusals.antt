@@ -6,9 +6,9 @@ use native.Mathlib.Omega.{arith}
 use lib.Dec.{eqb}
 use borrow.Author.Tests.{eqb-true, eqb-false, not-false}
 use Rattle.word.proofs.Tests.{or-false}
-use Rattle.record.specs.declared.EngineRecord.{EngineRecord}
-use Rattle.record.specs.Queue.{readySlots}
-use Rattle.record.specs.Rules.{valid}
+use Rattle.engine_record.specs.declared.EngineRecord.{EngineRecord}
+use Rattle.engine_record.specs.Queue.{readySlots}
+use Rattle.engine_record.specs.Rules.{valid}
 use Rattle.queue.specs.Refusals.{firstRefusal}
 use Rattle.queue.proofs.Refusals.{clear}
 use Rattle.engine.specs.Run.{runTable}

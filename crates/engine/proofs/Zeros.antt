@@ -8,11 +8,11 @@ use lib.Seq.{ext-getD}
 use borrow.Rule.Slice.PartMut.{putMid}
 use Rattle.range.specs.declared.Range.{Range}
 use Rattle.lanes.specs.Lanes.{Done}
-use Rattle.record.specs.declared.Window.{Window}
-use Rattle.record.specs.declared.EngineRecord.{EngineRecord}
-use Rattle.record.specs.Clients.{clientAt, windowRange}
-use Rattle.record.proofs.Rules.{valid-facts}
-use Rattle.record.proofs.Windows.{window-placed}
+use Rattle.engine_record.specs.declared.Window.{Window}
+use Rattle.engine_record.specs.declared.EngineRecord.{EngineRecord}
+use Rattle.engine_record.specs.Clients.{clientAt, windowRange}
+use Rattle.engine_record.proofs.Rules.{valid-facts}
+use Rattle.engine_record.proofs.Windows.{window-placed}
 use Rattle.queue.proofs.Refusals.{CloseAllowed}
 use Rattle.queue.proofs.Calls.{unless-no, unless-yes}
 use Rattle.engine.specs.Close.{zeroed, closeNumber, closeMemory}

@@ -1,26 +1,27 @@
 -- Run (01, "Engine, desks, queue": "Run takes the oldest batch", judges it and draws it, "frees its slot and ring bytes, and answers desk,
 -- ticket, status, fault and place"), for every record, ring and memory. Of a faulty batch "tasks before the faulty one stand" (02, 5). A refusal
 -- leaves record and memory as they were. The ring is lent to be read: "Run changes no ring byte."
+use mathlib.Core.Path.{_≡_}
 use mathlib.Core.List.{List, [], _∷_}
-use mathlib.Core.Bool.{_||_, not}
+use mathlib.Core.Bool.{Bool, _||_, not}
 use Prim.Native.Nat.{ℕ, zero, suc, _+_, _-_}
 use lib.ListN.{length, getD, set}
 use lib.Dec.{eqb}
 use Rattle.ring.specs.Segment.{batchWords, wrapOffset}
 use Rattle.register.specs.declared.bank.Bank.{Bank}
 use Rattle.register.specs.Bank.{resetBank}
-use Rattle.rules.specs.declared.task.Bounds.{Bounds}
+use Rattle.task_check.specs.declared.task.Bounds.{Bounds}
 use Rattle.batch.specs.declared.verdict.Verdict.{Verdict}
 use Rattle.batch.specs.Batch.{decodeBatch, verdictOf}
 use Rattle.raster.specs.Batch.{drawBatch}
-use Rattle.record.specs.declared.Client.{Client}
-use Rattle.record.specs.declared.Batch.{Batch}
-use Rattle.record.specs.declared.EngineRecord.{EngineRecord}
-use Rattle.record.specs.Slots.{free}
-use Rattle.record.specs.Tickets.{ticketBefore, slotOfTicket, batchOfTicket}
-use Rattle.record.specs.Clients.{noClient, clientAt, windowRange}
-use Rattle.record.specs.Queue.{readySlots}
-use Rattle.record.specs.Rules.{valid}
+use Rattle.engine_record.specs.declared.Client.{Client}
+use Rattle.engine_record.specs.declared.Batch.{Batch}
+use Rattle.engine_record.specs.declared.EngineRecord.{EngineRecord}
+use Rattle.engine_record.specs.Slots.{free}
+use Rattle.engine_record.specs.Tickets.{ticketBefore, slotOfTicket, batchOfTicket}
+use Rattle.engine_record.specs.Clients.{noClient, clientAt, windowRange}
+use Rattle.engine_record.specs.Queue.{readySlots}
+use Rattle.engine_record.specs.Rules.{valid}
 use Rattle.queue.specs.Refusals.{RefusalRow, _when_, firstRefusal}
 use Rattle.queue.specs.Calls.{unlessRefused}
 use Rattle.engine.specs.declared.Outcome.{Outcome}
@@ -43,14 +44,14 @@ runNumber engine ring memory = firstRefusal (runTable engine (length ring) (leng
 
 -- of n ready batches the oldest has the ticket n before the next to be given
 abbrev pub oldestTicket : EngineRecord → ℕ
-oldestTicket engine = ticketBefore (engine .next) (readySlots engine)
+oldestTicket engine = ticketBefore (engine .«next_ticket») (readySlots engine)
 
 abbrev pub oldest : EngineRecord → Batch
 oldest engine = batchOfTicket (oldestTicket engine) (engine .slots)
 
 -- its client's window, and common
 abbrev pub boundsOfClient : EngineRecord → (client : ℕ) → Bounds
-boundsOfClient engine client = record { window = windowRange (clientAt engine client .window); common = engine .setup .common }
+boundsOfClient engine client = record { window = windowRange (clientAt engine client .window); «common_length» = engine .setup .common }
 
 -- its words, in order
 abbrev pub oldestWords : EngineRecord → (ring : List ℕ) → List ℕ
@@ -75,8 +76,8 @@ withoutOldest engine = record {
   setup = engine .setup;
   clients = pendingLowered (engine .clients) (oldest engine .client);
   slots = set (engine .slots) (slotOfTicket (oldestTicket engine) (engine .slots)) free;
-  read = wrapOffset (engine .setup .ring) (engine .read + oldest engine .length);
-  next = engine .next;
+  «read_offset» = wrapOffset (engine .setup .ring) (engine .«read_offset» + oldest engine .length);
+  «next_ticket» = engine .«next_ticket»;
   staged = engine .staged;
 }
 
@@ -97,3 +98,7 @@ runResult engine ring memory =
 unfoldable pub runMemory : EngineRecord → (ring memory : List ℕ) → List ℕ
 runMemory engine ring memory =
     unlessRefused (runNumber engine ring memory) memory (drawBatch (boundsOfClient engine (oldest engine .client)) (resetOf engine) (oldestWords engine ring) memory)
+
+-- what a run gives and the memory that it leaves, by the slow engine or by the fast one (02, request 13): the same is promised of both
+abbrev pub RunBy : (slow : Bool) → EngineRecord → (ring memory : List ℕ) → RunResult → (left : List ℕ) → Type 0
+RunBy slow engine ring memory result left = (result ≡ runResult engine ring memory) × (left ≡ runMemory engine ring memory)

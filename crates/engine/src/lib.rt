@@ -1,6 +1,6 @@
 // What run answers. What run and close do is said here, by definitions and laws; the code stands above, in `dequeue`, `run` and `closing`.
 use batch::Verdict;
-use record::EngineRecord;
+use engine_record::EngineRecord;
 
 // What run answers of the batch that it took. The verdict holds the fault, if there is one.
 pub struct Completion {

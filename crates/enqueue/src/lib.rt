@@ -3,22 +3,22 @@ ghost use mathlib.Core.Path.{_≡_};
 ghost use mathlib.Core.Bool.{true};
 ghost use Prim.Native.Nat.{_≤_, _<_};
 ghost use lib.ListN.{getD, set};
-ghost use Rattle.record.specs.Slots.{readyWith};
-ghost use Rattle.record.specs.Tickets.{ticketAfter};
-ghost use Rattle.record.specs.Clients.{noClient, clientAt};
-ghost use Rattle.record.specs.Queue.{readySlots, readyBytes, takenSlots, freeBytes, writeOffset};
-ghost use Rattle.record.specs.Staged.{stagedSlots};
-ghost use Rattle.record.specs.Rules.{valid};
-ghost use Rattle.record.specs.Checking.{checkedOf};
+ghost use Rattle.engine_record.specs.Slots.{readyWith};
+ghost use Rattle.engine_record.specs.Tickets.{ticketAfter};
+ghost use Rattle.engine_record.specs.Clients.{noClient, clientAt};
+ghost use Rattle.engine_record.specs.Queue.{readySlots, readyBytes, takenSlots, freeBytes, writeOffset};
+ghost use Rattle.engine_record.specs.Staged.{stagedSlots};
+ghost use Rattle.engine_record.specs.Rules.{valid};
+ghost use Rattle.engine_record.specs.Checking.{checkedOf};
 ghost use Rattle.queue.specs.Refusals.{firstRefusal, submitTable};
 ghost use Rattle.queue.specs.Calls.{pendingRaised, withBatch};
-use record::Batch;
-use record::Checked;
-use record::Client;
-use record::EngineRecord;
-use record::Slot;
-use record::SlotState;
-use record::Staged;
+use engine_record::Batch;
+use engine_record::Checked;
+use engine_record::Client;
+use engine_record::EngineRecord;
+use engine_record::Slot;
+use engine_record::SlotState;
+use engine_record::Staged;
 
 // The ring bytes that are free; `ready` is how many the ready batches have.
 fn free_bytes(engine: EngineRecord, ready: usize) -> usize
@@ -55,7 +55,7 @@ pub fn write_offset(engine: EngineRecord, ready: usize) -> usize
     ensures { λ r. ⌜ r ≡ writeOffset engine ⌝ }
 {
     let setup = engine.setup;
-    record::wrap_offset(setup.ring, engine.read + ready)
+    engine_record::wrap_offset(setup.ring, engine.read_offset + ready)
 }
 
 // What submit and begin are refused with, 0 if they are not; `found` is what the check of the record found.
@@ -78,14 +78,14 @@ pub fn submit_refusal(
     let taken = taken_slots(engine, found.ready);
     let no8 = queue::first_refusal(free_bytes(engine, found.bytes) < size, 8, 0);
     let no7 = queue::first_refusal(8 <= taken, 7, no8);
-    let no6 = queue::first_refusal(record::bad_length(ring, size), 6, no7);
+    let no6 = queue::first_refusal(engine_record::bad_length(ring, size), 6, no7);
     let no13 = queue::first_refusal(!(staged.total == 0), 13, no6);
-    let no5 = queue::first_refusal(!record::is_open(engine, client), 5, no13);
+    let no5 = queue::first_refusal(!windows::is_open(engine, client), 5, no13);
     queue::first_refusal(!(given == ring), 10, no5)
 }
 
 // One batch more pending for a client.
-fn raise(clients: [Client; 4], client: u32) -> [Client; 4]
+fn raise_pending(clients: [Client; 4], client: u32) -> [Client; 4]
     requires { ⌜ (client < 4) × (getD clients client noClient .pending ≤ 8) ⌝ }
     ensures { λ r. ⌜ r ≡ pendingRaised clients client ⌝ }
 {
@@ -102,7 +102,7 @@ fn raise(clients: [Client; 4], client: u32) -> [Client; 4]
 }
 
 // The batch in a slot.
-fn fill(slots: [Slot; 8], at: usize, batch: Batch) -> [Slot; 8]
+fn with_slot_ready(slots: [Slot; 8], at: usize, batch: Batch) -> [Slot; 8]
     requires { ⌜ at < 8 ⌝ }
     ensures { λ r. ⌜ r ≡ set slots at (readyWith batch) ⌝ }
 {
@@ -127,12 +127,12 @@ pub fn with_batch(engine: EngineRecord, at: usize, batch: Batch) -> EngineRecord
 {
     let clients = engine.clients;
     let slots = engine.slots;
-    let raised = raise(clients, batch.client);
-    let filled = fill(slots, at, batch);
+    let raised = raise_pending(clients, batch.client);
+    let filled = with_slot_ready(slots, at, batch);
     let mut after = engine;
     after.clients = raised;
     after.slots = filled;
-    after.next = next_ticket(engine.next);
-    after.staged = record::no_staged();
+    after.next_ticket = next_ticket(engine.next_ticket);
+    after.staged = engine_record::no_staged();
     after
 }

@@ -8,8 +8,8 @@ ghost use Rattle.lines.specs.Lines.{fileReset};
 ghost use Rattle.batch.specs.Batch.{decodeBatch};
 ghost use Rattle.provenance.specs.Faulted.{groupAfter, registerAt, heldSurface, heldSteps, heldIn, detailOf, explained};
 use batch::Verdict;
-use batch::validate;
-use batch::word_at;
+use decoder::validate;
+use decoder::word_at;
 use gradient::Steps;
 use provenance::Detail;
 use provenance::Explanation;
@@ -19,8 +19,8 @@ use register::Bank;
 use register::SurfaceRegisters;
 use reset::ResetRule;
 use ring::word_count;
-use rules::Bounds;
-use rules::Fault;
+use task_check::Bounds;
+use task_check::Fault;
 
 // A group after one more word: a header if none was to come.
 fn onward(group: Group, word: u32) -> Group

@@ -5,7 +5,7 @@ ghost use Prim.Native.Nat.{_+_, _*_, _≤_};
 ghost use lib.ListN.{length};
 ghost use Rattle.pixel.specs.Formats.{bytesPerPixel};
 ghost use Rattle.surface.specs.Drawn.{loadPixel};
-ghost use Rattle.rows.specs.Row.{HoldsColours, colourAt, sourcePixelOf, FetchInBounds, rowStored, RowIsWide};
+ghost use Rattle.row_pixels.specs.Row.{HoldsColours, colourAt, sourcePixelOf, FetchInBounds, rowStored, RowIsWide};
 use argb_words::fill_words;
 use argb_words::word_of;
 use byte_rows::copy;
@@ -13,17 +13,17 @@ use convert_565::from_565;
 use convert_888::from_888;
 use pixel::Colour;
 use pixel::Format;
-use rows::is_identity_row;
-use rows::is_reversed;
-use rows::origin;
-use rows::pixel_stride;
-use strided_rows::fetch_steps;
+use row_pixels::is_identity_row;
+use row_pixels::is_reversed;
+use row_pixels::origin;
+use row_pixels::pixel_stride;
+use strided_rows::fetch_strided;
 use surface::Surface;
 use transform::Rotation;
 use transform::Transform;
 
 // Puts a colour in the first pixels of a buffer.
-pub fn spread(buffer: &mut [u8], width: usize, c: Colour)
+pub fn fill_buffer(buffer: &mut [u8], width: usize, c: Colour)
     requires { ⌜ width * 4 ≤ length (now buffer) ⌝ }
     ensures { λ _. ⌜ HoldsColours (now (buffer .exit)) width (λ x. c) ⌝ }
 {
@@ -63,7 +63,7 @@ pub fn fetch_row(buffer: &mut [u8], width: usize, memory: &[u8], start: usize, f
 }
 
 // Fetches the pixels of a surface that are the first of output row y: they lie side by side.
-fn fetch_straight(
+fn fetch_contiguous_row(
     buffer: &mut [u8],
     width: usize,
     memory: &[u8],
@@ -83,7 +83,7 @@ fn fetch_straight(
 }
 
 // Fetches the pixels of a surface that are the first of output row y: they lie one step apart.
-fn fetch_turned(
+fn fetch_strided_row(
     buffer: &mut [u8],
     width: usize,
     memory: &[u8],
@@ -102,11 +102,11 @@ fn fetch_turned(
     let start = origin(s, transform, 0, y);
     let step = pixel_stride(s, rotation);
     let back = is_reversed(transform);
-    fetch_steps(buffer, width, memory, start, step, back, format);
+    fetch_strided(buffer, width, memory, start, step, back, format);
 }
 
 // Fetches the pixels of a surface that are the first of output row y.
-pub fn fetch_along(
+pub fn fetch_transformed(
     buffer: &mut [u8],
     width: usize,
     memory: &[u8],
@@ -118,8 +118,8 @@ pub fn fetch_along(
     ensures { λ _. ⌜ HoldsColours (now (buffer .exit)) width (λ x. colourAt s (now (memory .entry)) (sourcePixelOf s transform x y)) ⌝ }
 {
     if is_identity_row(transform) {
-        fetch_straight(buffer, width, memory, s, transform, y);
+        fetch_contiguous_row(buffer, width, memory, s, transform, y);
         return;
     }
-    fetch_turned(buffer, width, memory, s, transform, y);
+    fetch_strided_row(buffer, width, memory, s, transform, y);
 }

@@ -3,7 +3,7 @@ ghost use Prim.Native.Nat.{_*_, _≤_};
 ghost use lib.ListN.{length};
 ghost use Rattle.transform.specs.Transform.{mirrored};
 ghost use Rattle.gradient.specs.Gradient.{gradientColour};
-ghost use Rattle.rows.specs.Row.{HoldsColours};
+ghost use Rattle.row_pixels.specs.Row.{HoldsColours};
 use argb_words::store_word;
 use argb_words::word_of;
 use gradient::Steps;

@@ -15,7 +15,7 @@ use Rattle.word.specs.Word.{words}
 use Rattle.word.proofs.Tests.{split}
 use Rattle.ring.specs.Segment.{batchWords}
 use Rattle.lines.specs.Lines.{fileReset}
-use Rattle.rules.specs.declared.task.Bounds.{Bounds}
+use Rattle.task_check.specs.declared.task.Bounds.{Bounds}
 use Rattle.batch.specs.Batch.{decodeBatch, tasksDrawn}
 use Rattle.claims.specs.BatchSemantics.{boundsOf}
 use Rattle.records.specs.declared.Stage.the-variants.{Version}
@@ -23,7 +23,7 @@ use Rattle.records.specs.declared.Found.{Found}
 use Rattle.records.specs.declared.Found.the-variants.{Nothing, Record, BadVersion, BadRecord}
 use Rattle.records.specs.declared.Taken.{Taken}
 use Rattle.records.specs.Records.{Entry, File, records}
-use Rattle.records.specs.Reading.{fileAt, entryIn, onto, Ready, Takes}
+use Rattle.records.specs.Reading.{fileAt, entryIn, onto, ReaderReady, Takes}
 use Rattle.records.proofs.Onward.{ends-here}
 use Rattle.acceptance.proofs.Taken.{taken-facts, whole-words}
 use Rattle.lines.specs.Answered.{recordRefusal, replayWindow, countAfter}
@@ -36,8 +36,8 @@ use Rattle.inquiry.specs.declared.FeedResult.{FeedResult}
 use Rattle.provenance.specs.Drawn.{Drawn, numbered, drawnBy, drawnFrom}
 use Rattle.provenance.specs.Touched.{lastFrom, touchedBy}
 use Rattle.provenance.specs.Faulted.{explained, whyFrom, faultedBy}
-use Rattle.provenance.specs.Answers.{toldTouched, toldFault, touchedAnswer, faultAnswer}
-use Rattle.inquiry.specs.Inquiry.{findingAfter, findingFrom, nothingYet, Answers, answersOf, Stands, Feeds, findingNext, findingOn}
+use Rattle.provenance.specs.Answers.{answerTouched, answerFault, touchedAnswer, faultAnswer}
+use Rattle.inquiry.specs.Inquiry.{findingAfter, findingFrom, nothingYet, Answers, inquiryAnswers, Stands, InquiryFeedContract, findingNext, findingOn}
 
 -- ---- one record more
 
@@ -88,21 +88,21 @@ module _ (q : Question) where
   found-records f (entry ∷ entries) = found-records (findingAfter q f entry) entries ∙ omega arith
 
   -- so the answers of all records are those of the file
-  pub answers-file : (file : File) → answersOf q (findingFrom q nothingYet (file .entries)) ≡ record { touched = touchedAnswer file (q .address); fault = faultAnswer file (q .ticket) }
-  unfolding answersOf touchedBy faultedBy
+  pub answers-file : (file : File) → inquiryAnswers q (findingFrom q nothingYet (file .entries)) ≡ record { touched = touchedAnswer file (q .address); fault = faultAnswer file (q .ticket) }
+  unfolding inquiryAnswers touchedBy faultedBy
   answers-file file =
       let count : findingFrom q nothingYet (file .entries) .records ≡ length (file .entries) = found-records nothingYet (file .entries) ∙ omega arith in
       rw (count, found-touched nothingYet (file .entries), found-why nothingYet (file .entries))
 
   -- ---- over 1,024 records both questions are refused
 
-  refused-all : (f g : Finding) → 1024 < f .records → 1024 < g .records → answersOf q f ≡ answersOf q g
-  unfolding answersOf
+  refused-all : (f g : Finding) → 1024 < f .records → 1024 < g .records → inquiryAnswers q f ≡ inquiryAnswers q g
+  unfolding inquiryAnswers
   refused-all f g h k = rw (lt-ltb 1024 (f .records) h, lt-ltb 1024 (g .records) k)
 
   -- so then one record more changes nothing
   pub over-already : (f : Finding) (entry : Entry) (entries : List Entry) → 1024 < f .records
-      → answersOf q (findingFrom q f (entry ∷ entries)) ≡ answersOf q (findingFrom q f entries)
+      → inquiryAnswers q (findingFrom q f (entry ∷ entries)) ≡ inquiryAnswers q (findingFrom q f entries)
   over-already f entry entries h =
       refused-all (findingFrom q f (entry ∷ entries)) (findingFrom q f entries) (omega (arith, found-records f (entry ∷ entries))) (omega (arith, found-records f entries))
 
@@ -121,11 +121,11 @@ module _ (q : Question) where
         go true = counts
         go false = count-most (eqb (recordRefusal entry) 0) (f .accepted) (f .records) counts
 
-    next-answers : (entry : Entry) (entries : List Entry) → answersOf q (findingFrom q f (entry ∷ entries)) ≡ answersOf q (findingFrom q (findingNext q f entry) entries)
+    next-answers : (entry : Entry) (entries : List Entry) → inquiryAnswers q (findingFrom q f (entry ∷ entries)) ≡ inquiryAnswers q (findingFrom q (findingNext q f entry) entries)
     unfolding findingFrom
     next-answers entry entries = go (split 1024 (f .records))
       where
-        go : (1024 < f .records) ⊎ (f .records ≤ 1024) → answersOf q (findingFrom q f (entry ∷ entries)) ≡ answersOf q (findingFrom q (findingNext q f entry) entries)
+        go : (1024 < f .records) ⊎ (f .records ≤ 1024) → inquiryAnswers q (findingFrom q f (entry ∷ entries)) ≡ inquiryAnswers q (findingFrom q (findingNext q f entry) entries)
         go (inl h) = rw (lt-ltb 1024 (f .records) h) (over-already f entry entries h)
         go (inr h) = rw (le-ltb 1024 (f .records) h, le-ltb 1024 (f .accepted) (omega arith))
 
@@ -135,7 +135,7 @@ module _ (q : Question) where
     on-counts BadVersion held = counts
     on-counts BadRecord held = counts
 
-    on-answers : (found : Found) (held : List ℕ) (rest : File) → answersOf q (findingFrom q f (onto found held rest .entries)) ≡ answersOf q (findingFrom q (findingOn q f found held) (rest .entries))
+    on-answers : (found : Found) (held : List ℕ) (rest : File) → inquiryAnswers q (findingFrom q f (onto found held rest .entries)) ≡ inquiryAnswers q (findingFrom q (findingOn q f found held) (rest .entries))
     on-answers Nothing held rest = refl
     on-answers (Record end) held rest = next-answers (entryIn held end) (rest .entries)
     on-answers BadVersion held rest = refl
@@ -143,7 +143,7 @@ module _ (q : Question) where
 
   pub feeds-by : (seen held input held′ : List ℕ) (s : Inquiry) (t : Taken) (fed : FeedResult) (g : Finding) → g ≡ findingOn q (s .finding) (t .found) held′
       → fed ≡ record { inquiry = record { reader = t .reader; finding = g }; used = t .used }
-      → (Ready First (s .reader) held → Takes First (s .reader) held input t held′) → Stands q seen s held → Feeds q seen input fed held′
+      → (ReaderReady First (s .reader) held → Takes First (s .reader) held input t held′) → Stands q seen s held → InquiryFeedContract q seen input fed held′
   feeds-by seen held input held′ s t fed g g-is fed-is takes S =
       let T = takes (S .ready) in
       let bytes : List ℕ = take (t .used) input in
@@ -152,37 +152,37 @@ module _ (q : Question) where
           ready = T .ready;
           counts = on-counts (s .finding) (S .counts) (t .found) held′;
           answers = λ rest.
-              ap (λ (xs : List ℕ). answersOf q (findingFrom q nothingYet (records First xs .entries))) (append-assoc seen bytes rest)
+              ap (λ (xs : List ℕ). inquiryAnswers q (findingFrom q nothingYet (records First xs .entries))) (append-assoc seen bytes rest)
               ∙ S .answers (bytes ++ rest)
-              ∙ ap (λ (file : File). answersOf q (findingFrom q (s .finding) (file .entries))) (T .file rest)
+              ∙ ap (λ (file : File). inquiryAnswers q (findingFrom q (s .finding) (file .entries))) (T .file rest)
               ∙ on-answers (s .finding) (S .counts) (t .found) held′ (fileAt First (t .reader) held′ rest);
         };
         some = T .some;
       })
 
-  pub starts-by : (held : List ℕ) (s : Inquiry) → s ≡ record { reader = record { stage = Version; held = 0 }; finding = nothingYet } → 32773 ≤ length held → Stands q [] s held
+  pub starts-by : (held : List ℕ) (s : Inquiry) → s ≡ record { reader = record { stage = Version; buffered = 0 }; finding = nothingYet } → 32773 ≤ length held → Stands q [] s held
   starts-by held s is room = rw is (record { ready = record { room = room; few = omega arith; due = tt }; counts = omega arith; answers = λ rest. refl })
 
   -- at the end no byte follows
   pub ends-by : (seen held : List ℕ) (s : Inquiry) → Stands q seen s held
-      → answersOf q (s .finding) ≡ record { touched = touchedAnswer (records First seen) (q .address); fault = faultAnswer (records First seen) (q .ticket) }
+      → inquiryAnswers q (s .finding) ≡ record { touched = touchedAnswer (records First seen) (q .address); fault = faultAnswer (records First seen) (q .ticket) }
   unfolding findingFrom
   ends-by seen held s S =
-      ap (λ (es : List Entry). answersOf q (findingFrom q (s .finding) es)) (sym (ends-here First (s .reader) held (S .ready)))
+      ap (λ (es : List Entry). inquiryAnswers q (findingFrom q (s .finding) es)) (sym (ends-here First (s .reader) held (S .ready)))
       ∙ sym (S .answers [])
-      ∙ ap (λ (xs : List ℕ). answersOf q (findingFrom q nothingYet (records First xs .entries))) (append-nil seen)
+      ∙ ap (λ (xs : List ℕ). inquiryAnswers q (findingFrom q nothingYet (records First xs .entries))) (append-nil seen)
       ∙ answers-file (records First seen)
 
 -- ---- the answers, with their refusals
 
 module _ (q : Question) (s : Inquiry) (seen held : List ℕ) (S : Stands q seen s held) where
-  pub touched-told : toldTouched (s .finding .records) (q .address) (s .finding .touched) ≡ touchedAnswer (records First seen) (q .address)
-  unfolding answersOf
-  touched-told = ap (λ (a : Answers). a .touched) (ends-by q seen held s S)
+  pub touched-answered : answerTouched (s .finding .records) (q .address) (s .finding .touched) ≡ touchedAnswer (records First seen) (q .address)
+  unfolding inquiryAnswers
+  touched-answered = ap (λ (a : Answers). a .touched) (ends-by q seen held s S)
 
-  pub fault-told : toldFault (s .finding .records) (s .finding .why) ≡ faultAnswer (records First seen) (q .ticket)
-  unfolding answersOf
-  fault-told = ap (λ (a : Answers). a .fault) (ends-by q seen held s S)
+  pub fault-answered : answerFault (s .finding .records) (s .finding .why) ≡ faultAnswer (records First seen) (q .ticket)
+  unfolding inquiryAnswers
+  fault-answered = ap (λ (a : Answers). a .fault) (ends-by q seen held s S)
 
 -- ---- a piece
 
@@ -194,7 +194,7 @@ module _ (q : Question) (seen piece : List ℕ) (used : ℕ) (fed : FeedResult) 
   left-is : left ≡ drop used piece
   left-is = take-all (length piece - used) (drop used piece) (omega (arith, length-drop used piece))
 
-  pub piece-again : Feeds q (seen ++ take used piece) left fed held′ → Stands q (seen ++ take (used + fed .used) piece) (fed .inquiry) held′
+  pub piece-again : InquiryFeedContract q (seen ++ take used piece) left fed held′ → Stands q (seen ++ take (used + fed .used) piece) (fed .inquiry) held′
   piece-again F =
       let bytes : (seen ++ take used piece) ++ take (fed .used) left ≡ seen ++ take (used + fed .used) piece =
       append-assoc seen (take used piece) (take (fed .used) left)
@@ -202,7 +202,7 @@ module _ (q : Question) (seen piece : List ℕ) (used : ℕ) (fed : FeedResult) 
       ∙ ap (λ (xs : List ℕ). seen ++ xs) (sym (take-add used (fed .used) piece)) in
       subst (λ (xs : List ℕ). Stands q xs (fed .inquiry) held′) bytes (F .stands)
 
-  pub piece-some : used < length piece → Feeds q (seen ++ take used piece) left fed held′ → fed .used ≡ 0 → ⊥
+  pub piece-some : used < length piece → InquiryFeedContract q (seen ++ take used piece) left fed held′ → fed .used ≡ 0 → ⊥
   piece-some more F none = let some : 1 ≤ fed .used = F .some (rw left-is (omega (arith, length-drop used piece))) in omega arith
 
 pub piece-none : (q : Question) (seen piece : List ℕ) (s : Inquiry) (held : List ℕ) → Stands q seen s held → Stands q (seen ++ take 0 piece) s held

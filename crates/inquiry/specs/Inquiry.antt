@@ -11,7 +11,7 @@ use Rattle.word.specs.Word.{words}
 use Rattle.records.specs.Records.{Entry, records}
 use Rattle.records.specs.declared.Found.{Found}
 use Rattle.records.specs.declared.Found.the-variants.{Nothing, Record, BadVersion, BadRecord}
-use Rattle.records.specs.Reading.{fileAt, entryIn, Ready}
+use Rattle.records.specs.Reading.{fileAt, entryIn, ReaderReady}
 use Rattle.lines.specs.Answered.{recordRefusal, ticketOfCount, countAfter}
 use Rattle.provenance.specs.declared.Touched.the-variants.{NotDrawn}
 use Rattle.provenance.specs.declared.Why.the-variants.{NoFault}
@@ -24,7 +24,7 @@ use Rattle.inquiry.specs.declared.Inquiry.{Inquiry}
 use Rattle.inquiry.specs.declared.FeedResult.{FeedResult}
 use Rattle.provenance.specs.declared.TouchedAnswer.{TouchedAnswer}
 use Rattle.provenance.specs.declared.FaultAnswer.{FaultAnswer}
-use Rattle.provenance.specs.Answers.{toldTouched, toldFault}
+use Rattle.provenance.specs.Answers.{answerTouched, answerFault}
 
 -- ---- a record at a time
 
@@ -48,20 +48,20 @@ pub record Answers : Type 0 where
   pub touched : TouchedAnswer
   pub fault : FaultAnswer
 
-unfoldable pub answersOf : Question → Finding → Answers
-answersOf q f = record { touched = toldTouched (f .records) (q .address) (f .touched); fault = toldFault (f .records) (f .why) }
+unfoldable pub inquiryAnswers : Question → Finding → Answers
+inquiryAnswers q f = record { touched = answerTouched (f .records) (q .address) (f .touched); fault = answerFault (f .records) (f .why) }
 
 -- ---- a piece at a time
 
 -- after these bytes of a file: whatever follows them, the answers of the whole file are those from here on
 pub record Stands (q : Question) (seen : List ℕ) (s : Inquiry) (held : List ℕ) : Type 0 where
-  pub ready : Ready First (s .reader) held
+  pub ready : ReaderReady First (s .reader) held
   pub counts : s .finding .accepted ≤ s .finding .records
   pub answers : (rest : List ℕ)
-      → answersOf q (findingFrom q nothingYet (records First (seen ++ rest) .entries)) ≡ answersOf q (findingFrom q (s .finding) (fileAt First (s .reader) held rest .entries))
+      → inquiryAnswers q (findingFrom q nothingYet (records First (seen ++ rest) .entries)) ≡ inquiryAnswers q (findingFrom q (s .finding) (fileAt First (s .reader) held rest .entries))
 
 -- after some input more, and it uses a byte of it if there is one
-pub record Feeds (q : Question) (seen : List ℕ) (input : List ℕ) (f : FeedResult) (held : List ℕ) : Type 0 where
+pub record InquiryFeedContract (q : Question) (seen : List ℕ) (input : List ℕ) (f : FeedResult) (held : List ℕ) : Type 0 where
   pub stands : Stands q (seen ++ take (f .used) input) (f .inquiry) held
   pub some : 1 ≤ length input → 1 ≤ f .used
 

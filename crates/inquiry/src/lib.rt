@@ -13,14 +13,14 @@ ghost use Rattle.batch.specs.Batch.{decodeBatch};
 ghost use Rattle.records.specs.Reading.{Lies};
 ghost use Rattle.provenance.specs.Faulted.{explained};
 ghost use Rattle.inquiry.specs.declared.Question.{Question};
-ghost use Rattle.inquiry.specs.Inquiry.{findingNext, findingOn, Stands, Feeds};
+ghost use Rattle.inquiry.specs.Inquiry.{findingNext, findingOn, Stands, InquiryFeedContract};
 use acceptance::Submitted;
 use provenance::Touched;
 use provenance::Why;
 use records::Edition;
 use records::Found;
 use records::Reader;
-use rules::Bounds;
+use task_check::Bounds;
 
 // What is asked: who drew the byte at this address, and why the batch with this ticket faulted.
 pub struct Question {
@@ -128,7 +128,7 @@ pub fn start() -> Inquiry
 // Takes some bytes of the input, at most those of one record. `held` is to be 32,773 bytes long.
 pub fn feed(question: Question, inquiry: Inquiry, held: &mut [u8], input: &[u8]) -> FeedResult
     ensures { λ r. ⌜ (r .used ≤ length (now (input .entry)))
-        × ((seen : List ℕ) → Stands question seen inquiry (now (held .entry)) → Feeds question seen (now (input .entry)) r (now (held .exit))) ⌝ }
+        × ((seen : List ℕ) → Stands question seen inquiry (now (held .entry)) → InquiryFeedContract question seen (now (input .entry)) r (now (held .exit))) ⌝ }
 {
     let reader = inquiry.reader;
     let finding = inquiry.finding;

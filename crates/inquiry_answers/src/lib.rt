@@ -17,7 +17,7 @@ pub fn who_touched(question: Question, inquiry: Inquiry) -> TouchedAnswer
 {
     let finding = inquiry.finding;
     let touched = finding.touched;
-    provenance::tell_touched(finding.records, question.address, touched)
+    provenance::answer_touched(finding.records, question.address, touched)
 }
 
 // Why the batch with the ticket faulted, at the end of the file.
@@ -26,5 +26,5 @@ pub fn why_faulted(question: Question, inquiry: Inquiry) -> FaultAnswer
 {
     let finding = inquiry.finding;
     let why = finding.why;
-    provenance::tell_fault(finding.records, why)
+    provenance::answer_fault(finding.records, why)
 }

@@ -16,6 +16,6 @@ pub record ReachedSome (q : Question) (s : Inquiry) : Type 0 where
   pub held : List ℕ
   pub reached : Reached q s held
 
-abbrev pub Reads : Question → Asked → Type 0
-Reads q Failed = Unit
-Reads q (Read s) = ReachedSome q s
+abbrev pub ReachedUnlessFailed : Question → Asked → Type 0
+ReachedUnlessFailed q Failed = Unit
+ReachedUnlessFailed q (Read s) = ReachedSome q s

@@ -1,8 +1,8 @@
 // A replay file read for its answers, and the answers written to standard output. No contract can say which bytes the system reads,
-// or what it does with those that it is to write; that the inquiry stands for some bytes is proved, and that what is handed over to be
-// written is the line of the answer.
+// or what it does with those that it is to write; that the inquiry stands for some bytes is proved, that the lent line holds the text of the
+// answer, and that as many bytes are handed over to be written.
 ghost use Rattle.answer_lines.specs.Lines.{touchedLine, faultLine, Types};
-ghost use Rattle.inquiry_io.specs.Reached.{Reached, Reads};
+ghost use Rattle.inquiry_io.specs.Reached.{Reached, ReachedUnlessFailed};
 use command::Printed;
 use inquiry::Inquiry;
 use inquiry::Question;
@@ -13,7 +13,7 @@ use provenance::TouchedAnswer;
 struct Progress {
     inquiry: Inquiry,
     more: bool,
-    well: bool,
+    ok: bool,
 }
 
 // Reads once, and feeds what came.
@@ -32,14 +32,14 @@ fn read_some(
         return Progress {
             inquiry,
             more: false,
-            well: got.well,
+            ok: got.ok,
         };
     }
     let after = inquiry::feed_piece(question, inquiry, held, &piece[..got.count]);
     Progress {
         inquiry: after,
         more: true,
-        well: true,
+        ok: true,
     }
 }
 
@@ -50,7 +50,7 @@ fn read_all(fd: i32, name: &[u8], question: Question, inquiry: Inquiry, held: &m
     let mut progress = Progress {
         inquiry,
         more: true,
-        well: true,
+        ok: true,
     };
     let mut turns = u64::MAX;
     let mut more = true;
@@ -70,7 +70,7 @@ pub enum Asked {
 }
 
 pub fn ask(question: Question) -> Asked
-    ensures { λ r. ⌜ Reads question r ⌝ }
+    ensures { λ r. ⌜ ReachedUnlessFailed question r ⌝ }
 {
     let mut held = [0u8; 32773];
     let mut path = io::buffer();
@@ -87,7 +87,7 @@ pub fn ask(question: Question) -> Asked
         &mut held,
     );
     libc::close(fd);
-    if !done.well {
+    if !done.ok {
         return Asked::Failed;
     }
     let inquiry = done.inquiry;

@@ -17,8 +17,8 @@ use Rattle.register.specs.declared.task.Source.{Source}
 use Rattle.register.specs.declared.task.SourceMode.{SourceMode}
 use Rattle.register.specs.declared.task.SourceMode.the-variants.{Buffer, Colour, GradientX, GradientY}
 use Rattle.register.specs.declared.task.Task.{Task}
-use Rattle.rules.specs.Rules.{sameFormat}
-use Rattle.rows.specs.Step.{isStraight}
+use Rattle.task_check.specs.Rules.{sameFormat}
+use Rattle.row_pixels.specs.Strided.{isIdentityRow}
 use Rattle.kinds.specs.declared.Finish.{Finish}
 use Rattle.kinds.specs.declared.Finish.the-variants.{Copied, InPlace, Blended}
 use Rattle.kinds.specs.declared.Kind.{Kind}
@@ -65,7 +65,7 @@ isSrcOver rule = isOne (rule .source) && isInverseSourceAlpha (rule .destination
 
 -- the source's rows can be taken byte by byte as they are: a buffer of the output's format, neither turned nor flipped from left to right
 unfoldable pub isMoved : Source → Surface → Bool
-isMoved s output = isBuffer (s .mode) && isStraight (s .transform .rotation) (s .transform .flip) && sameFormat (s .surface .format) (output .format)
+isMoved s output = isBuffer (s .mode) && isIdentityRow (s .transform .rotation) (s .transform .flip) && sameFormat (s .surface .format) (output .format)
 
 abbrev pub sourceInWindow : Range → Task → Bool
 sourceInWindow window t = containedIn (span (t .source .surface)) window

@@ -1,6 +1,6 @@
 // What kind the rows of a task are, and how rows that go by way of buffers become its output's. Both are decided once a task.
 ghost use mathlib.Core.Path.{_≡_};
-ghost use Rattle.rules.specs.Rules.{sameFormat};
+ghost use Rattle.task_check.specs.Rules.{sameFormat};
 ghost use Rattle.kinds.specs.Kinds.{isUniform, isMoved, isInPlace, isColour, isPixelMode, isOne, isInverseSourceAlpha, isSrcOver, isSolid, isBlendedWithin, blendedKind, unblendedKind, kindOf, finishOf};
 use pixel::AlphaMode;
 use pixel::BlendFactors;
@@ -11,9 +11,9 @@ use register::Alpha;
 use register::Source;
 use register::SourceMode;
 use register::Task;
-use rows::is_identity_row;
-use rules::same_format;
+use row_pixels::is_identity_row;
 use surface::Surface;
+use task_check::same_format;
 
 pub enum Kind {
     // one colour a row, without blending

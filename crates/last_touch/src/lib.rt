@@ -9,15 +9,15 @@ ghost use Rattle.provenance.specs.declared.Touched.the-variants.{By};
 ghost use Rattle.provenance.specs.Drawn.{numbered};
 ghost use Rattle.provenance.specs.Touched.{holds, modeNumber, touchOf, lastFrom};
 use batch::WalkStep;
-use batch::next_task;
+use decoder::next_task;
 use provenance::Touch;
 use provenance::Touched;
 use register::Bank;
 use register::SourceMode;
 use register::Task;
 use reset::ResetRule;
-use rules::Bounds;
 use surface::Surface;
+use task_check::Bounds;
 
 // Whether a row of the surface holds a byte.
 fn holds_byte(s: Surface, i: usize) -> bool

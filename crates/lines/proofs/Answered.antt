@@ -15,7 +15,7 @@ use Rattle.queue.specs.Refusals.{firstRefusal as firstRow}
 use Rattle.queue.specs.Calls.{setUpResult}
 use Rattle.model.specs.Windows.{Window, window, overlapAny}
 use Rattle.model.specs.Calls.{submit, run, accepted, completed}
-use Rattle.model.specs.State.{Model, Place, free, taken as held, isTaken, lowestFree, windowsIn, idle, totalBytes, windowOf as windowIn}
+use Rattle.model.specs.State.{Model, Place, free, taken as held, isTaken, lowestFreeId, windowsIn, idle, totalBytes, windowOf as windowIn}
 use Rattle.model.specs.Refusals.{refusalTable, firstHolding, refusal as refusalIn, badLength}
 use Rattle.model.specs.Model.{refuse, enqueue, runStep, refuseOr, effect, step, after, modelAfterAll}
 use Rattle.claims.specs.ModelProperties.{batchSemantics}
@@ -114,30 +114,30 @@ module _ (edition : Edition) where
 
     -- refused
     module _ (k : ℕ) (e : recordRefusal entry ≡ suc k) where
-      told-no : Simulates (setup edition) 32768 submitted (refuse (suc k) now)
+      refused-simulates : Simulates (setup edition) 32768 submitted (refuse (suc k) now)
       unfolding refuseOr
-      told-no = rw e at submit-alike
+      refused-simulates = rw e at submit-alike
 
       served-no : submitAndRun entry s ≡ submitted
       unfolding submitAndRun
-      served-no = rw (told-no .0)
+      served-no = rw (refused-simulates .0)
 
     -- accepted
     module _ (e : recordRefusal entry ≡ 0) where
-      told-yes : Simulates (setup edition) 32768 submitted (enqueue now (entry .client) (entry .batch))
+      accepted-simulates : Simulates (setup edition) 32768 submitted (enqueue now (entry .client) (entry .batch))
       unfolding refuseOr
-      told-yes = rw e at submit-alike
+      accepted-simulates = rw e at submit-alike
 
       served-yes : submitAndRun entry s ≡ ran
       unfolding submitAndRun
-      served-yes = rw (told-yes .0)
+      served-yes = rw (accepted-simulates .0)
 
       run-step : step (batchSemantics (setup edition)) (setup edition) 32768 run taken ≡ runStep (batchSemantics (setup edition)) 16384 taken (taken .waiting)
       unfolding refuseOr effect refusalTable firstHolding
       run-step = rw (S .size)
 
       run-alike : Simulates (setup edition) 32768 ran (runStep (batchSemantics (setup edition)) 16384 taken (taken .waiting))
-      run-alike = rw run-step at (step-simulates (setup edition) 32768 run taken (submitted .after) (told-yes .1))
+      run-alike = rw run-step at (step-simulates (setup edition) 32768 run taken (submitted .after) (accepted-simulates .1))
 
       completes : ran .answer ≡ completed (entry .client) (count % 4294967296) (verdict edition entry)
       completes = rw (window-is count (S .memory) (entry .client) (owner entry e)) at (run-alike .0)
@@ -155,20 +155,20 @@ module _ (edition : Edition) where
           ∙ ap (batchSemantics (setup edition) .draw (replayWindow (entry .client)) 16384 (entry .batch)) (memory-is (S .related))
 
     -- what is answered, and where it leads
-    record Told : Type 0 where
+    record AnsweredStep : Type 0 where
       submits : submitted .answer ≡ answerOrRefusal (recordRefusal entry) (accepted (ticketOfCount count))
       runs : (ticket : ℕ) → submitted .answer ≡ accepted ticket → ran .answer ≡ completed (entry .client) ticket (verdict edition entry)
       answers : submitAndRun entry s .answer ≡ answerAfter edition count entry
       draws : submitAndRun entry s .after .memory ≡ drawnAfter edition entry (s .memory)
       onward : Stands (countAfter count entry) (submitAndRun entry s .after)
 
-    one : Told
+    one : AnsweredStep
     unfolding answerOrRefusal
     one = go (recordRefusal entry) refl
       where
-        go : (n : ℕ) → recordRefusal entry ≡ n → Told
+        go : (n : ℕ) → recordRefusal entry ≡ n → AnsweredStep
         go zero e =
-            let yes = told-yes e .0 in
+            let yes = accepted-simulates e .0 in
             let next : countAfter count entry ≡ suc count = rw e (omega arith) in
             record {
               submits = rw e yes;
@@ -178,14 +178,14 @@ module _ (edition : Edition) where
               onward = rw (next, served-yes e) (record { memory = drawn; size = drawn-size e; related = run-alike e .1 });
             }
         go (suc k) e =
-            let no = told-no k e .0 in
+            let no = refused-simulates k e .0 in
             let next : countAfter count entry ≡ count = rw (e, eqb·suc-zero k) (omega arith) in
             record {
               submits = rw e no;
               runs = λ ticket a. absurd (let z : _≡_ {A = ℕ} 0 1 = cc in omega arith);
               answers = rw (e, served-no k e) no;
-              draws = ap (λ (c : CallResult). c .after .memory) (served-no k e) ∙ rw (e, eqb·suc-zero k) (sym (memory-is (told-no k e .1)) ∙ memory-is (S .related));
-              onward = rw (next, served-no k e) (record { memory = S .memory; size = S .size; related = told-no k e .1 });
+              draws = ap (λ (c : CallResult). c .after .memory) (served-no k e) ∙ rw (e, eqb·suc-zero k) (sym (memory-is (refused-simulates k e .1)) ∙ memory-is (S .related));
+              onward = rw (next, served-no k e) (record { memory = S .memory; size = S .size; related = refused-simulates k e .1 });
             }
 
     one-line : OneLine (entryLine entry s)
@@ -241,7 +241,7 @@ module _ (edition : Edition) where
   set-up = refl
 
   opens-four : (n : ℕ) (memory : List ℕ) → modelAfterAll (batchSemantics (setup edition)) (setup edition) n opening memory ≡ resting 0 memory
-  unfolding after effect refuseOr refusalTable firstHolding overlapAny lowestFree windowsIn
+  unfolding after effect refuseOr refusalTable firstHolding overlapAny lowestFreeId windowsIn
   opens-four n memory = refl
 
   starts : (ring memory : List ℕ) → length ring ≡ 32768 → length memory ≡ 65536 → Stands 0 (engineOpened edition ring memory)

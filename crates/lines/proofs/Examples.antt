@@ -3,10 +3,10 @@ use mathlib.Core.Path.{_≡_, refl}
 use mathlib.Core.List.{[], _∷_}
 use lib.Ieee.{le, ofBits}
 use Rattle.word.specs.Word.{byteOf, be32At, beBytes}
-use Rattle.record.specs.Slots.{readyBatches, sumOver}
-use Rattle.record.specs.Tickets.{ticketsConsecutive, inTicketOrder}
-use Rattle.record.specs.Clients.{windowsOf, lowestClosed, overlapsAny, windowsValid, pendingCountsMatch}
-use Rattle.record.specs.Rules.{endToEnd, lengthsAllowed, clientsOpen, valid}
+use Rattle.engine_record.specs.Slots.{readyBatches, sumOver}
+use Rattle.engine_record.specs.Tickets.{ticketsConsecutive, inTicketOrder}
+use Rattle.engine_record.specs.Clients.{windowsOf, lowestClosed, overlapsAny, windowsValid, pendingCountsMatch}
+use Rattle.engine_record.specs.Rules.{endToEnd, lengthsAllowed, clientsOpen, valid}
 use Rattle.queue.specs.Answers.{answerUnlessRefused}
 use Rattle.queue.specs.Refusals.{firstRefusal}
 use Rattle.queue.specs.Calls.{unlessRefused, initialRecord, setUpResult, withClient, openResult}
@@ -70,7 +70,7 @@ pub cut-body : records First (1 ∷ 0 ∷ 0 ∷ 0 ∷ 2 ∷ 3 ∷ []) ≡ fileEn
 unfolding records recordsFrom be32At
 cut-body = refl
 
--- a length of 0, and one of 32,770, answered before the body is missed; 32,769 is allowed
+-- a length of 0, and one of 32,770: an invalid length is reported even if the body is missing; 32,769 is allowed
 pub no-length : records First (1 ∷ 0 ∷ 0 ∷ 0 ∷ 0 ∷ []) ≡ fileEnds badRecord
 unfolding records recordsFrom be32At
 no-length = refl

@@ -3,12 +3,12 @@ use mathlib.Core.Path.{_≡_, refl}
 use mathlib.Core.List.{List}
 use Prim.Native.Nat.{ℕ}
 use lib.ListN.{replicate}
-use Rattle.record.specs.declared.Window.{Window}
-use Rattle.record.specs.declared.EngineRecord.{EngineRecord}
+use Rattle.engine_record.specs.declared.Window.{Window}
+use Rattle.engine_record.specs.declared.EngineRecord.{EngineRecord}
 use Rattle.queue.specs.Calls.{setUpResult, openResult}
 use Rattle.claims.specs.Engine.{mkState, performCall, stateAfter}
 use Rattle.records.specs.declared.Edition.{Edition}
-use Rattle.editions.specs.Editions.{resetOf}
+use Rattle.editions.specs.Editions.{resetRuleOf}
 use Rattle.lines.specs.Lines.{engineOpened, replayStart}
 
 abbrev windowFrom : ℕ → Window
@@ -17,7 +17,7 @@ windowFrom start = record { start = start; length = 12288 }
 module _ (edition : Edition) where
   abbrev opened : EngineRecord
   opened =
-      let none : EngineRecord = setUpResult 32768 65536 16384 (resetOf edition) .engine in
+      let none : EngineRecord = setUpResult 32768 65536 16384 (resetRuleOf edition) .engine in
       let one : EngineRecord = openResult none (windowFrom 16384) .engine in
       let two : EngineRecord = openResult one (windowFrom 28672) .engine in
       let three : EngineRecord = openResult two (windowFrom 40960) .engine in

@@ -11,7 +11,7 @@ use Rattle.text.specs.Hex.{hexWord}
 use Rattle.text.specs.Decimal.{decimal}
 use Rattle.records.specs.declared.Edition.{Edition}
 use Rattle.records.specs.Records.{Entry, FileEnd, whole, badVersion, badRecord, cutRecord, File}
-use Rattle.editions.specs.Editions.{resetOf, scoreHolds, submission}
+use Rattle.editions.specs.Editions.{resetRuleOf, scoreHolds, submission}
 
 -- ---- one line
 
@@ -95,7 +95,7 @@ linesFrom edition s file = printedFrom edition s (file .entries) (file .ending)
 
 -- "a 32,768-byte ring, 65,536 .. bytes of memory, 16,384 of them common", with the edition's reset rule
 abbrev pub setup : Edition → Setup
-setup edition = record { ring = 32768; memory = 65536; common = 16384; reset = resetOf edition }
+setup edition = record { ring = 32768; memory = 65536; common = 16384; reset = resetRuleOf edition }
 
 -- the registers at the start of every batch of a file
 abbrev pub fileReset : Edition → Bank

@@ -11,7 +11,7 @@ use Rattle.model.specs.BatchSemantics.{BatchSemantics}
 use Rattle.model.specs.State.{Model, staging, isOpen}
 use Rattle.model.specs.Refusals.{refusal, refusalTable, firstHolding}
 use Rattle.model.specs.Model.{Step, withStaged, enqueue, pieceStep, effect, step, after}
-use Rattle.model.specs.Properties.{Cutting}
+use Rattle.model.specs.Machine.{modelMachine, Cutting}
 use Rattle.model.proofs.Refusals.{unless-none, batch-allowed}
 
 module _ (way : BatchSemantics) (setup : Setup) (ring : ℕ) (model : Model) (client n : ℕ) (lent : ring ≡ setup .ring) (h : isOpen model client ≡ true) where
@@ -40,7 +40,8 @@ module _ (way : BatchSemantics) (setup : Setup) (ring : ℕ) (model : Model) (cl
   last-taken : (y x : List ℕ) → length y + length x ≡ n → step way setup ring (piece client x) (begun y) ≡ enqueue model client (y ++ x)
   last-taken y x e = rw (piece-accepted y x (omega arith), eq-eqb (length (y ++ x)) n (length-append y x ∙ e))
 
-pub cutting : (way : BatchSemantics) (setup : Setup) (ring client : ℕ) (pieces : List (List ℕ)) (last : List ℕ) (model : Model) → Cutting way setup ring client pieces last model
+pub cutting : (way : BatchSemantics) (setup : Setup) (ring client : ℕ) (pieces : List (List ℕ)) (last : List ℕ) (model : Model) →
+    Cutting (modelMachine way setup ring) client pieces last model
 unfolding refusalTable effect after
 cutting way setup ring client pieces last model = record {
   checks = refl;

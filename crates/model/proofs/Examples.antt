@@ -14,13 +14,13 @@ use Rattle.reset.specs.declared.ResetRule.the-variants.{SrcOver}
 use Rattle.model.specs.Windows.{window, In, byte, containsAny, overlapAny}
 use Rattle.model.specs.Calls.{Setup, Call, opens, submit, run, pending, begin, piece, cancel, close, CompletionStatus, opened, accepted, completed, ready, missing, done, refused}
 use Rattle.model.specs.BatchSemantics.{BatchSemantics, Confined}
-use Rattle.model.specs.State.{Batch, batch, Model, taken, idle, initialModel, lowestFree, windowsIn, takenSlots, totalBytes, countOf}
+use Rattle.model.specs.State.{Batch, batch, Model, taken, idle, initialModel, lowestFreeId, windowsIn, takenSlots, totalBytes, countOf}
 use Rattle.model.specs.Refusals.{freeBytes, refusalTable, firstHolding}
 use Rattle.model.specs.Model.{refuseOr, effect, step, answers, memories, after, closed, modelAfterAll}
 use Rattle.model.specs.Tenancy.{batchesOf, entered}
 use Rattle.model.specs.Order.{Event, opening, closing, job, jobs, seenBy, Reordered, changes, submissions, AllRun, SameOutcome, Exchanged, ByHand}
-use Rattle.model.specs.Noninterference.{none, more, same, rewritten, repieced, LowEquivalent}
-use Rattle.model.specs.Properties.{Noninterference}
+use Rattle.model.specs.Noninterference.{nil, cons, identical, same-length-submit, same-length-piece, LowEquivalent}
+use Rattle.model.specs.Machine.{modelMachine, Noninterference}
 use Rattle.model.proofs.Locality.{local-if, local-window}
 use Rattle.model.proofs.Theorems.{claims}
 
@@ -73,7 +73,7 @@ opened-so : answers toy setup 128 openings (initialModel memory) ≡
     refused 9 ∷ refused 5 ∷ refused 5 ∷
     refused 4 ∷ refused 4 ∷ refused 4 ∷ opened 0 ∷ refused 4 ∷
     opened 1 ∷ opened 2 ∷ opened 3 ∷ refused 3 ∷ []
-unfolding answers refuseOr effect refusalTable firstHolding overlapAny lowestFree windowsIn totalBytes countOf
+unfolding answers refuseOr effect refusalTable firstHolding overlapAny lowestFreeId windowsIn totalBytes countOf
 opened-so = refl
 
 abbrev batches : List Call
@@ -96,11 +96,11 @@ submitted-so : answers toy setup 128 batches (modelAfterAll toy setup 128 openin
     refused 5 ∷ refused 6 ∷ refused 7 ∷ ready 2 ∷
     completed 0 1 good ∷ refused 8 ∷ accepted 9 ∷
     completed 1 2 good ∷ completed 2 3 good ∷ completed 3 4 good ∷ completed 0 5 good ∷ completed 1 6 bad ∷ completed 2 7 good ∷ completed 3 8 good ∷ completed 2 9 good ∷ refused 9 ∷ refused 5 ∷ []
-unfolding answers after refuseOr effect refusalTable firstHolding overlapAny lowestFree windowsIn totalBytes countOf
+unfolding answers after refuseOr effect refusalTable firstHolding overlapAny lowestFreeId windowsIn totalBytes countOf
 submitted-so = refl
 
 drawn-so : modelAfterAll toy setup 128 (openings ++ batches) memory .memory ≡ eight 100 ++ eight 58 ++ eight 104 ++ eight 66 ++ eight 216
-unfolding after refuseOr effect refusalTable firstHolding overlapAny lowestFree windowsIn totalBytes countOf
+unfolding after refuseOr effect refusalTable firstHolding overlapAny lowestFreeId windowsIn totalBytes countOf
 drawn-so = refl
 
 -- ---- 10: a lent ring or memory of another length, before all else
@@ -115,14 +115,14 @@ ring-so : answers toy setup 127 few (initialModel memory) ≡
     refused 10 ∷ refused 10 ∷ refused 10 ∷ refused 10 ∷ refused 5 ∷ refused 5 ∷
     opened 0 ∷ refused 10 ∷ refused 10 ∷ ready 0 ∷ refused 5 ∷
     refused 10 ∷ refused 10 ∷ refused 14 ∷ done ∷ []
-unfolding answers refuseOr effect refusalTable firstHolding overlapAny lowestFree windowsIn totalBytes countOf
+unfolding answers refuseOr effect refusalTable firstHolding overlapAny lowestFreeId windowsIn totalBytes countOf
 ring-so = refl
 
 memory-so : answers toy setup 128 few (initialModel (memory ++ (0 ∷ []))) ≡
     refused 5 ∷ refused 10 ∷ refused 5 ∷ refused 5 ∷ refused 5 ∷ refused 10 ∷
     opened 0 ∷ accepted 0 ∷ refused 10 ∷ ready 1 ∷ refused 5 ∷
     done ∷ missing 4 ∷ done ∷ refused 10 ∷ []
-unfolding answers refuseOr effect refusalTable firstHolding overlapAny lowestFree windowsIn totalBytes countOf
+unfolding answers refuseOr effect refusalTable firstHolding overlapAny lowestFreeId windowsIn totalBytes countOf
 memory-so = refl
 
 -- ---- tickets go on from 4,294,967,295 to 0
@@ -132,7 +132,7 @@ late = record { places = taken (window 8 8) ∷ []; waiting = []; staged = idle;
 
 wraps-so : answers toy setup 128 (submit 0 (replicate 4 7) ∷ submit 0 (replicate 4 8) ∷ run ∷ run ∷ []) late ≡
     accepted 4294967295 ∷ accepted 0 ∷ completed 0 4294967295 good ∷ completed 0 0 good ∷ []
-unfolding answers refuseOr effect refusalTable firstHolding overlapAny lowestFree windowsIn totalBytes countOf
+unfolding answers refuseOr effect refusalTable firstHolding overlapAny lowestFreeId windowsIn totalBytes countOf
 wraps-so = refl
 
 -- ---- 13, 14 and 18: a batch handed over by pieces
@@ -156,7 +156,7 @@ staged-so : answers toy setup 128 staged (initialModel memory) ≡
     refused 14 ∷ refused 14 ∷ missing 8 ∷ refused 14 ∷ missing 5 ∷
     refused 9 ∷ ready 0 ∷ refused 18 ∷ done ∷ refused 5 ∷
     accepted 0 ∷ refused 14 ∷ ready 1 ∷ refused 18 ∷ completed 0 0 good ∷ done ∷ refused 5 ∷ []
-unfolding answers refuseOr effect refusalTable firstHolding overlapAny lowestFree windowsIn totalBytes countOf
+unfolding answers refuseOr effect refusalTable firstHolding overlapAny lowestFreeId windowsIn totalBytes countOf
 staged-so = refl
 
 -- while it is open it holds a slot and its whole length, beside what waits
@@ -164,13 +164,13 @@ abbrev holding : Model
 holding = modelAfterAll toy setup 128 (opens (window 8 8) ∷ submit 0 (replicate 4 7) ∷ begin 0 8 ∷ piece 0 (5 ∷ []) ∷ []) memory
 
 held-so : (takenSlots holding ≡ 2) × (freeBytes setup holding ≡ 116)
-unfolding after refuseOr effect refusalTable firstHolding overlapAny lowestFree windowsIn totalBytes countOf
+unfolding after refuseOr effect refusalTable firstHolding overlapAny lowestFreeId windowsIn totalBytes countOf
 held-so = (refl, refl)
 
 -- cancelling frees what was held: the whole ring is there again
 cancelled-so : answers toy setup 128 (opens (window 8 8) ∷ begin 0 128 ∷ piece 0 (1 ∷ []) ∷ cancel 0 ∷ submit 0 (replicate 128 7) ∷ begin 0 4 ∷ run ∷ []) (initialModel memory) ≡
     opened 0 ∷ done ∷ missing 127 ∷ done ∷ accepted 0 ∷ refused 8 ∷ completed 0 0 good ∷ []
-unfolding answers refuseOr effect refusalTable firstHolding overlapAny lowestFree windowsIn totalBytes countOf
+unfolding answers refuseOr effect refusalTable firstHolding overlapAny lowestFreeId windowsIn totalBytes countOf
 cancelled-so = refl
 
 -- ---- clients come and go
@@ -185,13 +185,13 @@ later = submit 0 (replicate 4 3) ∷ begin 0 4 ∷ piece 0 (9 ∷ 0 ∷ []) ∷ 
 tenancies-so : answers toy setup 128 (earlier ++ opens (window 12 10) ∷ later) (initialModel memory) ≡
     opened 0 ∷ opened 1 ∷ accepted 0 ∷ completed 0 0 good ∷ done ∷
     opened 0 ∷ accepted 1 ∷ done ∷ missing 2 ∷ completed 0 1 good ∷ accepted 2 ∷ opened 2 ∷ completed 0 2 good ∷ []
-unfolding answers refuseOr effect refusalTable firstHolding overlapAny lowestFree windowsIn totalBytes countOf
+unfolding answers refuseOr effect refusalTable firstHolding overlapAny lowestFreeId windowsIn totalBytes countOf
 tenancies-so = refl
 
 -- its window begins with what it drew on a zero: 3 and 100, then 9 and 100; before it zeros, and from byte 16 on the starting bytes
 tenancies-drawn : modelAfterAll toy setup 128 (earlier ++ opens (window 12 10) ∷ later) memory .memory ≡
     eight 100 ++ replicate 4 0 ++ (212 ∷ replicate 3 0) ++ eight 2 ++ eight 3 ++ eight 4
-unfolding after refuseOr effect refusalTable firstHolding overlapAny lowestFree windowsIn totalBytes countOf
+unfolding after refuseOr effect refusalTable firstHolding overlapAny lowestFreeId windowsIn totalBytes countOf
 tenancies-drawn = refl
 
 -- ---- two runs: other batches and pieces of the second tenancy's, a refused one too, and another byte 16, which no earlier one owned
@@ -203,7 +203,7 @@ abbrev memory′ : List ℕ
 memory′ = eight 100 ++ eight 1 ++ eight 50 ++ eight 3 ++ eight 4
 
 other-bytes : (i : ℕ) → ¬ (In (window 12 10) i × (containsAny (closed toy setup 128 earlier (initialModel memory)) i ≡ false)) → byte memory i ≡ byte memory′ i
-unfolding closed containsAny refuseOr effect refusalTable firstHolding overlapAny lowestFree windowsIn totalBytes countOf
+unfolding closed containsAny refuseOr effect refusalTable firstHolding overlapAny lowestFreeId windowsIn totalBytes countOf
 other-bytes zero n = refl
 other-bytes (suc zero) n = refl
 other-bytes (suc (suc zero)) n = refl
@@ -224,16 +224,16 @@ other-bytes (suc (suc (suc (suc (suc (suc (suc (suc (suc (suc (suc (suc (suc (su
 other-bytes (suc (suc (suc (suc (suc (suc (suc (suc (suc (suc (suc (suc (suc (suc (suc (suc (suc i))))))))))))))))) n = refl
 
 twins : LowEquivalent toy setup 128 0 earlier (window 12 10) later later′ memory memory′
-unfolding after refuseOr effect refusalTable firstHolding overlapAny lowestFree windowsIn totalBytes countOf
+unfolding after refuseOr effect refusalTable firstHolding overlapAny lowestFreeId windowsIn totalBytes countOf
 twins = record {
   tenancy = record { admitted = refl; lasts = (refl, (refl, (refl, (refl, (refl, (refl, (refl, refl))))))) };
-  listed =
-      more (rewritten (replicate 4 3) (replicate 4 0) refl) (more (same _) (more (repieced (9 ∷ 0 ∷ []) (1 ∷ 2 ∷ []) refl) (more (same _) (more (repieced (0 ∷ 0 ∷ []) (3 ∷ 4 ∷ []) refl) (more (same _) (more (same _) none))))));
+  calls =
+      cons (same-length-submit (replicate 4 3) (replicate 4 0) refl) (cons (identical _) (cons (same-length-piece (9 ∷ 0 ∷ []) (1 ∷ 2 ∷ []) refl) (cons (identical _) (cons (same-length-piece (0 ∷ 0 ∷ []) (3 ∷ 4 ∷ []) refl) (cons (identical _) (cons (identical _) nil))))));
   size = refl;
   bytes = other-bytes;
 }
 
-unmoved-so : Noninterference toy setup 128 0 earlier (window 12 10) later later′ memory memory′
+unmoved-so : Noninterference (modelMachine toy setup 128) 0 earlier (window 12 10) later later′ (initialModel memory) (initialModel memory′)
 unmoved-so = claims toy setup 128 .noninterference toy-confined 0 earlier (window 12 10) later later′ memory memory′ twins
 
 -- the tenancy's closing is accepted, so that from there on every answer and all of memory agree, though the two drew different bytes
@@ -241,7 +241,7 @@ abbrev stay : List Call → List ℕ → Model
 stay during start = after toy setup 128 during (entered toy setup 128 (initialModel start) earlier (window 12 10))
 
 closes-so : step toy setup 128 (close 0) (stay later memory) .answer ≡ done
-unfolding after refuseOr effect refusalTable firstHolding overlapAny lowestFree windowsIn totalBytes countOf
+unfolding after refuseOr effect refusalTable firstHolding overlapAny lowestFreeId windowsIn totalBytes countOf
 closes-so = refl
 
 abbrev next : List Call
@@ -252,7 +252,7 @@ closed-so : (answers toy setup 128 (close 0 ∷ next) (stay later memory) ≡ an
 closed-so = unmoved-so .from-closing next closes-so
 
 differ-so : (byte (stay later memory .memory) 12 ≡ 212) × (byte (stay later′ memory′ .memory) 12 ≡ 101)
-unfolding after refuseOr effect refusalTable firstHolding overlapAny lowestFree windowsIn totalBytes countOf
+unfolding after refuseOr effect refusalTable firstHolding overlapAny lowestFreeId windowsIn totalBytes countOf
 differ-so = (refl, refl)
 
 -- ---- order: two clients hand in and are run in two orders, by pieces in one; then the second one goes and a third comes
@@ -272,21 +272,21 @@ mixed =
 early-so : answers toy setup 128 early (initialModel memory) ≡
     opened 0 ∷ opened 1 ∷ accepted 0 ∷ accepted 1 ∷ accepted 2 ∷ completed 0 0 good ∷ ready 1 ∷ completed 1 1 good ∷ completed 0 2 bad ∷
     done ∷ opened 1 ∷ accepted 3 ∷ completed 1 3 good ∷ []
-unfolding answers refuseOr effect refusalTable firstHolding overlapAny lowestFree windowsIn totalBytes countOf
+unfolding answers refuseOr effect refusalTable firstHolding overlapAny lowestFreeId windowsIn totalBytes countOf
 early-so = refl
 
 mixed-so : answers toy setup 128 mixed (initialModel memory) ≡
     opened 0 ∷ opened 1 ∷ done ∷ missing 2 ∷ refused 13 ∷ accepted 0 ∷ completed 1 0 good ∷ accepted 1 ∷ completed 0 1 good ∷ accepted 2 ∷ completed 0 2 bad ∷
     done ∷ opened 1 ∷ accepted 3 ∷ completed 1 3 good ∷ []
-unfolding answers refuseOr effect refusalTable firstHolding overlapAny lowestFree windowsIn totalBytes countOf
+unfolding answers refuseOr effect refusalTable firstHolding overlapAny lowestFreeId windowsIn totalBytes countOf
 mixed-so = refl
 
 early-run : AllRun toy setup 128 early (initialModel memory)
-unfolding changes refuseOr effect refusalTable firstHolding overlapAny lowestFree windowsIn totalBytes countOf
+unfolding changes refuseOr effect refusalTable firstHolding overlapAny lowestFreeId windowsIn totalBytes countOf
 early-run = (inr refl, (inr refl, (inl refl, (inl refl, (inl refl, (inl refl, (inl refl, (inl refl, (inl refl, (inr refl, (inr refl, (inl refl, (inl refl, refl)))))))))))))
 
 mixed-run : AllRun toy setup 128 mixed (initialModel memory)
-unfolding changes refuseOr effect refusalTable firstHolding overlapAny lowestFree windowsIn totalBytes countOf
+unfolding changes refuseOr effect refusalTable firstHolding overlapAny lowestFreeId windowsIn totalBytes countOf
 mixed-run = (inr refl, (inr refl, (inl refl, (inl refl, (inl refl, (inl refl, (inl refl, (inl refl, (inl refl, (inl refl, (inl refl, (inr refl, (inr refl, (inl refl, (inl refl, refl)))))))))))))))
 
 -- batches as they are accepted, between openings and closings
@@ -300,11 +300,11 @@ abbrev inAnother : List Event
 inAnother = order (job 1 (5 ∷ 6 ∷ 7 ∷ 8 ∷ []) ∷ job 0 (replicate 4 7) ∷ job 0 (replicate 4 0) ∷ [])
 
 early-order : submissions toy setup 128 early (initialModel memory) ≡ inOrder
-unfolding submissions changes jobs refuseOr effect refusalTable firstHolding overlapAny lowestFree windowsIn totalBytes countOf
+unfolding submissions changes jobs refuseOr effect refusalTable firstHolding overlapAny lowestFreeId windowsIn totalBytes countOf
 early-order = refl
 
 mixed-order : submissions toy setup 128 mixed (initialModel memory) ≡ inAnother
-unfolding submissions changes jobs refuseOr effect refusalTable firstHolding overlapAny lowestFree windowsIn totalBytes countOf
+unfolding submissions changes jobs refuseOr effect refusalTable firstHolding overlapAny lowestFreeId windowsIn totalBytes countOf
 mixed-order = refl
 
 kept-so : Reordered inOrder inAnother
@@ -317,13 +317,13 @@ same-so : SameOutcome toy setup 128 early mixed (initialModel memory) (initialMo
 same-so = claims toy setup 128 .any-submissions toy-confined early mixed memory early-run mixed-run (rw (early-order, mixed-order) kept-so)
 
 early-drawn : modelAfterAll toy setup 128 early memory .memory ≡ eight 100 ++ eight 108 ++ replicate 4 0 ++ (106 ∷ replicate 3 0) ++ eight 3 ++ eight 4
-unfolding after refuseOr effect refusalTable firstHolding overlapAny lowestFree windowsIn totalBytes countOf
+unfolding after refuseOr effect refusalTable firstHolding overlapAny lowestFreeId windowsIn totalBytes countOf
 early-drawn = refl
 
 -- no batch moves past a closing: with the same openings and closings, and the same batch, memory would be another
 moved-so : (modelAfterAll toy setup 128 (opens (window 8 8) ∷ submit 0 (replicate 4 7) ∷ run ∷ close 0 ∷ opens (window 8 8) ∷ []) memory .memory ≡ eight 100 ++ eight 0 ++ eight 2 ++ eight 3 ++ eight 4)
     × (modelAfterAll toy setup 128 (opens (window 8 8) ∷ close 0 ∷ opens (window 8 8) ∷ submit 0 (replicate 4 7) ∷ run ∷ []) memory .memory ≡ eight 100 ++ eight 107 ++ eight 2 ++ eight 3 ++ eight 4)
-unfolding after refuseOr effect refusalTable firstHolding overlapAny lowestFree windowsIn totalBytes countOf
+unfolding after refuseOr effect refusalTable firstHolding overlapAny lowestFreeId windowsIn totalBytes countOf
 moved-so = (refl, refl)
 
 -- the queue by hand: the first two change places, then the first goes last but for its client's other one
@@ -340,14 +340,14 @@ abbrev others : List Batch
 others = batch 1 2 (replicate 4 6) ∷ batch 0 3 (replicate 4 0) ∷ []
 
 exchanged-so : Exchanged toy setup 128 ahead behind good good others (modelAfterAll toy setup 128 queued memory)
-unfolding answers after refuseOr effect refusalTable firstHolding overlapAny lowestFree windowsIn totalBytes countOf
+unfolding answers after refuseOr effect refusalTable firstHolding overlapAny lowestFreeId windowsIn totalBytes countOf
 exchanged-so = claims toy setup 128 .exchange toy-confined queued memory ahead behind good good others refl (λ e. omega arith) refl
 
 abbrev byHand : List Batch
 byHand = behind ∷ batch 1 2 (replicate 4 6) ∷ ahead ∷ batch 0 3 (replicate 4 0) ∷ []
 
 own-kept : (client : ℕ) → batchesOf client byHand ≡ batchesOf client (modelAfterAll toy setup 128 queued memory .waiting)
-unfolding batchesOf after refuseOr effect refusalTable firstHolding overlapAny lowestFree windowsIn totalBytes countOf
+unfolding batchesOf after refuseOr effect refusalTable firstHolding overlapAny lowestFreeId windowsIn totalBytes countOf
 own-kept zero = refl
 own-kept (suc zero) = refl
 own-kept (suc (suc client)) = rw (ne-eqb 0 (suc (suc client)) (λ e. omega arith), ne-eqb 1 (suc (suc client)) (λ e. omega arith))
@@ -375,10 +375,10 @@ stamped x = eight 100 ++ eight x ++ eight 2 ++ eight 3 ++ eight 4
 
 -- a client's own batches change places, or are as many and as long but of other bytes: another memory
 own-so : (modelAfterAll stamp setup 128 (twice 7 9 (run ∷ run ∷ [])) memory .memory ≡ stamped 9) × (modelAfterAll stamp setup 128 (twice 9 7 (run ∷ run ∷ [])) memory .memory ≡ stamped 7)
-unfolding after refuseOr effect refusalTable firstHolding overlapAny lowestFree windowsIn totalBytes countOf
+unfolding after refuseOr effect refusalTable firstHolding overlapAny lowestFreeId windowsIn totalBytes countOf
 own-so = (refl, refl)
 
 -- the same batches, but one is left waiting: another memory
 left-so : modelAfterAll stamp setup 128 (twice 7 9 (run ∷ [])) memory .memory ≡ stamped 7
-unfolding after refuseOr effect refusalTable firstHolding overlapAny lowestFree windowsIn totalBytes countOf
+unfolding after refuseOr effect refusalTable firstHolding overlapAny lowestFreeId windowsIn totalBytes countOf
 left-so = refl

@@ -15,8 +15,8 @@ use Rattle.model.specs.State.{Batch, batch, Place, free, taken, Staging,
 use Rattle.model.specs.Refusals.{refusalTable, refusal}
 use Rattle.model.specs.Model.{Step, closeStep, effect, step, answers, memories, after, closed, modelAfterAll}
 use Rattle.model.specs.Tenancy.{OpenThroughout, entered}
-use Rattle.model.specs.Noninterference.{Pointwise, none, more, LowEqualCall, same, rewritten, repieced, LowEqualAnswer, equal, verdicts, LowEquivalent}
-use Rattle.model.specs.Properties.{Noninterference}
+use Rattle.model.specs.Noninterference.{Pointwise, nil, cons, LowEqualCall, identical, same-length-submit, same-length-piece, LowEqualAnswer, own-completion, LowEquivalent}
+use Rattle.model.specs.Machine.{modelMachine, Noninterference}
 use Rattle.model.proofs.Tests.{by-eq, neither, contains-in, contains-append, apart-of}
 use Rattle.model.proofs.Refusals.{unless-both, OpenAllowed, CloseAllowed, close-allowed}
 use Rattle.model.proofs.Clients.{open-apart, next-in, stays-owned, kept-place}
@@ -39,16 +39,16 @@ module _ (way : BatchSemantics) (setup : Setup) (ring : ℕ) where
   memories-append (x ∷ xs) ys model = ap (λ (l : List (List ℕ)). step way setup ring x model .after .memory ∷ l) (memories-append xs ys (step way setup ring x model .after))
 
 each-equal : {A : Type 0} {xs ys : List A} → Pointwise (λ (x y : A). x ≡ y) xs ys → xs ≡ ys
-each-equal none = refl
-each-equal (more q qs) = ap₂ (λ x xs. x ∷ xs) q (each-equal qs)
+each-equal nil = refl
+each-equal (cons q qs) = ap₂ (λ x xs. x ∷ xs) q (each-equal qs)
 
 each-refl : {A : Type 0} (xs : List A) → Pointwise (λ (x y : A). x ≡ y) xs xs
-each-refl [] = none
-each-refl (x ∷ xs) = more refl (each-refl xs)
+each-refl [] = nil
+each-refl (x ∷ xs) = cons refl (each-refl xs)
 
 each-map : {A : Type 0} {R Q : A → A → Type 0} → ((x y : A) → R x y → Q x y) → {xs ys : List A} → Pointwise R xs ys → Pointwise Q xs ys
-each-map f none = none
-each-map f (more {x = x} {y = y} q qs) = more (f x y q) (each-map f qs)
+each-map f nil = nil
+each-map f (cons {x = x} {y = y} q qs) = cons (f x y q) (each-map f qs)
 
 -- ---- a byte that is owned is still owned after some calls, or lies in a window that they closed
 
@@ -83,8 +83,8 @@ module _ (way : BatchSemantics) (setup : Setup) (ring : ℕ) where
 
 module _ (d : ℕ) where
   same-waiting : {vs ws : List Batch} → Pointwise (SameBatch (λ k. k ≡ d)) vs ws → countOf d vs ≡ 0 → vs ≡ ws
-  same-waiting none e = refl
-  same-waiting (more {x = v} {y = w} {xs = vs} {ys = ws} q qs) e =
+  same-waiting nil e = refl
+  same-waiting (cons {x = v} {y = w} {xs = vs} {ys = ws} q qs) e =
       let n = none-own v vs d e in
       let h : batch (v .client) (v .ticket) (v .bytes) ≡ batch (w .client) (w .ticket) (w .bytes) = rw (q .client, q .ticket, q .bytes (n .0)) in
       ap₂ (λ (b : Batch) (bs : List Batch). b ∷ bs) h (same-waiting qs (n .1))
@@ -119,7 +119,7 @@ module _ (way : BatchSemantics) (L : Confined way) (setup : Setup) (ring : ℕ) 
   Unowned i = In w i × (containsAny (closed way setup ring before (initialModel m)) i ≡ false)
 
   abbrev X₁ : View
-  X₁ = record { Secret = λ k. ⊥; secret? = λ k. inr (λ z. z); Hid = Unowned; Told = λ a b. a ≡ b; alike = λ a. refl; own-told = λ k t v v′ z. absurd z }
+  X₁ = record { Secret = λ k. ⊥; secret? = λ k. inr (λ z. z); Hid = Unowned; AnswersAgree = λ a b. a ≡ b; alike = λ a. refl; own-agree = λ k t v v′ z. absurd z }
 
   abbrev Inv₁ : List Call → Model → Type 0
   Inv₁ cs model = Sound setup model × ((i : ℕ) → Unowned i → (containsAny (closed way setup ring cs model) i ≡ false) × ((k : ℕ) → ¬ (Owns (after way setup ring cs model) k i)))
@@ -146,12 +146,12 @@ module _ (way : BatchSemantics) (L : Confined way) (setup : Setup) (ring : ℕ) 
       (λ c c′ e model model′ S H R. rw e (same-both way L setup ring X₁ model model′ S R H c′))
       before before (each-refl before) (initialModel m) (initialModel m′)
       (fresh-sound setup m, λ i f. (f .1, λ k o. apart-of w (windowOf start k) i (open-apart start w (A .apart) k (o .0)) (f .0) (o .1)))
-      (record { places = refl; waiting = none; staged = both-idle; accepted = refl; size = T .size; bytes = T .bytes })
+      (record { places = refl; waiting = nil; staged = both-idle; accepted = refl; size = T .size; bytes = T .bytes })
 
   -- ---- while it lasts: hidden is its window
 
   abbrev X₂ : View
-  X₂ = record { Secret = λ k. k ≡ d; secret? = λ k. by-eq k d; Hid = In w; Told = LowEqualAnswer d; alike = equal; own-told = λ k t v v′ e. rw e (verdicts t v v′) }
+  X₂ = record { Secret = λ k. k ≡ d; secret? = λ k. by-eq k d; Hid = In w; AnswersAgree = LowEqualAnswer d; alike = identical; own-agree = λ k t v v′ e. rw e (own-completion t v v′) }
 
   abbrev Inv₂ : List Call → Model → Type 0
   Inv₂ cs model = Sound setup model × OpenThroughout way setup ring d cs model × (placeOf model d ≡ taken w)
@@ -167,9 +167,9 @@ module _ (way : BatchSemantics) (L : Confined way) (setup : Setup) (ring : ℕ) 
       }
 
   pair₂ : (c c′ : Call) → LowEqualCall d c c′ → (model model′ : Model) → Sound setup model → Hidden setup X₂ model → Rel X₂ model model′ → Both X₂ (step way setup ring c model) (step way setup ring c′ model′)
-  pair₂ _ _ (same c) model model′ S H R = same-both way L setup ring X₂ model model′ S R H c
-  pair₂ _ _ (rewritten x y e) model model′ S H R = submit-both way L setup ring X₂ model model′ S R d x y e (λ n. absurd (n refl))
-  pair₂ _ _ (repieced x y e) model model′ S H R = piece-both way L setup ring X₂ model model′ S R d x y e (λ n. absurd (n refl))
+  pair₂ _ _ (identical c) model model′ S H R = same-both way L setup ring X₂ model model′ S R H c
+  pair₂ _ _ (same-length-submit x y e) model model′ S H R = submit-both way L setup ring X₂ model model′ S R d x y e (λ n. absurd (n refl))
+  pair₂ _ _ (same-length-piece x y e) model model′ S H R = piece-both way L setup ring X₂ model model′ S R d x y e (λ n. absurd (n refl))
 
   abbrev inner : Model
   inner = entered way setup ring (initialModel m) before w
@@ -209,7 +209,7 @@ module _ (way : BatchSemantics) (L : Confined way) (setup : Setup) (ring : ℕ) 
       let next : Model = step way setup ring c model .after in
       (step-sound way setup ring c model (I .0), I .1 .1, step-keeps way setup ring c model (I .0) d (I .1 .0) (open-now way setup ring d cs next (I .1 .1)) ∙ I .2))
       pair₂
-      during during′ (T .listed) inner inner′
+      during during′ (T .calls) inner inner′
       (inner-sound, T .tenancy .lasts, inner-place)
       (weaker inner inner′ (opened-both .1))
 
@@ -253,7 +253,7 @@ module _ (way : BatchSemantics) (L : Confined way) (setup : Setup) (ring : ℕ) 
       (λ e. closed-level (close-allowed setup ring left d e))
       (λ k a. let z : _≡_ {A = ℕ} 0 1 = cc in absurd (omega arith))
 
-  pub noninterference : Noninterference way setup ring d before w during during′ m m′
+  pub noninterference : Noninterference (modelMachine way setup ring) d before w during during′ (initialModel m) (initialModel m′)
   unfolding answers memories after
   noninterference = record {
     answers-before =
@@ -263,7 +263,7 @@ module _ (way : BatchSemantics) (L : Confined way) (setup : Setup) (ring : ℕ) 
     answers-during = runs₂ .same-answers;
     throughout =
         rw (memories-append way setup ring before (opens w ∷ during) (initialModel m), memories-append way setup ring before (opens w ∷ during′) (initialModel m′))
-        (each-append (runs₁ .seen) (more (record { size = opened-both .1 .size; bytes = λ i o. opened-both .1 .bytes i (λ f. o (f .0)) }) (runs₂ .seen)));
+        (each-append (runs₁ .seen) (cons (record { size = opened-both .1 .size; bytes = λ i o. opened-both .1 .bytes i (λ f. o (f .0)) }) (runs₂ .seen)));
     from-closing = λ later a.
         let e = level a in (
           ap₂ (λ (x : Answer) (model : Model). x ∷ answers way setup ring later model) (e .0) (e .1),

@@ -57,7 +57,7 @@ spared setup ps G i =
     (λ (n : (k : ℕ) → ¬ (WindowStable ps k i)). (0, λ j _. n j))
     (holder ps i)
 
--- ---- events replayed, for one client: what it leaves, and what it is told of its batches
+-- ---- events replayed, for one client: what it leaves, and what is answered of its batches
 
 module _ (way : BatchSemantics) (common : ℕ) where
   abbrev drawn : ℕ → List ℕ → Model → Model
@@ -76,15 +76,15 @@ module _ (way : BatchSemantics) (common : ℕ) where
   judged (closing k ∷ es) model = judged es (closeStep model k .after)
   judged (job k x ∷ es) model = way .verdict (windowOf model k) common x ∷ judged es (drawn k x model)
 
-plain-told : (k : ℕ) (a : Answer) (rest : List Answer) → Plain a → verdictsOf k (a ∷ rest) ≡ verdictsOf k rest
+verdictsOf-plain : (k : ℕ) (a : Answer) (rest : List Answer) → Plain a → verdictsOf k (a ∷ rest) ≡ verdictsOf k rest
 unfolding verdictsOf
-plain-told k (opened d) rest p = refl
-plain-told k (accepted t) rest p = absurd p
-plain-told k (completed d t v) rest p = absurd p
-plain-told k (ready n) rest p = refl
-plain-told k (missing n) rest p = refl
-plain-told k done rest p = refl
-plain-told k (refused n) rest p = refl
+verdictsOf-plain k (opened d) rest p = refl
+verdictsOf-plain k (accepted t) rest p = absurd p
+verdictsOf-plain k (completed d t v) rest p = absurd p
+verdictsOf-plain k (ready n) rest p = refl
+verdictsOf-plain k (missing n) rest p = refl
+verdictsOf-plain k done rest p = refl
+verdictsOf-plain k (refused n) rest p = refl
 
 handed-still : (model : Model) (c : Call) (b : Batch) (a : Answer) → HandedIn model c b → changes c a ≡ []
 unfolding changes
@@ -98,7 +98,7 @@ module _ (way : BatchSemantics) (L : Confined way) (setup : Setup) (ring : ℕ) 
     size : length m ≡ length (world .memory)
     bytes : (i : ℕ) → Spared ps k i → byte m i ≡ byte (world .memory) i
 
-  -- what it replays to, and is told, of these events; told and final are of the calls
+  -- what it replays to, and is answered, of these events; answers and final are of the calls
   abbrev Follows : List Event → List Answer → (finalModel world : Model) → Type 0
   Follows es same-answers finalModel world =
       Shadow (finalModel .places) (finalModel .memory) (play way (setup .common) (seenBy k es) world) × (verdictsOf k same-answers ≡ judged way (setup .common) (seenBy k es) world)
@@ -154,7 +154,7 @@ module _ (way : BatchSemantics) (L : Confined way) (setup : Setup) (ring : ℕ) 
     goes : (c : Call) (es : List Event) (same-answers : List Answer) (finalModel : Model) → Goes c es same-answers finalModel (step way setup ring c model)
     unfolding changes jobs seenBy play judged verdictsOf
     goes c es same-answers finalModel = step-cases way setup ring model (Goes c es same-answers finalModel) c (record {
-      staging = λ a g p _ _ f. rw (p .1, plain-told k a same-answers (p .0)) (f world K);
+      staging = λ a g p _ _ f. rw (p .1, verdictsOf-plain k a same-answers (p .0)) (f world K);
       entering = λ d x o _ _ f. rw (handed-still model c _ _ o) (f world K);
       opening = λ w e A f. rw e (f (openStep world w .after) (record {
         places = rw (K .places);

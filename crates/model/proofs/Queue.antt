@@ -10,7 +10,8 @@ use Rattle.model.specs.Calls.{Setup, Call, Answer, opened, accepted, com
 use Rattle.model.specs.BatchSemantics.{BatchSemantics}
 use Rattle.model.specs.State.{Batch, batch, Model, initialModel, totalBytes}
 use Rattle.model.specs.Model.{Step, step, answers, after, executed, modelAfterAll}
-use Rattle.model.specs.Properties.{ConsecutiveTickets, HandedIn, FifoOrder, BoundedWaiting}
+use Rattle.model.specs.Machine.{modelMachine, BoundedWaiting}
+use Rattle.model.specs.Properties.{ConsecutiveTickets, HandedIn, FifoOrder, Executed}
 use Rattle.model.proofs.Cases.{Fits, Plain, step-cases}
 
 -- ---- lists of batches
@@ -163,7 +164,8 @@ module _ (way : BatchSemantics) (setup : Setup) (ring : ℕ) where
     closing = λ d _ _ e. let z : _≡_ {A = ℕ} 0 1 = cc in absurd (omega arith);
   })
 
-  pub in-time : (before later : List Call) (memory : List ℕ) → BoundedWaiting way setup ring before memory later
+  pub in-time : (before later : List Call) (memory : List ℕ) →
+      BoundedWaiting (modelMachine way setup ring) (modelAfterAll way setup ring before memory) later (Executed way setup ring before memory later)
   in-time before later memory c t a h =
       let model : Model = modelAfterAll way setup ring before memory in
       let s : Step = step way setup ring c model in

@@ -12,9 +12,10 @@ use Rattle.model.specs.Windows.{Window, window, overlap, overlapAny}
 use Rattle.model.specs.Calls.{Setup, opens, submit, run, Call, pending, begin, piece, cancel, close, refused}
 use Rattle.model.specs.State.{Model, Staging, idle, staging, isOpen, openWindows, isIdle, stagedBy, missingBytes, takenSlots, takenBytes, countOf, Batch}
 use Rattle.model.specs.Refusals.{RefusalRow, _when_, badLength, batchRows, refusalTable, firstHolding, refusal}
-use Rattle.model.specs.Model.{Step, refuse, refuseOr, runStep, pieceStep, effect}
+use Rattle.model.specs.Model.{Step, refuse, refuseOr, runStep, pieceStep, effect, step}
 use Rattle.model.specs.BatchSemantics.{BatchSemantics}
-use Rattle.model.specs.Properties.{refuses, Quiet, RefusalNoOp}
+use Rattle.model.specs.Machine.{RefusalNoOp}
+use Rattle.model.specs.Properties.{refuses, Quiet, QuietRefusal}
 use Rattle.model.proofs.Tests.{cond-cases, by-lt, neither, apart-of}
 
 -- ---- a step that may be refused
@@ -168,10 +169,10 @@ module _ (way : BatchSemantics) (setup : Setup) (ring : ℕ) where
   numbers (close k) model = (refl, (refl, (refl, tt)))
 
   abbrev Hushed : Model → Step → Type 0
-  Hushed model s = (n : ℕ) → s .answer ≡ refused n → Quiet n model s
+  Hushed model s = (n : ℕ) → s .answer ≡ refused n → (s .after ≡ model) × Quiet n s
 
   refuse-quiet : (model : Model) (n : ℕ) → refuses n ≡ true → Hushed model (refuse n model)
-  refuse-quiet model n e k f = let q : n ≡ k = cc in record { kept = refl; executed = refl; closed = refl; listed = rw (← q) e }
+  refuse-quiet model n e k f = let q : n ≡ k = cc in (refl, record { executed = refl; closed = refl; listed = rw (← q) e })
 
   piece-quiet : (model : Model) (s : Staging) (x : List ℕ) → Hushed model (pieceStep model s x)
   piece-quiet model idle x = refuse-quiet model 14 refl
@@ -199,5 +200,11 @@ module _ (way : BatchSemantics) (setup : Setup) (ring : ℕ) where
   quiet zero model s r q = q
   quiet (suc k) model s r q = refuse-quiet model (suc k) (r k refl)
 
-  pub harmless : (c : Call) (model : Model) → RefusalNoOp way setup ring c model
-  harmless c model = quiet (refusal setup ring model c) model (effect way setup ring c model) (λ k e. number (refusalTable setup ring model c) k (numbers c model) e) (quiet-effect c model)
+  hushed : (c : Call) (model : Model) → Hushed model (step way setup ring c model)
+  hushed c model = quiet (refusal setup ring model c) model (effect way setup ring c model) (λ k e. number (refusalTable setup ring model c) k (numbers c model) e) (quiet-effect c model)
+
+  pub refused-no-change : (c : Call) (model : Model) → RefusalNoOp (step way setup ring c model .answer) model (step way setup ring c model .after)
+  refused-no-change c model n e = hushed c model n e .0
+
+  pub quiet-refusal : (c : Call) (model : Model) → QuietRefusal way setup ring c model
+  quiet-refusal c model n e = hushed c model n e .1

@@ -14,15 +14,15 @@ use Rattle.model.specs.BatchSemantics.{BatchSemantics, WindowInMemory, C
 use Rattle.model.specs.State.{Batch, Staging, idle, staging, Model, isOpen, windowOf, Owns, isIdle, stagedBy, missingBytes, stagedSlots, stagedBytes, totalBytes, countOf}
 use Rattle.model.specs.Refusals.{refusalTable, refusal}
 use Rattle.model.specs.Model.{Step, plain, refuse, withStaged, enqueue, runStep, pieceStep, effect, step, answers, memories, after}
-use Rattle.model.specs.Noninterference.{Pointwise, none, more, AgreeOutside}
+use Rattle.model.specs.Noninterference.{Pointwise, nil, cons, AgreeOutside}
 use Rattle.model.proofs.Tests.{by-in}
 use Rattle.model.proofs.Refusals.{unless-both, run-allowed, piece-allowed, close-allowed}
 use Rattle.model.proofs.Locality.{zero-local, zero-in}
 use Rattle.model.proofs.Sound.{Named, Sound, fitted}
 
 pub each-append : {A : Type 0} {R : A → A → Type 0} {xs ys us vs : List A} → Pointwise R xs ys → Pointwise R us vs → Pointwise R (xs ++ us) (ys ++ vs)
-each-append none r = r
-each-append (more q qs) r = more q (each-append qs r)
+each-append nil r = r
+each-append (cons q qs) r = cons q (each-append qs r)
 
 cond-both : (Q : Step → Step → Type 0) (t t′ : Bool) (a a′ b b′ : Step) → t ≡ t′ → Q a a′ → Q b b′ → Q (cond t a b) (cond t′ a′ b′)
 cond-both Q t t′ a a′ b b′ e f g = rw (← e) (go t)
@@ -44,18 +44,18 @@ module _ (Secret : ℕ → Type 0) where
     both-staging : (client total : ℕ) (x y : List ℕ) → length x ≡ length y → (¬ (Secret client) → x ≡ y) → SameStaging (staging client total x) (staging client total y)
 
   same-length : {vs ws : List Batch} → Pointwise SameBatch vs ws → length vs ≡ length ws
-  same-length none = refl
-  same-length (more q qs) = ap suc (same-length qs)
+  same-length nil = refl
+  same-length (cons q qs) = ap suc (same-length qs)
 
   same-total : {vs ws : List Batch} → Pointwise SameBatch vs ws → totalBytes vs ≡ totalBytes ws
   unfolding totalBytes
-  same-total none = refl
-  same-total (more q qs) = rw (q .size, same-total qs)
+  same-total nil = refl
+  same-total (cons q qs) = rw (q .size, same-total qs)
 
   pub same-count : (k : ℕ) {vs ws : List Batch} → Pointwise SameBatch vs ws → countOf k vs ≡ countOf k ws
   unfolding countOf
-  same-count k none = refl
-  same-count k (more q qs) = rw (q .client, same-count k qs)
+  same-count k nil = refl
+  same-count k (cons q qs) = rw (q .client, same-count k qs)
 
   -- what the table asks of a staged submission
   pub record Shape (g h : Staging) : Type 0 where
@@ -74,9 +74,9 @@ pub record View : Type 1 where
   pub Secret : ℕ → Type 0
   pub secret? : (k : ℕ) → Secret k ⊎ ¬ (Secret k)
   pub Hid : ℕ → Type 0
-  pub Told : Answer → Answer → Type 0
-  pub alike : (a : Answer) → Told a a
-  pub own-told : (k t : ℕ) (v v′ : CompletionStatus) → Secret k → Told (completed k t v) (completed k t v′)
+  pub AnswersAgree : Answer → Answer → Type 0
+  pub alike : (a : Answer) → AnswersAgree a a
+  pub own-agree : (k t : ℕ) (v v′ : CompletionStatus) → Secret k → AnswersAgree (completed k t v) (completed k t v′)
 
 pub record Rel (X : View) (model model′ : Model) : Type 0 where
   pub places : model .places ≡ model′ .places
@@ -93,11 +93,11 @@ pub record Hidden (setup : Setup) (X : View) (model : Model) : Type 0 where
   pub common : (i : ℕ) → i < setup .common → ¬ (X .Hid i)
 
 abbrev pub Both : View → Step → Step → Type 0
-Both X s s′ = X .Told (s .answer) (s′ .answer) × Rel X (s .after) (s′ .after)
+Both X s s′ = X .AnswersAgree (s .answer) (s′ .answer) × Rel X (s .after) (s′ .after)
 
 -- two lists of calls; w holds the hidden bytes
 pub record Runs (way : BatchSemantics) (setup : Setup) (ring : ℕ) (X : View) (w : Window) (cs cs′ : List Call) (model model′ : Model) : Type 0 where
-  pub same-answers : Pointwise (X .Told) (answers way setup ring cs model) (answers way setup ring cs′ model′)
+  pub same-answers : Pointwise (X .AnswersAgree) (answers way setup ring cs model) (answers way setup ring cs′ model′)
   pub seen : Pointwise (AgreeOutside w) (memories way setup ring cs model) (memories way setup ring cs′ model′)
   pub rel : Rel X (after way setup ring cs model) (after way setup ring cs′ model′)
 
@@ -129,8 +129,8 @@ module _ (way : BatchSemantics) (L : Confined way) (setup : Setup) (ring : ℕ) 
         (λ (o : ¬ (In v i)). zero-local v (setup .common) .outside m h i o ∙ f o ∙ sym (zero-local v (setup .common) .outside m′ h′ i o))
         (by-in v i)
 
-  told-eq : (a a′ : Answer) → a ≡ a′ → X .Told a a′
-  told-eq a a′ e = rw e (X .alike a′)
+  agree-eq : (a a′ : Answer) → a ≡ a′ → X .AnswersAgree a a′
+  agree-eq a a′ e = rw e (X .alike a′)
 
   module _ (model model′ : Model) (S : Sound setup model) (R : Rel X model model′) where
     G : Shape (X .Secret) (model .staged) (model′ .staged)
@@ -145,10 +145,10 @@ module _ (way : BatchSemantics) (L : Confined way) (setup : Setup) (ring : ℕ) 
     enqueued-both : (k : ℕ) (x y : List ℕ) → length x ≡ length y → (¬ (X .Secret k) → x ≡ y) → Both X (enqueue model k x) (enqueue model′ k y)
     enqueued-both k x y e f =
         let t : model .accepted % 4294967296 ≡ model′ .accepted % 4294967296 = ap (λ (a : ℕ). a % 4294967296) (R .accepted) in (
-          told-eq _ _ (ap accepted t),
+          agree-eq _ _ (ap accepted t),
           record {
             places = R .places;
-            waiting = each-append (R .waiting) (more (record { client = refl; ticket = t; size = e; bytes = f }) none);
+            waiting = each-append (R .waiting) (cons (record { client = refl; ticket = t; size = e; bytes = f }) nil);
             staged = both-idle;
             accepted = ap suc (R .accepted);
             size = R .size;
@@ -243,7 +243,7 @@ module _ (way : BatchSemantics) (L : Confined way) (setup : Setup) (ring : ℕ) 
         in
         ⊎-elim
         (λ (own : X .Secret (b .client)). (
-          rw (← q .client, ← q .ticket) (X .own-told (b .client) (b .ticket) _ _ own),
+          rw (← q .client, ← q .ticket) (X .own-agree (b .client) (b .ticket) _ _ own),
           record {
             places = R .places;
             waiting = qs;
@@ -254,7 +254,7 @@ module _ (way : BatchSemantics) (L : Confined way) (setup : Setup) (ring : ℕ) 
           },
         ))
         (λ (other : ¬ (X .Secret (b .client))). (
-          told-eq _ _ (rw (ev, q .client, q .ticket, q .bytes other)),
+          agree-eq _ _ (rw (ev, q .client, q .ticket, q .bytes other)),
           record {
             places = R .places;
             waiting = qs;
@@ -274,8 +274,8 @@ module _ (way : BatchSemantics) (L : Confined way) (setup : Setup) (ring : ℕ) 
         refused-both
       where
         go : length (model .memory) ≡ setup .memory → {bs bs′ : List Batch} → Named (isOpen model) bs → Pointwise (SameBatch (X .Secret)) bs bs′ → Both X (runStep way (setup .common) model bs) (runStep way (setup .common) model′ bs′)
-        go e n none = refused-both 9
-        go e n (more {x = b} {y = b′} {xs = bs} {ys = bs′} q qs) = taken-both H e b b′ bs bs′ (n .0) q qs
+        go e n nil = refused-both 9
+        go e n (cons {x = b} {y = b′} {xs = bs} {ys = bs′} q qs) = taken-both H e b b′ bs bs′ (n .0) q qs
 
     pub same-both : Hidden setup X model → (c : Call) → Both X (step way setup ring c model) (step way setup ring c model′)
     same-both H (opens w) = open-both w
@@ -296,12 +296,12 @@ module _ (way : BatchSemantics) (L : Confined way) (setup : Setup) (ring : ℕ) 
       (pair-both : (c c′ : Call) → Pair c c′ → (model model′ : Model) → Sound setup model → Hidden setup X model → Rel X model model′ → Both X (step way setup ring c model) (step way setup ring c′ model′)) where
     pub runs : (cs cs′ : List Call) → Pointwise Pair cs cs′ → (model model′ : Model) → Inv cs model → Rel X model model′ → Runs way setup ring X w cs cs′ model model′
     unfolding answers memories after
-    runs _ _ none model model′ I R = record { same-answers = none; seen = none; rel = R }
-    runs _ _ (more {x = c} {y = c′} {xs = cs} {ys = cs′} q qs) model model′ I R =
+    runs _ _ nil model model′ I R = record { same-answers = nil; seen = nil; rel = R }
+    runs _ _ (cons {x = c} {y = c′} {xs = cs} {ys = cs′} q qs) model model′ I R =
         let s = pair-both c c′ q model model′ (sound (c ∷ cs) model I) (hides c cs model I) R in
         let r = runs cs cs′ qs (step way setup ring c model .after) (step way setup ring c′ model′ .after) (next c cs model I) (s .1) in
         record {
-          same-answers = more (s .0) (r .same-answers);
-          seen = more (record { size = s .1 .size; bytes = λ i o. s .1 .bytes i (λ h. o (inside i h)) }) (r .seen);
+          same-answers = cons (s .0) (r .same-answers);
+          seen = cons (record { size = s .1 .size; bytes = λ i o. s .1 .bytes i (λ h. o (inside i h)) }) (r .seen);
           rel = r .rel;
         }

@@ -15,7 +15,7 @@ use Rattle.model.specs.BatchSemantics.{BatchSemantics, WindowInMemory, S
 use Rattle.model.specs.State.{Batch, Place, taken, windowIn, Model, initialModel, placeOf, isOpen, windowOf, isTaken}
 use Rattle.model.specs.Model.{Step, step, after, executed, closed, modelAfterAll}
 use Rattle.model.specs.Tenancy.{batchesOf, drawBatches, leftOver, OpenThroughout, entered, Tenancy, replayedAlone}
-use Rattle.model.specs.Properties.{Isolation}
+use Rattle.model.specs.Machine.{modelMachine, Isolation}
 use Rattle.model.proofs.Tests.{by-eq, by-in, contains-in, contains-out, contains-append, apart-of}
 use Rattle.model.proofs.Clients.{open-apart, next-in, stays-owned, kept-place, not-closed}
 use Rattle.model.proofs.Locality.{zero-local, zero-in}
@@ -220,7 +220,7 @@ module _ (way : BatchSemantics) (L : Confined way) (setup : Setup) (ring : ℕ) 
         (record { window = λ i _. rw e; common = λ i _. rw e; size = rw e })
         .window i p)
 
-  pub separate : (cs : List Call) → Isolation way setup ring cs m₀
+  pub separate : (cs : List Call) → Isolation way setup ring cs m₀ (modelMachine way setup ring) (initialModel m₀)
   separate cs =
       let R = rest cs in
       record {

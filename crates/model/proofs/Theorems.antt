@@ -24,6 +24,7 @@ claims way setup ring = record {
   tenanted = sound.tenanted way setup ring;
   in-order = queue.in-order way setup ring;
   in-time = queue.in-time way setup ring;
-  harmless = refusals.harmless way setup ring;
+  refused-no-change = refusals.refused-no-change way setup ring;
+  quiet = refusals.quiet-refusal way setup ring;
   cutting = pieces.cutting way setup ring;
 }

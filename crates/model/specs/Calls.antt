@@ -33,7 +33,7 @@ pub record CompletionStatus : Type 0 where
 
 -- What is answered (01, "Engine, desks, queue"): by open the client's id, by submit the ticket, by run its completion, by pending the
 -- number of the client's ready batches. 02, 6: "A piece answers the bytes still to come, the last its ticket." Begin, cancelling and closing
--- have nothing to tell. "A refusal gives only its number."
+-- have nothing to answer. "A refusal gives only its number."
 pub data Answer : Type 0 where
   opened : (client : ℕ) → Answer
   accepted : (ticket : ℕ) → Answer

@@ -72,14 +72,14 @@ windowsIn (free ∷ places) = windowsIn places
 windowsIn (taken w ∷ places) = w ∷ windowsIn places
 
 -- The first place that is free (02, 11: "the lowest free id"); past the last if none is.
-unfoldable pub lowestFree : List Place → ℕ
-lowestFree [] = 0
-lowestFree (free ∷ places) = 0
-lowestFree (taken w ∷ places) = suc (lowestFree places)
+unfoldable pub lowestFreeId : List Place → ℕ
+lowestFreeId [] = 0
+lowestFreeId (free ∷ places) = 0
+lowestFreeId (taken w ∷ places) = suc (lowestFreeId places)
 
 -- The id that the next open gives (02, 11: "open takes the lowest free id").
 abbrev pub nextClient : Model → ℕ
-nextClient model = lowestFree (model .places)
+nextClient model = lowestFreeId (model .places)
 
 -- The windows that are taken (01, "Engine, desks, queue", the table, 3 and 4; 02, 11: '"Four desks open" counts open ones').
 abbrev pub openWindows : Model → List Window

@@ -72,10 +72,10 @@ numeral-whole largest value at (byte ∷ digits) rest d h s =
 
 -- ---- all of a text
 
--- it is digits that spell this number, and that is not too large
+-- it is digits that stand for this number, and that is not too large
 pub record Whole (largest high : ℕ) (text : List ℕ) (value : ℕ) : Type 0 where
   pub digits : allDigits text ≡ true
-  pub spelt : value ≡ decimalValue high text
+  pub value-is : value ≡ decimalValue high text
   pub small : decimalValue high text ≤ largest
 
 whole-more : (largest value at byte more : ℕ) (text : List ℕ) (b : Bool) → more ≡ value * 10 + (byte - 48) → isDigit byte && leb more largest ≡ b
@@ -86,12 +86,12 @@ unfolding allDigits decimalValue
 whole-more largest value at byte more text true is g rest e =
     let both = and-true (isDigit byte) (leb more largest) g in
     let w = rest (leb-true more largest (both .1)) (e ∙ omega arith) in
-    record { digits = rw (both .0) (w .digits); spelt = w .spelt ∙ rw is; small = rw is at (w .small) }
+    record { digits = rw (both .0) (w .digits); value-is = w .value-is ∙ rw is; small = rw is at (w .small) }
 whole-more largest value at byte more text false is g rest e = absurd (omega (arith, e))
 
 pub numeral-part : (largest value at : ℕ) (text : List ℕ) → value ≤ largest → numeralFrom largest value at text .end ≡ at + length text
     → Whole largest value text (numeralFrom largest value at text .value)
 unfolding numeralFrom
-numeral-part largest value at [] small e = unfold allDigits decimalValue in record { digits = refl; spelt = refl; small = small }
+numeral-part largest value at [] small e = unfold allDigits decimalValue in record { digits = refl; value-is = refl; small = small }
 numeral-part largest value at (byte ∷ text) small e =
     whole-more largest value at byte (value * 10 + (byte - 48)) text (isDigit byte && leb (value * 10 + (byte - 48)) largest) refl refl (numeral-part largest (value * 10 + (byte - 48)) (at + 1) text) e

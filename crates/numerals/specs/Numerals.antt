@@ -13,12 +13,12 @@ unfoldable pub allDigits : List ℕ → Bool
 allDigits [] = true
 allDigits (byte ∷ bytes) = isDigit byte && allDigits bytes
 
--- the number that digits spell, after digits that spell `high`
+-- the number that digits stand for, after digits that stand for `high`
 unfoldable pub decimalValue : (high : ℕ) → List ℕ → ℕ
 decimalValue high [] = high
 decimalValue high (byte ∷ bytes) = decimalValue (high * 10 + (byte - 48)) bytes
 
--- the number that the digits at the front of a text spell, after digits that spell `high` and end at `at`, as long as it does not pass the largest one
+-- the number that the digits at the front of a text stand for, after digits that stand for `high` and end at `at`, as long as it does not pass the largest one
 unfoldable pub numeralFrom : (largest high at : ℕ) → List ℕ → Numeral
 numeralFrom largest high at [] = record { value = high; end = at }
 numeralFrom largest high at (byte ∷ bytes) =

@@ -5,7 +5,7 @@ ghost use lib.ListN.{length, drop};
 ghost use lib.Dec.{leb};
 ghost use Rattle.numerals.specs.Numerals.{isDigit, numeralFrom};
 
-// A number that digits spell, and where in the text they end.
+// A number that digits stand for, and where in the text they end.
 pub struct Numeral {
     pub value: u64,
     pub end: usize,
@@ -34,7 +34,7 @@ fn fits(value: u64, digit: u64, largest: u64) -> bool
     value <= (largest - digit) / 10
 }
 
-// The number that digits spell from a place of a text on, up to the first character that is no digit or with which the number would pass the
+// The number that digits stand for from a place of a text on, up to the first character that is no digit or with which the number would pass the
 // largest one. Where there is none it is 0 and ends where it began.
 pub fn read(text: &[u8], at: usize, largest: u64) -> Numeral
     ensures { λ r. ⌜ (r ≡ numeralFrom largest 0 at (drop at (now (text .entry)))) × (r .end ≤ at + length (now (text .entry))) ⌝ }

@@ -34,9 +34,9 @@ are v s o h =
     let b = both _ _ (p .1) in
     record { first = eqb-true _ v (a .0); second = eqb-true _ v (a .1); third = eqb-true _ v (b .0); fourth = eqb-true _ v (b .1) }
 
-told : (v : ℕ) (s : List ℕ) (o : ℕ) → Are s o v → alphasAre v s o ≡ true
+alphasAre-true : (v : ℕ) (s : List ℕ) (o : ℕ) → Are s o v → alphasAre v s o ≡ true
 unfolding alphasAre
-told v s o a =
+alphasAre-true v s o a =
     and-holds _ _ (and-holds _ _ (eq-eqb _ v (a .first)) (eq-eqb _ v (a .second))) (and-holds _ _ (eq-eqb _ v (a .third)) (eq-eqb _ v (a .fourth)))
 
 module _ (s : List ℕ) (o t : ℕ) (in-s : (j : ℕ) → getD s j 0 < 256) (sum : t ≡ alphaSum s o) where
@@ -44,13 +44,13 @@ module _ (s : List ℕ) (o t : ℕ) (in-s : (j : ℕ) → getD s j 0 < 256) (sum
   full-sum =
       let a = in-s (o + 3) in let b = in-s (o + 7) in let c = in-s (o + 11) in let d = in-s (o + 15) in
       same-test (eqb t 1020) (alphasAre 255 s o)
-      (λ h. let z : t ≡ 1020 = eqb-true t 1020 h in told 255 s o (record { first = omega arith; second = omega arith; third = omega arith; fourth = omega arith }))
+      (λ h. let z : t ≡ 1020 = eqb-true t 1020 h in alphasAre-true 255 s o (record { first = omega arith; second = omega arith; third = omega arith; fourth = omega arith }))
       (λ h. let r = are 255 s o h in eq-eqb t 1020 (omega (arith, r .first, r .second, r .third, r .fourth)))
 
   pub empty-sum : eqb t 0 ≡ alphasAre 0 s o
   empty-sum =
       same-test (eqb t 0) (alphasAre 0 s o)
-      (λ h. let z : t ≡ 0 = eqb-true t 0 h in told 0 s o (record { first = omega arith; second = omega arith; third = omega arith; fourth = omega arith }))
+      (λ h. let z : t ≡ 0 = eqb-true t 0 h in alphasAre-true 0 s o (record { first = omega arith; second = omega arith; third = omega arith; fourth = omega arith }))
       (λ h. let r = are 0 s o h in eq-eqb t 0 (omega (arith, r .first, r .second, r .third, r .fourth)))
 
 -- A word of four bytes that is 0.

@@ -1,4 +1,4 @@
-// Four pixels of a row of ARGB8888 bytes: whether all their alphas are 255 or all 0, which their sum tells, and whether all their bytes are 0.
+// Four pixels of a row of ARGB8888 bytes: whether all their alphas are 255 or all 0, which their sum shows, and whether all their bytes are 0.
 ghost use mathlib.Core.Path.{_≡_};
 ghost use Prim.Native.Nat.{ℕ, _+_, _*_, _≤_, _<_};
 ghost use lib.ListN.{length, getD};

@@ -6,7 +6,8 @@ use lib.Dec.{T, eqb, eqb→eq}
 use Rattle.transform.specs.declared.Rotation.{Rotation}
 use Rattle.transform.specs.declared.Rotation.the-variants.{Rotate0, Rotate90, Rotate180, Rotate270}
 use Rattle.transform.specs.declared.Transform.{Transform}
-use Rattle.orientation.specs.Bits.{turns, rotationOf}
+use Rattle.transform.specs.Transform.{rotationOf}
+use Rattle.orientation.specs.Bits.{turns}
 
 -- ---- all settings
 

@@ -16,7 +16,7 @@ use Rattle.orientation.specs.Laws.{Alike, square, place, Exactly}
 use Rattle.transform.proofs.Inside.{source-within}
 use Rattle.orientation.proofs.Each.{one}
 use Rattle.orientation.proofs.Composed.{added-size, composed-source}
-use Rattle.orientation.proofs.Settings.{tells}
+use Rattle.orientation.proofs.Settings.{distinguishes}
 
 -- ---- the same orientation
 
@@ -67,7 +67,7 @@ seen t = at (sourcePixel t square (place 0)) + 4 * at (sourcePixel t square (pla
 determined : (a b : Transform) → sourcePixel a square (place 0) ≡ sourcePixel b square (place 0) → sourcePixel a square (place 1) ≡ sourcePixel b square (place 1) →
     SameOrientation a b
 unfolding seen sourcePixel opposite
-determined a b e f = tells seen tt a b (ap₂ (λ (p q : Point). at p + 4 * at q) e f)
+determined a b e f = distinguishes seen tt a b (ap₂ (λ (p q : Point). at p + 4 * at q) e f)
 
 -- turned, it is again 2 by 2
 pub turned-square : (r : Rotation) → rotatedSize r square ≡ square

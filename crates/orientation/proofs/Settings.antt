@@ -59,10 +59,10 @@ pub itself : (t : Transform) → SameOrientation (orientation t) t
 unfolding orientation opposite
 itself t = split (orientation t) t (each (λ (t : Transform). either-one (orientation t) t) tt t)
 
--- a number that no two settings of different orientation share tells them apart
-pub tells : (seen : Transform → ℕ) → T (every (λ (a : Transform). every (λ (b : Transform). either-one a b || not (eqb (seen a) (seen b))))) →
+-- a number that no two settings of different orientation share distinguishes them
+pub distinguishes : (seen : Transform → ℕ) → T (every (λ (a : Transform). every (λ (b : Transform). either-one a b || not (eqb (seen a) (seen b))))) →
     (a b : Transform) → seen a ≡ seen b → SameOrientation a b
-tells seen all a b e =
+distinguishes seen all a b e =
     ⊎-elim (split a b) (λ (n : T (not (eqb (seen a) (seen b)))). absurd (T-not (eqb (seen a) (seen b)) n alike))
     (or-split (either-one a b) (not (eqb (seen a) (seen b)))
     (each (λ (b : Transform). either-one a b || not (eqb (seen a) (seen b)))
@@ -74,7 +74,7 @@ tells seen all a b e =
 -- settings with the same one of the eight are the same setting or opposite ones
 agree : (a b : Transform) → orientation a ≡ orientation b → SameOrientation a b
 unfolding orientation opposite
-agree a b e = tells (λ (t : Transform). numberOf (orientation t)) tt a b (ap numberOf e)
+agree a b e = distinguishes (λ (t : Transform). numberOf (orientation t)) tt a b (ap numberOf e)
 
 pub oriented : (a b : Transform) → (orientation a ≡ orientation b) ↔ SameOrientation a b
 oriented a b =

@@ -6,6 +6,7 @@ use lib.Dec.{eqb}
 use Rattle.transform.specs.declared.Rotation.{Rotation}
 use Rattle.transform.specs.declared.Rotation.the-variants.{Rotate0, Rotate90, Rotate180, Rotate270}
 use Rattle.transform.specs.declared.Transform.{Transform}
+use Rattle.transform.specs.Transform.{rotationOf}
 
 -- quarter turns clockwise, 0 to 3
 abbrev pub turns : Rotation → ℕ
@@ -13,9 +14,6 @@ turns Rotate0 = 0
 turns Rotate90 = 1
 turns Rotate180 = 2
 turns Rotate270 = 3
-
-abbrev pub rotationOf : ℕ → Rotation
-rotationOf n = cond (eqb n 0) Rotate0 (cond (eqb n 1) Rotate90 (cond (eqb n 2) Rotate180 Rotate270))
 
 -- the setting in any word; its other bits are not looked at
 unfoldable pub settingOf : ℕ → Transform

@@ -77,7 +77,7 @@ turned a b m = record { y = m .v; v = m .y; first = m .second; second = m .first
 pub rows-turned : (a b : Surface) → rowsOverlap a b ≡ rowsOverlap b a
 rows-turned a b = exactly b a (rowsOverlap a b) (λ e. turned a b (meeting a b e)) (λ m. meeting-true a b (turned b a m))
 
--- ---- b begins no earlier, and both have the same stride: row r of a and the first of b tell
+-- ---- b begins no earlier, and both have the same stride: row r of a and the first of b decide
 
 module _ (a b : Surface) (o : StartsNoLater a b) where
   -- row r is the first that ends past b's first byte, or all rows of a lie at one place
@@ -98,21 +98,21 @@ module _ (a b : Surface) (o : StartsNoLater a b) where
       let d : ℕ = b .address - (a .address + rowLength a) in
       far (d / a .stride) (d % a .stride) z (omega (arith, div-add-mod' d (a .stride))) (mod-lt d (pos-of-ne-zero s))
 
-  abbrev Tells : ℕ → Type 0
-  Tells r = (r < a .height) × (0 < b .height) × (max (rowStart a r) (b .address) < min (rowStart a r + rowLength a) (b .address + rowLength b))
+  abbrev RowMeets : ℕ → Type 0
+  RowMeets r = (r < a .height) × (0 < b .height) × (max (rowStart a r) (b .address) < min (rowStart a r + rowLength a) (b .address + rowLength b))
 
   -- if any rows meet, these do
-  tells : (r : ℕ) → First r → Meeting a b → Tells r
-  tells r (near z l) m = rw z (omega (arith, m .first), omega (arith, m .second), omega (arith, o .address, m .common))
-  tells r (flat z s) m =
+  meets-row : (r : ℕ) → First r → Meeting a b → RowMeets r
+  meets-row r (near z l) m = rw z (omega (arith, m .first), omega (arith, m .second), omega (arith, o .address, m .common))
+  meets-row r (flat z s) m =
       let c = rw (← o .stride, s) at (m .common) in
       rw z (omega (arith, m .first), omega (arith, m .second), omega (arith, c))
-  tells r (far q j z g u) m = ⊎-elim late (λ l. absurd (early l)) (split (q + m .v) (m .y))
+  meets-row r (far q j z g u) m = ⊎-elim late (λ l. absurd (early l)) (split (q + m .v) (m .y))
     where
       same : m .v * b .stride ≡ m .v * a .stride
       same = ap (λ (s : ℕ). m .v * s) (sym (o .stride))
 
-      late : q + m .v < m .y → Tells r
+      late : q + m .v < m .y → RowMeets r
       late l =
           let p : (q + m .v + 1) * a .stride ≤ m .y * a .stride = mul-le-mul-right (a .stride) (omega arith) in
           rw z (omega (arith, m .first), omega (arith, m .second), omega (arith, same, m .common))
@@ -122,18 +122,18 @@ module _ (a b : Surface) (o : StartsNoLater a b) where
           let p : m .y * a .stride ≤ (q + m .v) * a .stride = mul-le-mul-right (a .stride) l in
           omega (arith, same, m .common)
 
-  met : (r : ℕ) → Tells r → Meeting a b
+  met : (r : ℕ) → RowMeets r → Meeting a b
   met r t = record { y = r; v = 0; first = t .0; second = t .1; common = omega (arith, t .2) }
 
-  pub row-tells : (r end from to : ℕ) → First r → end ≡ rowStart a r + rowLength a → from ≡ b .address → to ≡ b .address + rowLength b →
+  pub row-decides : (r end from to : ℕ) → First r → end ≡ rowStart a r + rowLength a → from ≡ b .address → to ≡ b .address + rowLength b →
       ltb r (a .height) && ltb 0 (b .height) && overlaps (record { start = rowStart a r; end = end }) (record { start = from; end = to }) ≡ rowsOverlap a b
-  row-tells r end from to f e g h =
+  row-decides r end from to f e g h =
       rw (e, g, h)
       (exactly a b _
       (λ t. let p = and-true _ _ t in
       let q = and-true _ _ (p .0) in
       met r (ltb-true _ _ (q .0), ltb-true _ _ (q .1), ltb-true _ _ (p .1)))
-      (λ m. let p = tells r f m in
+      (λ m. let p = meets-row r f m in
       simp (lt-ltb _ _ (p .0), lt-ltb _ _ (p .1), lt-ltb _ _ (p .2))))
 
 -- ---- what is separate
@@ -141,7 +141,7 @@ module _ (a b : Surface) (o : StartsNoLater a b) where
 -- rows that do not meet have no byte in common
 pub rows-separate : (a b : Surface) → rowsOverlap a b ≡ false → DisjointRows a b
 rows-separate a b e i y j v k r q =
-    false≢true (sym e ∙ meeting-true a b (record { y = y; v = v; first = r .row; second = q .row; common = omega (arith, r .is, r .column, q .is, q .column) }))
+    false≢true (sym e ∙ meeting-true a b (record { y = y; v = v; first = r .row; second = q .row; common = omega (arith, r .address, r .column, q .address, q .column) }))
 
 -- and rows that meet have one: the later of their starts
 pub common-byte : (a b : Surface) → rowsOverlap a b ≡ true → (i : ℕ) × (y : ℕ) × (j : ℕ) × (v : ℕ) × (k : ℕ) × InRow a i y j × InRow b i v k
@@ -153,8 +153,8 @@ common-byte a b e =
       i - rowStart a (m .y),
       m .v,
       i - rowStart b (m .v),
-      record { row = m .first; column = omega (arith, m .common); is = omega arith },
-      record { row = m .second; column = omega (arith, m .common); is = omega arith },
+      record { row = m .first; column = omega (arith, m .common); address = omega arith },
+      record { row = m .second; column = omega (arith, m .common); address = omega arith },
     )
 
 -- surfaces that do not meet have no byte of a row in common

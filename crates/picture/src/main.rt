@@ -11,7 +11,7 @@ use records::Edition;
 use replay_io::Replaying;
 use surface::Surface;
 
-// The number that an argument spells; that it spells none is reported, with the argument's name.
+// The number that an argument holds; that it holds none is reported, with the argument's name.
 fn number_argument(index: usize, name: &[u8]) -> ParsedNumber {
     let mut text = io::buffer();
     let n = os::arg(index, &mut text);
@@ -25,7 +25,7 @@ fn format_argument(index: usize) -> ParsedFormat {
     command::format_in(&text[..n])
 }
 
-// The rectangle that the five arguments after the file's name. What is wrong with them is reported.
+// The rectangle given by the five arguments after the file. What is wrong with them is reported.
 fn rectangle_argument(file: usize) -> Rectangle
     requires { ⌜ file ≤ 2 ⌝ }
 {
@@ -60,11 +60,11 @@ fn write_rows(memory: &[u8], s: Surface) {
     let mut out = io::large_buffer();
     let height = s.height;
     let mut y = 0;
-    let mut well = true;
-    while y < height && well {
+    let mut ok = true;
+    while y < height && ok {
         let n = ppm::row(memory, s, y, &mut out);
         let printed = command::print(&out, n);
-        well = printed.well;
+        ok = printed.ok;
         y += 1;
     }
 }
@@ -73,7 +73,7 @@ fn write_picture(memory: &[u8], s: Surface) {
     let mut line = [0u8; 64];
     let n = ppm::header(&mut line, s.width as u32, s.height as u32);
     let printed = command::print(&line, n);
-    if printed.well {
+    if printed.ok {
         write_rows(memory, s);
     }
 }
@@ -81,11 +81,11 @@ fn write_picture(memory: &[u8], s: Surface) {
 // Replays the file that an argument names in 65,536 zero bytes, by the slow engine or by the fast one, and, if nothing failed, writes the picture of the
 // rectangle.
 fn show(s: Surface, file: usize, slow: bool) -> Replaying
-    ensures { λ r. ⌜ ReplayedInZeros First false (r .handed) (r .well) ⌝ }
+    ensures { λ r. ⌜ ReplayedInZeros First false (r .handed) (r .ok) ⌝ }
 {
     let mut memory = [0u8; 65536];
     let came = replay_io::replay_argument(Edition::First, file, &mut memory, false, slow);
-    if came.well {
+    if came.ok {
         write_picture(&memory, s);
     }
     came

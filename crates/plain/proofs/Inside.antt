@@ -14,7 +14,7 @@ use Rattle.register.specs.Size.{sizeOf}
 use Rattle.register.specs.declared.task.Source.{Source}
 use Rattle.register.specs.declared.task.Destination.{Destination}
 use Rattle.register.specs.declared.task.Task.{Task}
-use Rattle.rows.specs.Row.{sourcePixelOf}
+use Rattle.row_pixels.specs.Row.{sourcePixelOf}
 use Rattle.raster.proofs.Pixel.{output-within, destination-within}
 use Rattle.plain.specs.Pixel.{SourcePixel, DestinationPixel, Pixel}
 

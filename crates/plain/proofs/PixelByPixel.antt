@@ -27,7 +27,7 @@ use Rattle.surface.proofs.Outside.{pixel-in-row}
 use Rattle.surface.proofs.Loaded.{loaded-same, more-stored}
 use Rattle.register.specs.declared.task.Task.{Task}
 use Rattle.register.specs.Size.{sizeOf}
-use Rattle.rows.specs.Row.{colourAt}
+use Rattle.row_pixels.specs.Row.{colourAt}
 use Rattle.raster.specs.Task.{pixelColour}
 use Rattle.raster.specs.Preconditions.{TaskInBounds, Drawable}
 use Rattle.raster.specs.Row.{rowDrawn, drawRow}
@@ -89,8 +89,8 @@ module _ (t : Task) (y n : ℕ) (memory : List ℕ) where
       loaded-same (s .format) (pixelStart s (p .x) (p .y)) (prefix t y n memory) memory length-begun
       (λ b u. begun-else (pixelStart s (p .x) (p .y) + b)
       (λ x k a c e. apart (pixelStart s (p .x) (p .y) + b) (p .y) (p .x * bytesPerPixel (s .format) + b) y (x * bytesPerPixel (t .output .format) + k)
-      (record { row = w .down; column = omega (arith, pixel-in-row s (p .x) (w .across)); is = omega arith })
-      (record { row = h; column = omega (arith, pixel-in-row (t .output) x (omega arith)); is = omega arith })))
+      (record { row = w .down; column = omega (arith, pixel-in-row s (p .x) (w .across)); address = omega arith })
+      (record { row = h; column = omega (arith, pixel-in-row (t .output) x (omega arith)); address = omega arith })))
 
   -- the next pixel of the output itself
   next-kept : colourAt (t .output) (prefix t y n memory) (record { x = n; y = y }) ≡ colourAt (t .output) memory (record { x = n; y = y })

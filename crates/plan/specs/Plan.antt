@@ -1,4 +1,4 @@
--- Internal: how a rule is computed. The definition of a task does not speak of it; that a plan has the rule's factors is proofs/Factors.
+-- Internal: how a rule is computed; used only in contracts of helper functions. That a plan has the rule's factors is proofs/Factors.
 use mathlib.Core.Path.{_≡_}
 use mathlib.Core.Bool.{Bool, true, false, _&&_}
 use Prim.Native.Nat.{ℕ}

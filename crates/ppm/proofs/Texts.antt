@@ -26,7 +26,7 @@ module _ (text : List ℕ) (n : Numeral) (n-is : n ≡ numeralFrom 4294967295 0 
   unfolding parseNumber
   number-whole some e =
       let w = numeral-part 4294967295 0 0 text (omega arith) (end-is e) in
-      let value : n .value ≡ decimalValue 0 text = ap (λ (m : Numeral). m .value) n-is ∙ w .spelt in
+      let value : n .value ≡ decimalValue 0 text = ap (λ (m : Numeral). m .value) n-is ∙ w .value-is in
       let small : ltb (decimalValue 0 text) 4294967296 ≡ true = lt-ltb (decimalValue 0 text) 4294967296 (omega (arith, w .small)) in
       (rw (lt-ltb 0 (length text) some, w .digits, small, value), omega (arith, value, w .small))
 

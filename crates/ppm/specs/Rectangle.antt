@@ -16,20 +16,20 @@ use Rattle.ppm.specs.declared.rectangle.Pixel.the-variants.{At, TooFar}
 abbrev pub isSide : ℕ → Bool
 isSide side = leb 1 side && leb side 4096
 
-abbrev pub surfaceOf : (address stride width height : ℕ) → Format → Surface
-surfaceOf address stride width height format = record { address = address; stride = stride; width = width; height = height; format = format }
+abbrev pub rectangleSurface : (address stride width height : ℕ) → Format → Surface
+rectangleSurface address stride width height format = record { address = address; stride = stride; width = width; height = height; format = format }
 
 abbrev pub isShown : Surface → Bool
 isShown s = isSide (s .width) && isSide (s .height) && ltb (s .stride) 65536 && containedIn (span s) (rangeOf 0 65536)
 
 unfoldable pub rectangleOf : (address stride width height : ℕ) → Format → Rectangle
 rectangleOf address stride width height format =
-    let s : Surface = surfaceOf address stride width height format in
+    let s : Surface = rectangleSurface address stride width height format in
     cond (isShown s) (Inside s) Outside
 
 -- the first byte of pixel (x, y) of a page: sides and stride have the same limits. The byte may lie outside memory
 unfoldable pub pixelOf : (address stride : ℕ) → Format → (x y : ℕ) → Pixel
 pixelOf address stride format x y =
     cond (ltb stride 65536 && ltb x 4096 && ltb y 4096)
-    (At (pixelStart (surfaceOf address stride 4096 4096 format) x y))
+    (At (pixelStart (rectangleSurface address stride 4096 4096 format) x y))
     TooFar

@@ -35,7 +35,7 @@ fn to_lower(byte: u8) -> u8
     }
 }
 
-// Whether a text is a word of small letters, itself in letters of either kind.
+// Whether a text is equal to this lower-case word, ignoring case.
 fn equals_ignoring_case(text: &[u8], word: &[u8]) -> bool
     ensures { λ r. ⌜ r ≡ equalsIgnoringCase (now (text .entry)) (now (word .entry)) ⌝ }
 {

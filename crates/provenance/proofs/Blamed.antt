@@ -15,9 +15,9 @@ use Rattle.register.specs.Bank.{writeRegister}
 use Rattle.register.specs.declared.bank.Bank.{Bank}
 use Rattle.register.specs.declared.bank.WriteResult.the-variants.{Refused}
 use Rattle.register.specs.declared.bank.WriteFault.the-variants.{Forbidden as NotTaken}
-use Rattle.rules.specs.declared.fault.Fault.{Fault}
-use Rattle.rules.specs.declared.fault.Fault.the-variants.{ReservedBits, GroupLength, OpenTask, NotWritable, Forbidden, BadSurface, SizeMismatch, OutOfBounds, Overlap}
-use Rattle.rules.specs.Faults.{faultNumber}
+use Rattle.task_check.specs.declared.fault.Fault.{Fault}
+use Rattle.task_check.specs.declared.fault.Fault.the-variants.{ReservedBits, GroupLength, OpenTask, NotWritable, Forbidden, BadSurface, SizeMismatch, OutOfBounds, Overlap}
+use Rattle.task_check.specs.Faults.{faultNumber}
 use Rattle.batch.specs.Batch.{DecodedBatch, BatchEnd, finished, faulty, verdictOf, statusWordOf}
 use Rattle.claims.specs.BatchSemantics.{boundsOf, completionStatusOf}
 use Rattle.model.specs.Calls.{CompletionStatus, completed}

@@ -14,13 +14,13 @@ use Rattle.register.specs.declared.bank.WriteResult.{WriteResult}
 use Rattle.register.specs.declared.bank.WriteResult.the-variants.{Written, Refused}
 use Rattle.register.specs.declared.bank.WriteFault.the-variants.{NotWritable as Unwritable, Forbidden as NotTaken}
 use Rattle.register.specs.declared.task.Task.{Task}
-use Rattle.rules.specs.declared.fault.Fault.{Fault}
-use Rattle.rules.specs.declared.fault.Fault.the-variants.{ReservedBits, GroupLength, OpenTask, NotWritable, Forbidden, BadSurface, SizeMismatch, OutOfBounds, Overlap}
-use Rattle.rules.specs.declared.task.Bounds.{Bounds}
-use Rattle.rules.specs.declared.task.TaskCheck.{TaskCheck}
-use Rattle.rules.specs.declared.task.TaskCheck.the-variants.{Valid, Invalid}
-use Rattle.rules.specs.Rules.{badSurface, sizeMismatch, outOfBounds, outputOverlaps, checkTask}
-use Rattle.batch.specs.Batch.{DecodedBatch, BatchEnd, finished, faulty, stopWith, consTask, DecoderState, start, inside, reservedBits, badGroupLength, decodeHeader, afterWrite, afterTaskCheck, groupOf, decodeFrom, decodeBatch}
+use Rattle.task_check.specs.declared.fault.Fault.{Fault}
+use Rattle.task_check.specs.declared.fault.Fault.the-variants.{ReservedBits, GroupLength, OpenTask, NotWritable, Forbidden, BadSurface, SizeMismatch, OutOfBounds, Overlap}
+use Rattle.task_check.specs.declared.task.Bounds.{Bounds}
+use Rattle.task_check.specs.declared.task.TaskCheck.{TaskCheck}
+use Rattle.task_check.specs.declared.task.TaskCheck.the-variants.{Valid, Invalid}
+use Rattle.task_check.specs.Rules.{badSurface, sizeMismatch, outOfBounds, outputOverlaps, checkTask}
+use Rattle.batch.specs.Batch.{DecodedBatch, BatchEnd, finished, faulty, stopWith, consTask, DecoderState, betweenTasks, inGroup, reservedBits, badGroupLength, decodeHeader, afterWrite, afterTaskCheck, groupOf, decodeFrom, decodeBatch}
 use Rattle.batch.proofs.Readings.{onFrom, onWith}
 use Rattle.provenance.specs.declared.Group.{Group}
 use Rattle.provenance.specs.Faulted.{groupAfter, registerFrom, registerAt}
@@ -35,8 +35,8 @@ abbrev Claim : DecodedBatch → ℕ → Group → List ℕ → Type 0
 Claim r k g ws = (place : ℕ) → r .ending ≡ faulty Forbidden place → Refuses (r .bank) k g ws place
 
 abbrev groupIn : DecoderState → Group
-groupIn start = record { left = 0; register = 0 }
-groupIn (inside left offset ends head) = record { left = left; register = offset }
+groupIn betweenTasks = record { left = 0; register = 0 }
+groupIn (inGroup left offset ends head) = record { left = left; register = offset }
 
 -- one word further on
 further : (r : DecodedBatch) (k : ℕ) (g : Group) (w : ℕ) (ws : List ℕ) → Claim r (k + 1) (groupAfter g w) ws → Claim r k g (w ∷ ws)
@@ -100,20 +100,20 @@ module _ (bounds : Bounds) where
 
   claim-from : (b : Bank) (k : ℕ) (position : DecoderState) (ws : List ℕ) → Claim (decodeFrom bounds b k position ws) k (groupIn position) ws
   unfolding decodeFrom
-  claim-from b k start [] place e = absurd (not-finished place e)
-  claim-from b k start (h ∷ ws) place e = header-claim b k 0 0 h ws (onFrom bounds b k ws) refl (claim-from b (k + 1) (groupOf k h) ws) place e
-  claim-from b k (inside (suc n) offset ends head) [] place e = absurd (other GroupLength (4 * head) place (λ (z : GroupLength ≡ Forbidden). let y : _≡_ {A = ℕ} 0 1 = cc in omega arith) e)
-  claim-from b k (inside (suc n) offset ends head) (w ∷ ws) place e =
-      word-claim b k n offset w ws (onWith bounds k (inside n (offset + 4) ends head) ws) (λ next. claim-from next (k + 1) (inside n (offset + 4) ends head) ws) place e
-  claim-from b k (inside zero offset false head) [] place e = absurd (other OpenTask (4 * head) place (λ (z : OpenTask ≡ Forbidden). let y : _≡_ {A = ℕ} 0 1 = cc in omega arith) e)
-  claim-from b k (inside zero offset false head) (h ∷ ws) place e = header-claim b k 0 offset h ws (onFrom bounds b k ws) refl (claim-from b (k + 1) (groupOf k h) ws) place e
-  claim-from b k (inside zero offset true head) [] place e = judged-claim b head k (record { left = 0; register = offset }) [] (stopWith b finished) (λ place e. absurd (not-finished place e)) place e
-  claim-from b k (inside zero offset true head) (h ∷ ws) place e =
+  claim-from b k betweenTasks [] place e = absurd (not-finished place e)
+  claim-from b k betweenTasks (h ∷ ws) place e = header-claim b k 0 0 h ws (onFrom bounds b k ws) refl (claim-from b (k + 1) (groupOf k h) ws) place e
+  claim-from b k (inGroup (suc n) offset ends head) [] place e = absurd (other GroupLength (4 * head) place (λ (z : GroupLength ≡ Forbidden). let y : _≡_ {A = ℕ} 0 1 = cc in omega arith) e)
+  claim-from b k (inGroup (suc n) offset ends head) (w ∷ ws) place e =
+      word-claim b k n offset w ws (onWith bounds k (inGroup n (offset + 4) ends head) ws) (λ next. claim-from next (k + 1) (inGroup n (offset + 4) ends head) ws) place e
+  claim-from b k (inGroup zero offset false head) [] place e = absurd (other OpenTask (4 * head) place (λ (z : OpenTask ≡ Forbidden). let y : _≡_ {A = ℕ} 0 1 = cc in omega arith) e)
+  claim-from b k (inGroup zero offset false head) (h ∷ ws) place e = header-claim b k 0 offset h ws (onFrom bounds b k ws) refl (claim-from b (k + 1) (groupOf k h) ws) place e
+  claim-from b k (inGroup zero offset true head) [] place e = judged-claim b head k (record { left = 0; register = offset }) [] (stopWith b finished) (λ place e. absurd (not-finished place e)) place e
+  claim-from b k (inGroup zero offset true head) (h ∷ ws) place e =
       judged-claim b head k (record { left = 0; register = offset }) (h ∷ ws) (decodeHeader b k h (length ws) (onFrom bounds b k ws)) (header-claim b k 0 offset h ws (onFrom bounds b k ws) refl (claim-from b (k + 1) (groupOf k h) ws)) place e
 
   pub forbids : (bank : Bank) (ws : List ℕ) (place : ℕ) → decodeBatch bounds bank ws .ending ≡ faulty Forbidden place
       → writeRegister (decodeBatch bounds bank ws .bank) (registerAt ws (place / 4)) (getD ws (place / 4) 0) ≡ Refused NotTaken
   forbids bank ws place e =
-      let c = claim-from bank 0 start ws place e in
+      let c = claim-from bank 0 betweenTasks ws place e in
       let k : place / 4 ≡ c .after = omega (arith, c .is) in
       rw k (c .refuses)

@@ -27,17 +27,17 @@ module _ (s : Surface) (i : ℕ) where
       record {
         row = ltb-true y (s .height) (three .1);
         column = ltb-true j (rowLength s) (four .1);
-        is = omega (arith, div-add-mod' (i - s .address) (s .stride));
+        address = omega (arith, div-add-mod' (i - s .address) (s .stride));
       }
 
   row-holds : 0 < s .stride → rowLength s ≤ s .stride → (y j : ℕ) → InRow s i y j → holds s i ≡ true
   unfolding holds
   row-holds some roomy y j r =
-      let from : i - s .address ≡ y * s .stride + j = omega (arith, r .is) in
+      let from : i - s .address ≡ y * s .stride + j = omega (arith, r .address) in
       let less : j < s .stride = omega (arith, r .column) in
       let at : (i - s .address) / s .stride ≡ y = rw from (digits-div y less) in
       let on : (i - s .address) % s .stride ≡ j = rw from (digits-mod y less) in
-      let past : s .address ≤ i = omega (arith, r .is) in
+      let past : s .address ≤ i = omega (arith, r .address) in
       rw (at, on, lt-ltb 0 (s .stride) some, le-leb (s .address) i past, lt-ltb y (s .height) (r .row), lt-ltb j (rowLength s) (r .column))
 
   pub holds-out : 0 < s .stride → rowLength s ≤ s .stride → holds s i ≡ false → (y j : ℕ) → InRow s i y j → ⊥

@@ -10,8 +10,8 @@ use lib.Dec.{eqb}
 use Rattle.records.specs.declared.Edition.the-variants.{First}
 use Rattle.word.specs.Word.{words}
 use Rattle.register.specs.declared.task.Task.{Task}
-use Rattle.rules.specs.declared.task.Bounds.{Bounds}
-use Rattle.rules.proofs.Sound.{AllSound}
+use Rattle.task_check.specs.declared.task.Bounds.{Bounds}
+use Rattle.task_check.proofs.Sound.{AllSound}
 use Rattle.batch.specs.Batch.{tasksDrawn}
 use Rattle.batch.proofs.Tasks.{drawn-sound}
 use Rattle.raster.specs.Task.{drawTasks}
@@ -27,7 +27,7 @@ use Rattle.provenance.specs.declared.Touched.{Touched}
 use Rattle.provenance.specs.declared.Touched.the-variants.{NotDrawn, By}
 use Rattle.provenance.specs.Drawn.{Drawn, numbered, readingOf, drawnBy, drawnFrom, tasksOf}
 use Rattle.provenance.specs.Touched.{touchOf, lastFrom, touchedBy}
-use Rattle.provenance.specs.Reason.{zeros, memoryAfter, byteAfter, Wrote, Untouched, True, Promise}
+use Rattle.provenance.specs.Reason.{zeros, memoryAfter, byteAfter, Wrote, Untouched, True, ProvenanceHolds}
 use Rattle.provenance.proofs.Given.{given}
 use Rattle.provenance.proofs.Blamed.{blames}
 use Rattle.provenance.proofs.Tasks.{tasks-append, tasks-numbered, draw-append, AllRows, rows-append, LastOf, Last, last-is, writes, keeps, untouched}
@@ -152,5 +152,5 @@ module _ (entries : List Entry) (i : ℕ) (l : i < 65536) where
   unfolding touchedBy
   reason = true-by (last-is NotDrawn i all (drawn-rows 0 entries))
 
-pub promise : Promise
+pub promise : ProvenanceHolds
 promise = record { engine = engine; reason = reason; blames = blames }

@@ -8,7 +8,7 @@ use native.Mathlib.Omega.{arith}
 use lib.ListN.{length, getD}
 use Rattle.surface.specs.Surface.{InRow}
 use Rattle.register.specs.declared.task.Task.{Task}
-use Rattle.rules.proofs.Sound.{Rows}
+use Rattle.task_check.proofs.Sound.{Rows}
 use Rattle.raster.specs.Task.{drawTask, drawTasks}
 use Rattle.raster.specs.WriteFrame.{OutsideRows, OutsideAllRows, outputByte}
 use Rattle.raster.proofs.Judged.{rectangle}

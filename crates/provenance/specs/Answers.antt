@@ -24,22 +24,22 @@ refusalNumber TooManyRecords = 17
 refusalNumber NotFaulted = 29
 
 -- which task drew a byte, of so many records; memory is the replay's, of 65,536 bytes
-abbrev pub toldTouched : (records address : ℕ) → Touched → TouchedAnswer
-toldTouched records address touched =
+abbrev pub answerTouched : (records address : ℕ) → Touched → TouchedAnswer
+answerTouched records address touched =
     cond (leb 65536 address) (Refused OutsideMemory)
     (cond (ltb 1024 records) (Refused TooManyRecords)
     (Answered touched))
 
 -- why a batch faulted: 29 if its ticket was never given, and if it is faultless
-abbrev pub toldWhy : Why → FaultAnswer
-toldWhy NoFault = NotAnswered NotFaulted
-toldWhy (Faulted explanation) = Explained explanation
+abbrev pub answerWhy : Why → FaultAnswer
+answerWhy NoFault = NotAnswered NotFaulted
+answerWhy (Faulted explanation) = Explained explanation
 
-abbrev pub toldFault : (records : ℕ) → Why → FaultAnswer
-toldFault records why = cond (ltb 1024 records) (NotAnswered TooManyRecords) (toldWhy why)
+abbrev pub answerFault : (records : ℕ) → Why → FaultAnswer
+answerFault records why = cond (ltb 1024 records) (NotAnswered TooManyRecords) (answerWhy why)
 
 abbrev pub touchedAnswer : File → (address : ℕ) → TouchedAnswer
-touchedAnswer file address = toldTouched (length (file .entries)) address (touchedBy (file .entries) address)
+touchedAnswer file address = answerTouched (length (file .entries)) address (touchedBy (file .entries) address)
 
 abbrev pub faultAnswer : File → (ticket : ℕ) → FaultAnswer
-faultAnswer file ticket = toldFault (length (file .entries)) (faultedBy (file .entries) ticket)
+faultAnswer file ticket = answerFault (length (file .entries)) (faultedBy (file .entries) ticket)

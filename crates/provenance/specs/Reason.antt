@@ -1,5 +1,5 @@
 -- "Prove the reason true: the named task did write the byte, no later one did, and a byte not drawn is as at the start" (02, request 10).
--- proofs/Reason.antt proves `Promise`.
+-- proofs/Reason.antt proves `ProvenanceHolds`.
 use mathlib.Core.Path.{_≡_}
 use mathlib.Core.List.{List, [], _∷_, _++_}
 use Prim.Native.Nat.{ℕ, _<_, _/_}
@@ -94,7 +94,7 @@ pub record Blamed (entries : List Entry) (ticket : ℕ) (answer : Explanation) :
   pub refuses : (register held : ℕ) → answer .detail ≡ Register register held
       → (register ≡ registerAt (words (entry .batch)) (answer .place / 4)) × (held ≡ heldIn (readingOf entry .bank) register) × (writeRegister (readingOf entry .bank) register (answer .word) ≡ Refused NotTaken)
 
-pub record Promise : Type 0 where
+pub record ProvenanceHolds : Type 0 where
   -- the engine draws just these tasks, record for record
   pub engine : (entries : List Entry) → submitAndRunAll entries (replayStart First) .memory ≡ memoryAfter (drawnFrom 0 entries)
   -- the reason is true

@@ -1,7 +1,7 @@
 // Who drew a byte of a replay's memory last, and why a batch faulted: the answers and their refusals. What a task, a fault and an
 // answer are is defined in specs/, and the theorem stands there too; crate inquiry reads a file for the answers.
 ghost use mathlib.Core.Path.{_≡_};
-ghost use Rattle.provenance.specs.Answers.{refusalNumber, toldTouched, toldWhy, toldFault};
+ghost use Rattle.provenance.specs.Answers.{refusalNumber, answerTouched, answerWhy, answerFault};
 
 // The task that drew a byte: the ticket of its batch, its number there (from 0), and its source mode's number.
 pub struct Touch {
@@ -72,8 +72,8 @@ pub enum FaultAnswer {
 }
 
 // Who drew the byte at an address last, of so many records.
-pub fn tell_touched(records: u32, address: usize, touched: Touched) -> TouchedAnswer
-    ensures { λ r. ⌜ r ≡ toldTouched records address touched ⌝ }
+pub fn answer_touched(records: u32, address: usize, touched: Touched) -> TouchedAnswer
+    ensures { λ r. ⌜ r ≡ answerTouched records address touched ⌝ }
 {
     if 65536 <= address {
         return TouchedAnswer::Refused(Refusal::OutsideMemory);
@@ -84,8 +84,8 @@ pub fn tell_touched(records: u32, address: usize, touched: Touched) -> TouchedAn
     TouchedAnswer::Answered(touched)
 }
 
-fn tell_why(why: Why) -> FaultAnswer
-    ensures { λ r. ⌜ r ≡ toldWhy why ⌝ }
+fn answer_why(why: Why) -> FaultAnswer
+    ensures { λ r. ⌜ r ≡ answerWhy why ⌝ }
 {
     match why {
         Why::NoFault => FaultAnswer::Refused(Refusal::NotFaulted),
@@ -94,11 +94,11 @@ fn tell_why(why: Why) -> FaultAnswer
 }
 
 // Why a batch faulted, of so many records.
-pub fn tell_fault(records: u32, why: Why) -> FaultAnswer
-    ensures { λ r. ⌜ r ≡ toldFault records why ⌝ }
+pub fn answer_fault(records: u32, why: Why) -> FaultAnswer
+    ensures { λ r. ⌜ r ≡ answerFault records why ⌝ }
 {
     if records > 1024 {
         return FaultAnswer::Refused(Refusal::TooManyRecords);
     }
-    tell_why(why)
+    answer_why(why)
 }

@@ -6,13 +6,13 @@ use borrow.Author.Tests.{eq-eqb, ne-eqb}
 use Prim.Native.Nat.{ℕ, zero, suc, _+_, _-_}
 use lib.ListN.{length}
 use Rattle.ring.specs.Copied.{copiedIn}
-use Rattle.record.specs.declared.Setup.{Setup}
-use Rattle.record.specs.declared.Window.{Window}
-use Rattle.record.specs.declared.EngineRecord.{EngineRecord}
-use Rattle.record.specs.Slots.{readyBatches, countOf}
-use Rattle.record.specs.Clients.{lowestClosed}
-use Rattle.record.specs.Staged.{noStaged}
-use Rattle.record.specs.Queue.{writeOffset}
+use Rattle.engine_record.specs.declared.Setup.{Setup}
+use Rattle.engine_record.specs.declared.Window.{Window}
+use Rattle.engine_record.specs.declared.EngineRecord.{EngineRecord}
+use Rattle.engine_record.specs.Slots.{readyBatches, countOf}
+use Rattle.engine_record.specs.Clients.{lowestClosed}
+use Rattle.engine_record.specs.Staged.{noStaged}
+use Rattle.engine_record.specs.Queue.{writeOffset}
 use Rattle.queue.specs.declared.Answer.{Answer}
 use Rattle.queue.specs.declared.Answer.the-variants.{Refused, Done, Opened, Accepted, Ready, Missing}
 use Rattle.queue.specs.declared.Reply.{Reply}
@@ -68,16 +68,16 @@ module _ (engine : EngineRecord) (ring : List ℕ) (client : ℕ) (batch : List 
   unfolding submitResult submitRing
   submit-refused z =
       let h : submitNumber engine ring client batch ≡ 0 → ⊥ = λ q. z (is ∙ q) in (
-        reply (ap Refused is ∙ sym (answered-no _ (Accepted (engine .next)) h)) (sym (unless-no _ engine (submitted engine client (length batch)) h)),
+        reply (ap Refused is ∙ sym (answered-no _ (Accepted (engine .«next_ticket»)) h)) (sym (unless-no _ engine (submitted engine client (length batch)) h)),
         sym (unless-no _ ring (copiedIn ring (writeOffset engine) batch) h),
       )
 
   pub submit-done : n ≡ 0 → (after : EngineRecord) (new : List ℕ) → after ≡ submitted engine client (length batch) → new ≡ copiedIn ring (writeOffset engine) batch →
-      (record { answer = Accepted (engine .next); engine = after } ≡ submitResult engine ring client batch) × (new ≡ submitRing engine ring client batch)
+      (record { answer = Accepted (engine .«next_ticket»); engine = after } ≡ submitResult engine ring client batch) × (new ≡ submitRing engine ring client batch)
   unfolding submitResult submitRing
   submit-done z after new e r =
       let h : submitNumber engine ring client batch ≡ 0 = sym is ∙ z in (
-        reply (sym (answered-yes _ (Accepted (engine .next)) h)) (e ∙ sym (unless-yes _ engine (submitted engine client (length batch)) h)),
+        reply (sym (answered-yes _ (Accepted (engine .«next_ticket»)) h)) (e ∙ sym (unless-yes _ engine (submitted engine client (length batch)) h)),
         r ∙ sym (unless-yes _ ring (copiedIn ring (writeOffset engine) batch) h),
       )
 
@@ -133,7 +133,7 @@ module _ (engine : EngineRecord) (size : ℕ) where
   abbrev last : Bool
   last = isLast (engine .staged) size
 
-  pub last-answer : engine .staged .received + size ≡ engine .staged .total → Accepted (engine .next) ≡ pieceAnswer engine size
+  pub last-answer : engine .staged .received + size ≡ engine .staged .total → Accepted (engine .«next_ticket») ≡ pieceAnswer engine size
   last-answer e = rw (eq-eqb (engine .staged .received + size) (engine .staged .total) e)
 
   pub last-record : engine .staged .received + size ≡ engine .staged .total →

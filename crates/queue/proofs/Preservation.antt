@@ -6,15 +6,15 @@ use Prim.Native.Nat.{ℕ, zero, suc, _+_}
 use native.Mathlib.Omega.{arith}
 use borrow.Author.Tests.{eqb-false}
 use lib.ListN.{length}
-use Rattle.record.specs.declared.Setup.{Setup}
-use Rattle.record.specs.declared.Window.{Window}
-use Rattle.record.specs.declared.EngineRecord.{EngineRecord}
-use Rattle.record.specs.Slots.{lowestFree}
-use Rattle.record.specs.Clients.{lowestClosed}
-use Rattle.record.specs.Staged.{noStaged, missingBytes}
-use Rattle.record.specs.Rules.{stagedRule, valid}
-use Rattle.record.proofs.Rules.{length-good}
-use Rattle.record.proofs.Unfinished.{unfinished-kept, idle-kept}
+use Rattle.engine_record.specs.declared.Setup.{Setup}
+use Rattle.engine_record.specs.declared.Window.{Window}
+use Rattle.engine_record.specs.declared.EngineRecord.{EngineRecord}
+use Rattle.engine_record.specs.Slots.{lowestFree}
+use Rattle.engine_record.specs.Clients.{lowestClosed}
+use Rattle.engine_record.specs.Staged.{noStaged, missingBytes}
+use Rattle.engine_record.specs.Rules.{stagedRule, valid}
+use Rattle.engine_record.proofs.Rules.{length-good}
+use Rattle.engine_record.proofs.Unfinished.{unfinished-kept, idle-kept}
 use Rattle.queue.specs.declared.Answer.{Answer}
 use Rattle.queue.specs.declared.Answer.the-variants.{Refused, Done, Opened, Accepted, Missing}
 use Rattle.queue.specs.Answers.{refusalNumberOf, answerUnlessRefused}
@@ -42,22 +42,22 @@ open-number engine w = number-answered (firstRefusal (openTable engine w)) (Open
 
 pub submit-number : (engine : EngineRecord) (ring : List ℕ) (client : ℕ) (batch : List ℕ) → refusalNumberOf (submitResult engine ring client batch .answer) ≡ submitNumber engine ring client batch
 unfolding submitResult
-submit-number engine ring client batch = number-answered (submitNumber engine ring client batch) (Accepted (engine .next)) refl
+submit-number engine ring client batch = number-answered (submitNumber engine ring client batch) (Accepted (engine .«next_ticket»)) refl
 
 pub begin-number : (engine : EngineRecord) (ring client total : ℕ) → refusalNumberOf (beginResult engine ring client total .answer) ≡ firstRefusal (submitTable engine ring client total)
 unfolding beginResult
 begin-number engine ring client total = number-answered (firstRefusal (submitTable engine ring client total)) Done refl
 
-told-piece : (engine : EngineRecord) (size : ℕ) → refusalNumberOf (pieceAnswer engine size) ≡ 0
-told-piece engine size = go (isLast (engine .staged) size)
+pieceAnswer-number : (engine : EngineRecord) (size : ℕ) → refusalNumberOf (pieceAnswer engine size) ≡ 0
+pieceAnswer-number engine size = go (isLast (engine .staged) size)
   where
-    go : (b : Bool) → refusalNumberOf (cond b (Accepted (engine .next)) (Missing (missingBytes (more (engine .staged) size)))) ≡ 0
+    go : (b : Bool) → refusalNumberOf (cond b (Accepted (engine .«next_ticket»)) (Missing (missingBytes (more (engine .staged) size)))) ≡ 0
     go true = refl
     go false = refl
 
 pub piece-number : (engine : EngineRecord) (ring : List ℕ) (client : ℕ) (piece : List ℕ) → refusalNumberOf (pieceResult engine ring client piece .answer) ≡ pieceNumber engine ring client piece
 unfolding pieceResult
-piece-number engine ring client piece = number-answered (pieceNumber engine ring client piece) (pieceAnswer engine (length piece)) (told-piece engine (length piece))
+piece-number engine ring client piece = number-answered (pieceNumber engine ring client piece) (pieceAnswer engine (length piece)) (pieceAnswer-number engine (length piece))
 
 pub cancel-number : (engine : EngineRecord) (client : ℕ) → refusalNumberOf (cancelResult engine client .answer) ≡ firstRefusal (cancelTable engine client)
 unfolding cancelResult

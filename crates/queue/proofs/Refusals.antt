@@ -7,17 +7,17 @@ use native.Mathlib.Omega.{arith}
 use lib.ListN.{length}
 use lib.Dec.{eqb, ltb}
 use borrow.Author.Tests.{ltb-false, leb-false, eqb-true, not-false}
-use Rattle.record.specs.declared.Setup.{Setup}
-use Rattle.record.specs.declared.Window.{Window}
-use Rattle.record.specs.declared.EngineRecord.{EngineRecord}
-use Rattle.record.specs.Setup.{badRing, badMemory, badLength}
-use Rattle.record.specs.Slots.{readyBatches, countOf}
-use Rattle.record.specs.Clients.{isOpen, openWindows, badWindow}
-use Rattle.record.specs.Staged.{noStaged, isIdle, stagedBy, missingBytes}
-use Rattle.record.specs.Queue.{readySlots, takenSlots, freeBytes}
-use Rattle.record.specs.Rules.{valid}
-use Rattle.record.proofs.Rules.{valid-facts}
-use Rattle.record.proofs.Unfinished.{Unfinished, staged-idle, staged-open}
+use Rattle.engine_record.specs.declared.Setup.{Setup}
+use Rattle.engine_record.specs.declared.Window.{Window}
+use Rattle.engine_record.specs.declared.EngineRecord.{EngineRecord}
+use Rattle.engine_record.specs.Setup.{badRing, badMemory, badLength}
+use Rattle.engine_record.specs.Slots.{readyBatches, countOf}
+use Rattle.engine_record.specs.Clients.{isOpen, openWindows, badWindow}
+use Rattle.engine_record.specs.Staged.{noStaged, isIdle, stagedBy, missingBytes}
+use Rattle.engine_record.specs.Queue.{readySlots, takenSlots, freeBytes}
+use Rattle.engine_record.specs.Rules.{valid}
+use Rattle.engine_record.proofs.Rules.{valid-facts}
+use Rattle.engine_record.proofs.Unfinished.{Unfinished, staged-idle, staged-open}
 use Rattle.word.proofs.Tests.{or-false}
 use Rattle.queue.specs.Refusals.{RefusalRow, _when_, firstRefusal, setUpTable, openTable, submitTable, pieceTable, cancelTable, closeTable, pendingTable}
 

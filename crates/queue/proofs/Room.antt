@@ -9,16 +9,16 @@ use lib.ListN.{length}
 use Rattle.ring.specs.Segment.{LiesInRing}
 use Rattle.ring.proofs.Wrapped.{wrapped-below}
 use Rattle.ring.proofs.Segment.{lies-wrapped}
-use Rattle.record.specs.declared.EngineRecord.{EngineRecord}
-use Rattle.record.specs.Slots.{readyBatches, countOf}
-use Rattle.record.specs.Clients.{isOpen, clientAt}
-use Rattle.record.specs.Staged.{noStaged, isIdle}
-use Rattle.record.specs.Queue.{readySlots, readyBytes, takenBytes, writeOffset}
-use Rattle.record.specs.Rules.{valid}
-use Rattle.record.proofs.Rules.{Valid, valid-facts, ready-within}
-use Rattle.record.proofs.Clients.{open-place}
-use Rattle.record.proofs.Opened.{counts-at, counts-small}
-use Rattle.record.proofs.Unfinished.{Unfinished, staged-cases}
+use Rattle.engine_record.specs.declared.EngineRecord.{EngineRecord}
+use Rattle.engine_record.specs.Slots.{readyBatches, countOf}
+use Rattle.engine_record.specs.Clients.{isOpen, clientAt}
+use Rattle.engine_record.specs.Staged.{noStaged, isIdle}
+use Rattle.engine_record.specs.Queue.{readySlots, readyBytes, takenBytes, writeOffset}
+use Rattle.engine_record.specs.Rules.{valid}
+use Rattle.engine_record.proofs.Rules.{Valid, valid-facts, ready-within}
+use Rattle.engine_record.proofs.Clients.{open-place}
+use Rattle.engine_record.proofs.Opened.{counts-at, counts-small}
+use Rattle.engine_record.proofs.Unfinished.{Unfinished, staged-cases}
 use Rattle.queue.specs.Calls.{pieceOffset}
 use Rattle.queue.proofs.Refusals.{SubmitAllowed, PieceAllowed}
 
@@ -38,7 +38,7 @@ module _ (engine : EngineRecord) (ok : valid engine ≡ true) where
   pub taken-small : readySlots engine ≤ 8 → takenBytes engine ≤ 32768
   taken-small few = omega (arith, bytes-taken few, facts .numbers .ring .small)
 
-  pub offset-small : readySlots engine ≤ 8 → engine .read + readyBytes engine < 65536
+  pub offset-small : readySlots engine ≤ 8 → engine .«read_offset» + readyBytes engine < 65536
   offset-small few = omega (arith, bytes-within few, facts .numbers .ring .small, facts .numbers .below)
 
   module _ (client : ℕ) (owner : isOpen engine client ≡ true) where
@@ -60,7 +60,7 @@ submit-lies engine ring client size a =
     let v = valid-facts engine (a .ok) in
     let t = ready-within engine v (omega (arith, a .slot)) in
     let room = a .room in
-    rw (a .ring) at (lies-wrapped ring (engine .read) (readyBytes engine) size (omega (arith, a .ring, v .numbers .below)) (omega (arith, a .ring)))
+    rw (a .ring) at (lies-wrapped ring (engine .«read_offset») (readyBytes engine) size (omega (arith, a .ring, v .numbers .below)) (omega (arith, a .ring)))
 
 -- a piece that is accepted lies in the ring behind those before it
 pub piece-lies : (engine : EngineRecord) (ring : List ℕ) (client size : ℕ) → readySlots engine ≤ 8 → PieceAllowed engine (length ring) client size → LiesInRing ring (pieceOffset engine) size
@@ -68,7 +68,7 @@ piece-lies engine ring client size few a =
     let v = valid-facts engine (a .own .ok) in
     let u = a .own .unfinished in
     let t = ready-within engine v few in
-    let below = wrapped-below (engine .setup .ring) (engine .read + readyBytes engine) (omega (arith, v .numbers .below)) in
+    let below = wrapped-below (engine .setup .ring) (engine .«read_offset» + readyBytes engine) (omega (arith, v .numbers .below)) in
     rw (a .ring) at (lies-wrapped ring (writeOffset engine) (engine .staged .received) size (omega (arith, a .ring)) (omega (arith, a .ring, a .fits, u .room)))
 
 -- its numbers are small
@@ -82,6 +82,6 @@ pub piece-offset-small : (engine : EngineRecord) (given client size : ℕ) → r
 piece-offset-small engine given client size few a =
     let v = valid-facts engine (a .own .ok) in
     let t = ready-within engine v few in
-    let below = wrapped-below (engine .setup .ring) (engine .read + readyBytes engine) (omega (arith, v .numbers .below)) in
+    let below = wrapped-below (engine .setup .ring) (engine .«read_offset» + readyBytes engine) (omega (arith, v .numbers .below)) in
     let small = piece-small engine given client size a in
     omega (arith, v .numbers .ring .small, a .own .unfinished .short, small .1)

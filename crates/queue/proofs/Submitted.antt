@@ -8,22 +8,22 @@ use lib.ListN.{length, getD, set, length-set}
 use lib.Dec.{eqb}
 use Rattle.ring.specs.Segment.{wrapOffset}
 use Rattle.ring.specs.Copied.{copiedIn}
-use Rattle.record.specs.declared.Batch.{Batch}
-use Rattle.record.specs.declared.Slot.{Slot}
-use Rattle.record.specs.declared.EngineRecord.{EngineRecord}
-use Rattle.record.specs.declared.SlotState.the-variants.{Free}
-use Rattle.record.specs.Setup.{badLength}
-use Rattle.record.specs.Slots.{free, readyWith, readyBatches, totalLength, countOf, lowestFree}
-use Rattle.record.specs.Tickets.{ticketAfter, slotOfTicket, inTicketOrder}
-use Rattle.record.specs.Clients.{isOpen, noClient, openWindows, pendingCountsMatch}
-use Rattle.record.specs.Queue.{readySlots, readyBytes, writeOffset, waiting}
-use Rattle.record.specs.Rules.{numberRules, windowsRule, ticketsRule, endToEndRule, lengthsRule, ownersRule, pendingRule, stagedRule, valid}
-use Rattle.record.proofs.Added.{lowest-below, lowest-free, sum-new, length-new, order-new, given-more, next-absent}
-use Rattle.record.proofs.Line.{sum-snoc, lengths-snoc, open-snoc, end-last, held, held-new}
-use Rattle.record.proofs.Clients.{open-place, place-open}
-use Rattle.record.proofs.Opened.{windows-set, opened-set, open-more, counts-raised}
-use Rattle.record.proofs.Unfinished.{idle-kept}
-use Rattle.record.proofs.Rules.{Valid, valid-facts, valid-made, numbers-kept, sum-waiting, ready-within}
+use Rattle.engine_record.specs.declared.Batch.{Batch}
+use Rattle.engine_record.specs.declared.Slot.{Slot}
+use Rattle.engine_record.specs.declared.EngineRecord.{EngineRecord}
+use Rattle.engine_record.specs.declared.SlotState.the-variants.{Free}
+use Rattle.engine_record.specs.Setup.{badLength}
+use Rattle.engine_record.specs.Slots.{free, readyWith, readyBatches, totalLength, countOf, lowestFree}
+use Rattle.engine_record.specs.Tickets.{ticketAfter, slotOfTicket, inTicketOrder}
+use Rattle.engine_record.specs.Clients.{isOpen, noClient, openWindows, pendingCountsMatch}
+use Rattle.engine_record.specs.Queue.{readySlots, readyBytes, writeOffset, waiting}
+use Rattle.engine_record.specs.Rules.{numberRules, windowsRule, ticketsRule, endToEndRule, lengthsRule, ownersRule, pendingRule, stagedRule, valid}
+use Rattle.engine_record.proofs.Added.{lowest-below, lowest-free, sum-new, length-new, order-new, given-more, next-absent}
+use Rattle.engine_record.proofs.Line.{sum-snoc, lengths-snoc, open-snoc, end-last, held, held-new}
+use Rattle.engine_record.proofs.Clients.{open-place, place-open}
+use Rattle.engine_record.proofs.Opened.{windows-set, opened-set, open-more, counts-raised}
+use Rattle.engine_record.proofs.Unfinished.{idle-kept}
+use Rattle.engine_record.proofs.Rules.{Valid, valid-facts, valid-made, numbers-kept, sum-waiting, ready-within}
 use Rattle.queue.specs.Calls.{newBatch, pendingRaised, withBatch}
 use Rattle.queue.proofs.Refusals.{SubmitAllowed, Own}
 use Rattle.queue.proofs.Validity.{Sized, few-taken}
@@ -33,7 +33,7 @@ unfolding withBatch
 added-sized engine at b s = record {
   clients = length-set (engine .clients) (b .client) (record { window = getD (engine .clients) (b .client) noClient .window; pending = getD (engine .clients) (b .client) noClient .pending + 1; opened = getD (engine .clients) (b .client) noClient .opened }) ∙ s .clients;
   slots = length-set (engine .slots) at (readyWith b) ∙ s .slots;
-  next = omega arith;
+  next-ticket = omega arith;
 }
 
 -- a batch of that client and length may be put into the slot `at`
@@ -83,11 +83,11 @@ module _ (engine : EngineRecord) (s : Sized engine) (at client size : ℕ) (a : 
   one-more : length (readyBatches slots) ≡ suc (readySlots engine)
   one-more = length-new b (engine .slots) at inside (a .unused)
 
-  absent : slotOfTicket (engine .next) (engine .slots) ≡ length (engine .slots)
-  absent = next-absent (readySlots engine) (engine .next) (engine .slots) refl (omega (arith, few)) (s .next) (v .given)
+  absent : slotOfTicket (engine .«next_ticket») (engine .slots) ≡ length (engine .slots)
+  absent = next-absent (readySlots engine) (engine .«next_ticket») (engine .slots) refl (omega (arith, few)) (s .next-ticket) (v .given)
 
-  order : inTicketOrder (length (readyBatches slots)) (ticketAfter (engine .next)) slots ≡ waiting engine ++ (b ∷ [])
-  order = rw one-more (order-new b (engine .next) (engine .slots) at refl (s .next) inside (a .unused) absent (readySlots engine) (omega (arith, few)))
+  order : inTicketOrder (length (readyBatches slots)) (ticketAfter (engine .«next_ticket»)) slots ≡ waiting engine ++ (b ∷ [])
+  order = rw one-more (order-new b (engine .«next_ticket») (engine .slots) at refl (s .next-ticket) inside (a .unused) absent (readySlots engine) (omega (arith, few)))
 
   -- the batches in ticket order: those that waited, and the new one
   pub added-waiting : waiting (withBatch engine at b) ≡ waiting engine ++ (b ∷ [])
@@ -97,8 +97,8 @@ module _ (engine : EngineRecord) (s : Sized engine) (at client size : ℕ) (a : 
   bytes : readyBytes engine ≡ totalLength (waiting engine)
   bytes = sum-waiting engine v few (λ x. x .length)
 
-  placed : b .offset ≡ wrapOffset (engine .setup .ring) (engine .read + totalLength (waiting engine))
-  placed = ap (λ (n : ℕ). wrapOffset (engine .setup .ring) (engine .read + n)) bytes
+  placed : b .offset ≡ wrapOffset (engine .setup .ring) (engine .«read_offset» + totalLength (waiting engine))
+  placed = ap (λ (n : ℕ). wrapOffset (engine .setup .ring) (engine .«read_offset» + n)) bytes
 
   fits : totalLength (waiting engine) + size ≤ engine .setup .ring
   fits = omega (arith, a .room, bytes)
@@ -128,13 +128,13 @@ module _ (engine : EngineRecord) (s : Sized engine) (at client size : ℕ) (a : 
 
   ticket-rule : ticketsRule (withBatch engine at b) ≡ true
   unfolding withBatch
-  ticket-rule = rw one-more (given-more b (engine .next) (engine .slots) at refl (s .next) inside (a .unused) absent (readySlots engine) (omega (arith, few)) (v .given))
+  ticket-rule = rw one-more (given-more b (engine .«next_ticket») (engine .slots) at refl (s .next-ticket) inside (a .unused) absent (readySlots engine) (omega (arith, few)) (v .given))
 
   line-rules : (endToEndRule (withBatch engine at b) ≡ true) × (lengthsRule (withBatch engine at b) ≡ true) × (totalLength (waiting (withBatch engine at b)) ≤ withBatch engine at b .setup .ring)
       × (ownersRule (withBatch engine at b) ≡ true)
   unfolding withBatch
   line-rules = (
-    rw order (end-last (engine .setup .ring) (engine .read) (v .numbers .below) (waiting engine) b (v .within) (v .ends) placed),
+    rw order (end-last (engine .setup .ring) (engine .«read_offset») (v .numbers .below) (waiting engine) b (v .within) (v .ends) placed),
     rw order (lengths-snoc (engine .setup .ring) (waiting engine) b (v .lengths) (a .allowed)),
     rw order (omega (arith, sum-snoc (λ x. x .length) (waiting engine) b, fits)),
     rw order (open-more engine (withBatch engine at b) (waiting engine ++ (b ∷ [])) added-open (open-snoc engine (waiting engine) b (v .owners) (a .owner))),
@@ -164,4 +164,4 @@ module _ {A : Type 0} (g : Batch → List ℕ → A) (engine : EngineRecord) (s 
       let p = placed engine s at client (length batch) a in
       ap (held g (copiedIn ring (writeOffset engine) batch)) (added-waiting engine s at client (length batch) a)
       ∙ ap (λ (o : ℕ). held g (copiedIn ring o batch) (waiting engine ++ (b ∷ []))) p
-      ∙ (rw long at (held-new g ring (engine .read) (waiting engine) b batch (omega (arith, v .numbers .below)) (omega arith) (rw long (v .ends)) (rw long p) refl))
+      ∙ (rw long at (held-new g ring (engine .«read_offset») (waiting engine) b batch (omega (arith, v .numbers .below)) (omega arith) (rw long (v .ends)) (rw long p) refl))

@@ -7,22 +7,22 @@ use native.Mathlib.Omega.{arith}
 use lib.ListN.{length, length-set}
 use lib.Dec.{eqb, ltb}
 use borrow.Author.Tests.{lt-ltb, le-leb, eq-eqb, eqb-false}
-use Rattle.record.specs.declared.Setup.{Setup}
-use Rattle.record.specs.declared.Window.{Window}
-use Rattle.record.specs.declared.Client.{Client}
-use Rattle.record.specs.declared.EngineRecord.{EngineRecord}
-use Rattle.record.specs.declared.Staged.{Staged}
-use Rattle.record.specs.Slots.{readyBatches, sumOver, totalLength, countOf}
-use Rattle.record.specs.Tickets.{ticketsConsecutive, inTicketOrder}
-use Rattle.record.specs.Clients.{noClient, clientAt, isOpen, openWindows, windowsOf, lowestClosed, badWindow, windowsValid, pendingCountsMatch}
-use Rattle.record.specs.Staged.{stagedBy}
-use Rattle.record.specs.Queue.{readySlots, waiting}
-use Rattle.record.specs.Rules.{numberRules, windowsRule, ticketsRule, endToEnd, endToEndRule, lengthsAllowed, lengthsRule, clientsOpen, ownersRule, pendingRule, stagedRule, valid}
-use Rattle.record.proofs.Slots.{ready-most}
-use Rattle.record.proofs.Clients.{closed-is, open-place, place-open}
-use Rattle.record.proofs.Opened.{opened-more, opened-other, none-put, open-more, open-none, open-fewer, counts-put}
-use Rattle.record.proofs.Unfinished.{staged-stays}
-use Rattle.record.proofs.Rules.{ring-good, Valid, valid-facts, valid-made, numbers-kept, sum-waiting}
+use Rattle.engine_record.specs.declared.Setup.{Setup}
+use Rattle.engine_record.specs.declared.Window.{Window}
+use Rattle.engine_record.specs.declared.Client.{Client}
+use Rattle.engine_record.specs.declared.EngineRecord.{EngineRecord}
+use Rattle.engine_record.specs.declared.Staged.{Staged}
+use Rattle.engine_record.specs.Slots.{readyBatches, sumOver, totalLength, countOf}
+use Rattle.engine_record.specs.Tickets.{ticketsConsecutive, inTicketOrder}
+use Rattle.engine_record.specs.Clients.{noClient, clientAt, isOpen, openWindows, windowsOf, lowestClosed, badWindow, windowsValid, pendingCountsMatch}
+use Rattle.engine_record.specs.Staged.{stagedBy}
+use Rattle.engine_record.specs.Queue.{readySlots, waiting}
+use Rattle.engine_record.specs.Rules.{numberRules, windowsRule, ticketsRule, endToEnd, endToEndRule, lengthsAllowed, lengthsRule, clientsOpen, ownersRule, pendingRule, stagedRule, valid}
+use Rattle.engine_record.proofs.Slots.{ready-most}
+use Rattle.engine_record.proofs.Clients.{closed-is, open-place, place-open}
+use Rattle.engine_record.proofs.Opened.{opened-more, opened-other, none-put, open-more, open-none, open-fewer, counts-put}
+use Rattle.engine_record.proofs.Unfinished.{staged-stays}
+use Rattle.engine_record.proofs.Rules.{ring-good, Valid, valid-facts, valid-made, numbers-kept, sum-waiting}
 use Rattle.queue.specs.Calls.{initialRecord, withClient, withoutClient, withStaged}
 use Rattle.queue.proofs.Refusals.{SetUpAllowed, OpenAllowed, CloseAllowed}
 
@@ -30,7 +30,7 @@ use Rattle.queue.proofs.Refusals.{SetUpAllowed, OpenAllowed, CloseAllow
 pub record Sized (engine : EngineRecord) : Type 0 where
   pub clients : length (engine .clients) ≡ 4
   pub slots : length (engine .slots) ≡ 8
-  pub next : engine .next < 4294967296
+  pub next-ticket : engine .«next_ticket» < 4294967296
 
 pub few-taken : (engine : EngineRecord) → Sized engine → readySlots engine ≤ 8
 few-taken engine s = omega (arith, ready-most (engine .slots), s .slots)
@@ -39,7 +39,7 @@ few-taken engine s = omega (arith, ready-most (engine .slots), s .slots)
 
 pub fresh-sized : (setup : Setup) → Sized (initialRecord setup)
 unfolding initialRecord
-fresh-sized setup = record { clients = refl; slots = refl; next = omega arith }
+fresh-sized setup = record { clients = refl; slots = refl; next-ticket = omega arith }
 
 pub fresh-valid : (setup : Setup) → SetUpAllowed setup → valid (initialRecord setup) ≡ true
 unfolding initialRecord valid windowsOf windowsValid readyBatches sumOver ticketsConsecutive inTicketOrder endToEnd lengthsAllowed clientsOpen pendingCountsMatch
@@ -64,7 +64,7 @@ module _ (engine : EngineRecord) (w : Window) (s : Sized engine) where
 
   pub open-sized : Sized (withClient engine w)
   unfolding withClient
-  open-sized = record { clients = length-set (engine .clients) id newClient ∙ s .clients; slots = s .slots; next = s .next }
+  open-sized = record { clients = length-set (engine .clients) id newClient ∙ s .clients; slots = s .slots; next-ticket = s .next-ticket }
 
   -- the batches are as they were
   pub open-waiting : waiting (withClient engine w) ≡ waiting engine
@@ -128,7 +128,7 @@ module _ (engine : EngineRecord) (w : Window) (s : Sized engine) where
 module _ (engine : EngineRecord) (client : ℕ) where
   pub close-sized : Sized engine → Sized (withoutClient engine client)
   unfolding withoutClient
-  close-sized s = record { clients = length-set (engine .clients) client noClient ∙ s .clients; slots = s .slots; next = s .next }
+  close-sized s = record { clients = length-set (engine .clients) client noClient ∙ s .clients; slots = s .slots; next-ticket = s .next-ticket }
 
   -- the batches are as they were
   pub close-waiting : waiting (withoutClient engine client) ≡ waiting engine
@@ -179,7 +179,7 @@ module _ (engine : EngineRecord) (client : ℕ) where
 module _ (engine : EngineRecord) (g : Staged) where
   pub staged-sized : Sized engine → Sized (withStaged engine g)
   unfolding withStaged
-  staged-sized s = record { clients = s .clients; slots = s .slots; next = s .next }
+  staged-sized s = record { clients = s .clients; slots = s .slots; next-ticket = s .next-ticket }
 
   rules : Valid engine → (windowsRule (withStaged engine g) ≡ true) × (ticketsRule (withStaged engine g) ≡ true) × (endToEndRule (withStaged engine g) ≡ true) × (lengthsRule (withStaged engine g) ≡ true)
       × (totalLength (waiting (withStaged engine g)) ≤ withStaged engine g .setup .ring) × (pendingRule (withStaged engine g) ≡ true)

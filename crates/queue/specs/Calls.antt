@@ -9,17 +9,17 @@ use Rattle.ring.specs.Segment.{wrapOffset}
 use Rattle.reset.specs.declared.ResetRule.{ResetRule}
 use Rattle.reset.specs.declared.ResetRule.the-variants.{Unblended}
 use Rattle.ring.specs.Copied.{copiedIn}
-use Rattle.record.specs.declared.Setup.{Setup}
-use Rattle.record.specs.declared.Window.{Window}
-use Rattle.record.specs.declared.Client.{Client}
-use Rattle.record.specs.declared.Batch.{Batch}
-use Rattle.record.specs.declared.EngineRecord.{EngineRecord}
-use Rattle.record.specs.declared.Staged.{Staged}
-use Rattle.record.specs.Slots.{free, readyWith, readyBatches, countOf, lowestFree}
-use Rattle.record.specs.Tickets.{ticketAfter}
-use Rattle.record.specs.Clients.{noClient, lowestClosed}
-use Rattle.record.specs.Staged.{noStaged, missingBytes}
-use Rattle.record.specs.Queue.{writeOffset}
+use Rattle.engine_record.specs.declared.Setup.{Setup}
+use Rattle.engine_record.specs.declared.Window.{Window}
+use Rattle.engine_record.specs.declared.Client.{Client}
+use Rattle.engine_record.specs.declared.Batch.{Batch}
+use Rattle.engine_record.specs.declared.EngineRecord.{EngineRecord}
+use Rattle.engine_record.specs.declared.Staged.{Staged}
+use Rattle.engine_record.specs.Slots.{free, readyWith, readyBatches, countOf, lowestFree}
+use Rattle.engine_record.specs.Tickets.{ticketAfter}
+use Rattle.engine_record.specs.Clients.{noClient, lowestClosed}
+use Rattle.engine_record.specs.Staged.{noStaged, missingBytes}
+use Rattle.engine_record.specs.Queue.{writeOffset}
 use Rattle.queue.specs.declared.Answer.{Answer}
 use Rattle.queue.specs.declared.Answer.the-variants.{Done, Opened, Accepted, Ready, Missing}
 use Rattle.queue.specs.declared.Reply.{Reply}
@@ -39,8 +39,8 @@ initialRecord setup = record {
   setup = setup;
   clients = noClient ∷ noClient ∷ noClient ∷ noClient ∷ [];
   slots = free ∷ free ∷ free ∷ free ∷ free ∷ free ∷ free ∷ free ∷ [];
-  read = 0;
-  next = 0;
+  «read_offset» = 0;
+  «next_ticket» = 0;
   staged = noStaged;
 }
 
@@ -63,8 +63,8 @@ withClient engine w = record {
   setup = engine .setup;
   clients = set (engine .clients) (lowestClosed (engine .clients)) (record { window = w; pending = 0; opened = true });
   slots = engine .slots;
-  read = engine .read;
-  next = engine .next;
+  «read_offset» = engine .«read_offset»;
+  «next_ticket» = engine .«next_ticket»;
   staged = engine .staged;
 }
 
@@ -78,7 +78,7 @@ openResult engine w =
 
 -- the new batch has the next ticket and lies after the newest one
 abbrev pub newBatch : EngineRecord → (client size : ℕ) → Batch
-newBatch engine client size = record { client = client; ticket = engine .next; offset = writeOffset engine; length = size }
+newBatch engine client size = record { client = client; ticket = engine .«next_ticket»; offset = writeOffset engine; length = size }
 
 -- the clients with one batch more pending for one of them
 abbrev pub pendingRaised : List Client → ℕ → List Client
@@ -90,8 +90,8 @@ withBatch engine at batch = record {
   setup = engine .setup;
   clients = pendingRaised (engine .clients) (batch .client);
   slots = set (engine .slots) at (readyWith batch);
-  read = engine .read;
-  next = ticketAfter (engine .next);
+  «read_offset» = engine .«read_offset»;
+  «next_ticket» = ticketAfter (engine .«next_ticket»);
   staged = noStaged;
 }
 
@@ -107,7 +107,7 @@ submitted engine client size = withBatch engine (lowestFree (engine .slots)) (ne
 unfoldable pub submitResult : EngineRecord → (ring : List ℕ) → (client : ℕ) → (batch : List ℕ) → Reply
 submitResult engine ring client batch =
     let number : ℕ = submitNumber engine ring client batch in
-    record { answer = answerUnlessRefused number (Accepted (engine .next)); engine = unlessRefused number engine (submitted engine client (length batch)) }
+    record { answer = answerUnlessRefused number (Accepted (engine .«next_ticket»)); engine = unlessRefused number engine (submitted engine client (length batch)) }
 
 -- the ring after it: the batch copied in, other bytes as they were
 unfoldable pub submitRing : EngineRecord → (ring : List ℕ) → (client : ℕ) → (batch : List ℕ) → List ℕ
@@ -121,8 +121,8 @@ withStaged engine staged = record {
   setup = engine .setup;
   clients = engine .clients;
   slots = engine .slots;
-  read = engine .read;
-  next = engine .next;
+  «read_offset» = engine .«read_offset»;
+  «next_ticket» = engine .«next_ticket»;
   staged = staged;
 }
 
@@ -161,7 +161,7 @@ afterPiece engine size =
 
 -- "A piece answers the bytes still to come, the last its ticket."
 abbrev pub pieceAnswer : EngineRecord → (size : ℕ) → Answer
-pieceAnswer engine size = cond (isLast (engine .staged) size) (Accepted (engine .next)) (Missing (missingBytes (more (engine .staged) size)))
+pieceAnswer engine size = cond (isLast (engine .staged) size) (Accepted (engine .«next_ticket»)) (Missing (missingBytes (more (engine .staged) size)))
 
 unfoldable pub pieceResult : EngineRecord → (ring : List ℕ) → (client : ℕ) → (piece : List ℕ) → Reply
 pieceResult engine ring client piece =
@@ -190,8 +190,8 @@ withoutClient engine client = record {
   setup = engine .setup;
   clients = set (engine .clients) client noClient;
   slots = engine .slots;
-  read = engine .read;
-  next = engine .next;
+  «read_offset» = engine .«read_offset»;
+  «next_ticket» = engine .«next_ticket»;
   staged = engine .staged;
 }
 

@@ -5,15 +5,15 @@ use mathlib.Core.Bool.{Bool, cond, not, _||_}
 use Prim.Native.Nat.{ℕ}
 use lib.ListN.{length}
 use lib.Dec.{ltb, eqb, leb}
-use Rattle.record.specs.declared.Setup.{Setup}
-use Rattle.record.specs.declared.Window.{Window}
-use Rattle.record.specs.declared.EngineRecord.{EngineRecord}
-use Rattle.record.specs.Setup.{badRing, badMemory, badLength}
-use Rattle.record.specs.Slots.{readyBatches, countOf}
-use Rattle.record.specs.Clients.{isOpen, openWindows, badWindow}
-use Rattle.record.specs.Staged.{isIdle, stagedBy, missingBytes}
-use Rattle.record.specs.Queue.{takenSlots, freeBytes}
-use Rattle.record.specs.Rules.{valid}
+use Rattle.engine_record.specs.declared.Setup.{Setup}
+use Rattle.engine_record.specs.declared.Window.{Window}
+use Rattle.engine_record.specs.declared.EngineRecord.{EngineRecord}
+use Rattle.engine_record.specs.Setup.{badRing, badMemory, badLength}
+use Rattle.engine_record.specs.Slots.{readyBatches, countOf}
+use Rattle.engine_record.specs.Clients.{isOpen, openWindows, badWindow}
+use Rattle.engine_record.specs.Staged.{isIdle, stagedBy, missingBytes}
+use Rattle.engine_record.specs.Queue.{takenSlots, freeBytes}
+use Rattle.engine_record.specs.Rules.{valid}
 
 infix 70 _when_
 -- A row of the table: its number, and whether its condition holds.

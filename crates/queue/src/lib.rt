@@ -2,9 +2,9 @@
 // their code stands above, in `clients`, `enqueue` and `submission`.
 ghost use mathlib.Core.Path.{_≡_};
 ghost use mathlib.Core.Bool.{cond};
-ghost use Rattle.record.specs.Staged.{stagedBy};
-use record::EngineRecord;
-use record::Staged;
+ghost use Rattle.engine_record.specs.Staged.{stagedBy};
+use engine_record::EngineRecord;
+use engine_record::Staged;
 
 // What a call answers. The paper's numbers are those of `refusalNumberOf` and `valueOf` in specs.
 pub enum Answer {

@@ -1,4 +1,4 @@
--- What the tests on runs say of their bytes.
+-- What the tests on ranges say of their bytes.
 use mathlib.Core.Path.{_≡_}
 use mathlib.Core.Bool.{true, false}
 use Prim.Native.Nat.{ℕ, _≤_, min, max}
@@ -15,19 +15,13 @@ inside-ends r q e =
     let both = and-true (leb (q .start) (r .start)) (leb (r .end) (q .end)) e in
     (leb-true (q .start) (r .start) (both .0), leb-true (r .end) (q .end) (both .1))
 
--- each byte of a run that lies inside another is a byte of the other
-pub inside-holds : (r q : Range) → containedIn r q ≡ true → (i : ℕ) → Contains r i → Contains q i
-inside-holds r q e i h =
-    let ends = inside-ends r q e in
-    (omega arith, omega arith)
-
--- runs that share a byte have one: the later start
+-- ranges that share a byte have one: the later start
 pub shared-byte : (r q : Range) → overlaps r q ≡ true → Contains r (max (r .start) (q .start)) × Contains q (max (r .start) (q .start))
 shared-byte r q e =
     let l = ltb-true (max (r .start) (q .start)) (min (r .end) (q .end)) e in
     ((omega arith, omega arith), (omega arith, omega arith))
 
--- runs that share none have none
+-- ranges that share none have none
 pub apart : (r q : Range) → overlaps r q ≡ false → (i : ℕ) → Contains r i → Contains q i → ⊥
 apart r q e i h k =
     let l = ltb-false (max (r .start) (q .start)) (min (r .end) (q .end)) e in

@@ -1,2 +1,2 @@
--- Laws of runs of bytes.
+-- Laws of ranges of bytes.
 pub mod Laws

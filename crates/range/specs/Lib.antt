@@ -1,2 +1,2 @@
--- Runs of bytes.
+-- Ranges of bytes.
 pub mod Range

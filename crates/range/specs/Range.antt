@@ -9,9 +9,9 @@ use Rattle.range.specs.declared.Range.{Range}
 abbrev pub Contains : Range → ℕ → Type 0
 Contains r i = (r .start ≤ i) × (i < r .end)
 
--- the range of `length` bytes from `start` on
+-- the range of `size` bytes from `start` on
 abbrev pub rangeOf : ℕ → ℕ → Range
-rangeOf start length = record { start = start; end = start + length }
+rangeOf start size = record { start = start; end = start + size }
 
 -- the range r lies wholly in q
 abbrev pub containedIn : Range → Range → Bool

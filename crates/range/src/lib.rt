@@ -21,13 +21,13 @@ fn max_usize(a: usize, b: usize) -> usize
 }
 
 impl Range {
-    // The range of `length` bytes from `start` on. Both are 32 bits wide, so that the end fits.
-    pub fn new(start: u32, length: u32) -> Self
-        ensures { λ r. ⌜ r ≡ rangeOf start length ⌝ }
+    // The range of `size` bytes from `start` on. Both are 32 bits wide, so that the end fits.
+    pub fn new(start: u32, size: u32) -> Self
+        ensures { λ r. ⌜ r ≡ rangeOf start size ⌝ }
     {
         Range {
             start: start as usize,
-            end: (start as usize) + (length as usize),
+            end: (start as usize) + (size as usize),
         }
     }
 

@@ -4,8 +4,8 @@ use mathlib.Core.List.{List}
 use Prim.Native.Nat.{ℕ}
 use Rattle.register.specs.declared.bank.Bank.{Bank}
 use Rattle.register.specs.declared.task.Task.{Task}
-use Rattle.rules.specs.declared.fault.Fault.{Fault}
-use Rattle.rules.specs.declared.task.Bounds.{Bounds}
+use Rattle.task_check.specs.declared.fault.Fault.{Fault}
+use Rattle.task_check.specs.declared.task.Bounds.{Bounds}
 use Rattle.batch.specs.declared.walk.WalkStep.{WalkStep}
 use Rattle.batch.specs.declared.walk.WalkStep.the-variants.{Task as Next, Faulty as Stop, End}
 use Rattle.batch.specs.Batch.{DecodedBatch, decodeBatch, tasksDrawn}
@@ -17,7 +17,7 @@ use Rattle.raster.specs.Batch.{drawBatch}
 -- what is left to draw, before a step and after it
 module _ (bounds : Bounds) (ws : List ℕ) (b : Bank) (k : ℕ) (s : WalkStep) (is : s ≡ stepAt bounds ws b k) (memory : List ℕ) where
   reads : (s′ : WalkStep) → s ≡ s′ → drawTasks (decodeRest bounds ws b k .tasks) memory ≡ drawTasks (decodeAfterStep bounds ws b s′ .tasks) memory
-  reads s′ e = ap (λ (r : DecodedBatch). drawTasks (r .tasks) memory) (simulates bounds ws b k s is .means ∙ ap (decodeAfterStep bounds ws b) e)
+  reads s′ e = ap (λ (r : DecodedBatch). drawTasks (r .tasks) memory) (simulates bounds ws b k s is .same-decoding ∙ ap (decodeAfterStep bounds ws b) e)
 
   pub step-draws : (t : Task) (b′ : Bank) (k′ : ℕ) → s ≡ Next t b′ k′ →
       drawTasks (decodeRest bounds ws b k .tasks) memory ≡ drawTasks (decodeRest bounds ws b′ k′ .tasks) (drawTask t memory)

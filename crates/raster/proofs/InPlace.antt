@@ -15,8 +15,8 @@ use Rattle.surface.specs.declared.Surface.{Surface}
 use Rattle.surface.proofs.Loaded.{loaded-shift}
 use Rattle.register.specs.declared.task.Task.{Task}
 use Rattle.raster.proofs.Parts.{Placed}
-use Rattle.rows.specs.Row.{colourIn, colourAt, rowStored}
-use Rattle.rows.specs.Mixed.{composite}
+use Rattle.row_pixels.specs.Row.{colourIn, colourAt, rowStored}
+use Rattle.row_pixels.specs.Composite.{composite}
 use Rattle.raster.specs.Task.{sourceColour, destinationColour, pixelColour}
 use Rattle.raster.specs.Row.{rowDrawn}
 use Rattle.raster.proofs.Slices.{row-lent, row-ext}

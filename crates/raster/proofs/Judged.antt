@@ -1,4 +1,4 @@
--- A task that breaks no rule may be drawn: what crate rules calls sound is what the drawing asks.
+-- A task that breaks no rule may be drawn: what crate task_check calls sound is what the drawing asks.
 use mathlib.Core.Path.{sym}
 use mathlib.Core.Logic.{⊎-elim}
 use Prim.Native.Nat.{ℕ, _≤_}
@@ -6,9 +6,9 @@ use native.Mathlib.Omega.{arith}
 use Rattle.surface.specs.Surface.{span}
 use Rattle.surface.specs.declared.Surface.{Surface}
 use Rattle.register.specs.declared.task.Task.{Task}
-use Rattle.rules.specs.declared.task.Bounds.{Bounds}
-use Rattle.rules.specs.Rules.{commonOf}
-use Rattle.rules.proofs.Sound.{Rows, Within, InReach, Sound}
+use Rattle.task_check.specs.declared.task.Bounds.{Bounds}
+use Rattle.task_check.specs.Rules.{commonOf}
+use Rattle.task_check.proofs.Sound.{Rows, Within, InReach, Sound}
 use Rattle.raster.specs.Preconditions.{ValidRectangle, TaskInBounds, Drawable, EndsBelow}
 
 -- the rectangles that a batch with these bounds may read
@@ -16,7 +16,7 @@ abbrev pub Reach : Bounds → Surface → Type 0
 Reach bounds s = InReach bounds (span s)
 
 pub rectangle : (s : Surface) → Rows s → ValidRectangle s
-rectangle s r = record { wide = r .sides .wide; narrow = r .sides .widest; high = r .sides .high; low = r .sides .highest; spaced = r .roomy }
+rectangle s r = record { width-positive = r .sides .width-positive; width-max = r .sides .width-max; height-positive = r .sides .height-positive; height-max = r .sides .height-max; rows-apart = r .roomy }
 
 module _ (bounds : Bounds) (t : Task) (s : Sound bounds t) where
   -- wherever its reach is taken to lie in
@@ -40,7 +40,7 @@ module _ (bounds : Bounds) (t : Task) (s : Sound bounds t) where
   clear = reaching (Reach bounds) (λ r h. h)
 
   -- in a memory of n bytes that holds window and common
-  pub drawable : (n : ℕ) → bounds .window .end ≤ n → bounds .common ≤ n → Drawable (bounds .window) n t
+  pub drawable : (n : ℕ) → bounds .window .end ≤ n → bounds .«common_length» ≤ n → Drawable (bounds .window) n t
   drawable n w c = record {
     room = w;
     clear = reaching (EndsBelow n)

@@ -7,8 +7,8 @@ use Rattle.surface.specs.Surface.{InRow}
 use Rattle.surface.proofs.Outside.{length-drawnOn, outside-rows, inside-row}
 use Rattle.register.specs.declared.bank.Bank.{Bank}
 use Rattle.register.specs.declared.task.Task.{Task}
-use Rattle.rules.specs.declared.task.Bounds.{Bounds}
-use Rattle.rules.proofs.Sound.{Sound, AllSound}
+use Rattle.task_check.specs.declared.task.Bounds.{Bounds}
+use Rattle.task_check.proofs.Sound.{Sound, AllSound}
 use Rattle.batch.specs.Batch.{decodeBatch, tasksDrawn}
 use Rattle.batch.proofs.Tasks.{drawn-sound}
 use Rattle.raster.specs.Task.{drawTask, drawTasks}
@@ -33,7 +33,7 @@ module _ (t : Task) (memory : List ℕ) where
     pub inside-task : (i y j : ℕ) → i < length memory → InRow (t .output) i y j →
         getD (drawTask t memory) i 0 ≡ outputByte t memory y j
     unfolding drawTask
-    inside-task i y j l h = inside-row (t .output) _ memory (r .spaced) i y j l h
+    inside-task i y j l h = inside-row (t .output) _ memory (r .rows-apart) i y j l h
 
 -- ---- a list of tasks
 

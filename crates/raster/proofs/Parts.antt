@@ -18,10 +18,10 @@ use Rattle.register.specs.Task.{isBuffer}
 use Rattle.register.specs.declared.task.SourceMode.{SourceMode}
 use Rattle.register.specs.declared.task.SourceMode.the-variants.{Buffer, Colour, GradientX, GradientY}
 use Rattle.register.specs.declared.task.Task.{Task}
-use Rattle.rules.specs.Rules.{sameFormat}
-use Rattle.rules.proofs.Passes.{same-format}
-use Rattle.rows.specs.Step.{isStraight}
-use Rattle.rows.proofs.Straight.{straight}
+use Rattle.task_check.specs.Rules.{sameFormat}
+use Rattle.task_check.proofs.Passes.{same-format}
+use Rattle.row_pixels.specs.Strided.{isIdentityRow}
+use Rattle.row_pixels.proofs.Straight.{straight}
 use Rattle.kinds.specs.Kinds.{isUniform, isColour, isPixelMode, isOne, isInverseSourceAlpha, isSrcOver, isMoved, sourceInWindow, isInPlace, isSolid, isBlendedWithin, kindOf, finishOf}
 use Rattle.kinds.specs.declared.Finish.{Finish}
 use Rattle.kinds.specs.declared.Finish.the-variants.{Copied, InPlace, Blended}
@@ -85,7 +85,7 @@ moved-task : (t : Task) → isMoved (t .source) (t .output) ≡ true → MovedTa
 unfolding isMoved
 moved-task t e =
     let buffer = isBuffer (t .source .mode) in
-    let straight? = isStraight (t .source .transform .rotation) (t .source .transform .flip) in
+    let straight? = isIdentityRow (t .source .transform .rotation) (t .source .transform .flip) in
     let both = and-true (buffer && straight?) (sameFormat (t .source .surface .format) (t .output .format)) e in
     let first = and-true buffer straight? (both .0) in
     let h = straight (t .source .transform) (first .1) in

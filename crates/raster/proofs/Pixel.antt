@@ -17,9 +17,9 @@ use Rattle.register.specs.declared.task.SourceMode.{SourceMode}
 use Rattle.register.specs.declared.task.SourceMode.the-variants.{Buffer, Colour, GradientX, GradientY}
 use Rattle.register.specs.declared.task.Task.{Task}
 use Rattle.register.specs.Size.{sizeOf}
-use Rattle.rows.specs.Row.{colourAt, sourcePixelOf}
-use Rattle.rows.specs.Mixed.{composite}
-use Rattle.rows.proofs.Straight.{upright-x, upright-y}
+use Rattle.row_pixels.specs.Row.{colourAt, sourcePixelOf}
+use Rattle.row_pixels.specs.Composite.{composite}
+use Rattle.row_pixels.proofs.Straight.{upright-x, upright-y}
 use Rattle.raster.specs.Task.{sourceModeColour, sourceColour, destinationColour, pixelColour}
 use Rattle.raster.specs.Preconditions.{TaskInBounds}
 use Rattle.kinds.specs.Kinds.{isUniform}

@@ -24,7 +24,7 @@ use Rattle.surface.proofs.Outside.{pixel-in-row}
 use Rattle.surface.proofs.Loaded.{loaded-same}
 use Rattle.register.specs.declared.task.Task.{Task}
 use Rattle.register.specs.Size.{sizeOf}
-use Rattle.rows.specs.Row.{colourAt}
+use Rattle.row_pixels.specs.Row.{colourAt}
 use Rattle.raster.specs.Task.{pixelColour, drawTask}
 use Rattle.raster.specs.Preconditions.{ValidRectangle, TaskInBounds}
 use Rattle.raster.specs.Row.{rowDrawn, drawRow}
@@ -33,7 +33,7 @@ use Rattle.raster.proofs.Pixel.{pixel-same, origin-within, destination-
 
 -- a rectangle's stride is positive
 pub stride-some : (s : Surface) → ValidRectangle s → 0 < s .stride
-stride-some s r = omega (arith, next 0 (s .width) (bytesPerPixel (s .format)) (r .wide), bytes-some (s .format), r .spaced)
+stride-some s r = omega (arith, next 0 (s .width) (bytesPerPixel (s .format)) (r .width-positive), bytes-some (s .format), r .rows-apart)
 
 -- memory after the first n rows of a task
 unfoldable pub prefix : Task → ℕ → List ℕ → List ℕ
@@ -74,8 +74,8 @@ module _ (t : Task) (n : ℕ) (memory : List ℕ) where
       loaded-same (s .format) (pixelStart s (p .x) (p .y)) (prefix t n memory) memory length-begun
       (λ b u. begun-else z (pixelStart s (p .x) (p .y) + b)
       (λ v k a c e. apart (pixelStart s (p .x) (p .y) + b) (p .y) (p .x * bytesPerPixel (s .format) + b) v k
-      (record { row = w .down; column = omega (arith, pixel-in-row s (p .x) (w .across)); is = omega arith })
-      (record { row = omega arith; column = c; is = omega arith })))
+      (record { row = w .down; column = omega (arith, pixel-in-row s (p .x) (w .across)); address = omega arith })
+      (record { row = omega arith; column = c; address = omega arith })))
 
   -- a pixel of the output itself, in a row that is still to come
   pub later-kept : (x y : ℕ) → ValidRectangle (t .output) → n ≤ y →
@@ -86,7 +86,7 @@ module _ (t : Task) (n : ℕ) (memory : List ℕ) where
       (λ b u. begun-else (stride-some (t .output) r) (pixelStart (t .output) x y + b)
       (λ v k a c e.
       let above : v * t .output .stride + t .output .stride ≤ y * t .output .stride = next v y (t .output .stride) (omega arith) in
-      omega (arith, r .spaced)))
+      omega (arith, r .rows-apart)))
 
 -- what row y reads is as it was before the task
 pub pixel-kept : (window : Range) (Reach : Surface → Type 0) (t : Task) → TaskInBounds window Reach t → (memory : List ℕ) (x y : ℕ) →
@@ -111,7 +111,7 @@ pub prefix-step : (window : Range) (Reach : Surface → Type 0) (t : Task) → T
 unfolding prefix drawRow rowDrawn
 prefix-step window Reach t s memory₀ memory memory′ y v h m =
     turn-rows (t .output .address) (t .output .stride) (rowLength (t .output)) _ memory₀ memory memory′ y (rowStart (t .output) y)
-    (stride-some (t .output) (s .output)) (s .output .spaced) refl h
+    (stride-some (t .output) (s .output)) (s .output .rows-apart) refl h
     (m
     ∙ row-ext (t .output) (rowStart (t .output) y) (λ x. pixelColour t memory x y) (λ x. pixelColour t memory₀ x y) memory
     (λ x u. ap (λ (l : List ℕ). pixelColour t l x y) h ∙ pixel-kept window Reach t s memory₀ x y u v))

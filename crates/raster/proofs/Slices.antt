@@ -12,7 +12,7 @@ use Rattle.surface.specs.declared.Surface.{Surface}
 use Rattle.surface.proofs.Sizes.{bytes-some}
 use Rattle.surface.proofs.Parts.{part-mapi, within-within, within-ext}
 use Rattle.surface.proofs.Pixels.{rowByte-ext}
-use Rattle.rows.specs.Row.{rowStored}
+use Rattle.row_pixels.specs.Row.{rowStored}
 use Rattle.raster.specs.Row.{rowDrawn}
 
 -- k is a part's length as the borrow checker says it, `last` what came back

@@ -2,7 +2,7 @@
 use mathlib.Core.List.{List}
 use Prim.Native.Nat.{ℕ}
 use Rattle.register.specs.declared.bank.Bank.{Bank}
-use Rattle.rules.specs.declared.task.Bounds.{Bounds}
+use Rattle.task_check.specs.declared.task.Bounds.{Bounds}
 use Rattle.batch.specs.Batch.{decodeBatch, tasksDrawn}
 use Rattle.raster.specs.Task.{drawTasks}
 

@@ -12,15 +12,15 @@ use Rattle.surface.specs.declared.Surface.{Surface}
 use Rattle.register.specs.Task.{isBuffer}
 use Rattle.register.specs.declared.task.Task.{Task}
 use Rattle.register.specs.Size.{sizeOf}
-use Rattle.rules.specs.declared.task.Bounds.{Bounds}
+use Rattle.task_check.specs.declared.task.Bounds.{Bounds}
 
 -- a rectangle of 1 to 4,096 pixels a side whose rows do not meet
 pub record ValidRectangle (s : Surface) : Type 0 where
-  pub wide : 0 < s .width
-  pub narrow : s .width ≤ 4096
-  pub high : 0 < s .height
-  pub low : s .height ≤ 4096
-  pub spaced : rowLength s ≤ s .stride
+  pub width-positive : 0 < s .width
+  pub width-max : s .width ≤ 4096
+  pub height-positive : 0 < s .height
+  pub height-max : s .height ≤ 4096
+  pub rows-apart : rowLength s ≤ s .stride
 
 -- a source that is read
 pub record SourceInBounds (Reach : Surface → Type 0) (s o : Surface) : Type 0 where
@@ -55,4 +55,4 @@ pub record Drawable (window : Range) (n : ℕ) (t : Task) : Type 0 where
 -- Internal: a memory of n bytes that holds a client's window and common
 pub record BoundsInMemory (bounds : Bounds) (n : ℕ) : Type 0 where
   pub window : bounds .window .end ≤ n
-  pub common : bounds .common ≤ n
+  pub common : bounds .«common_length» ≤ n

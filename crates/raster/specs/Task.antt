@@ -11,8 +11,8 @@ use Rattle.register.specs.declared.task.SourceMode.{SourceMode}
 use Rattle.register.specs.declared.task.SourceMode.the-variants.{Buffer, Colour, GradientX, GradientY}
 use Rattle.register.specs.declared.task.Destination.{Destination}
 use Rattle.register.specs.declared.task.Task.{Task}
-use Rattle.rows.specs.Row.{colourAt, sourcePixelOf}
-use Rattle.rows.specs.Mixed.{composite}
+use Rattle.row_pixels.specs.Row.{colourAt, sourcePixelOf}
+use Rattle.row_pixels.specs.Composite.{composite}
 
 -- the colour of the source's pixel p, by source mode. Shaded, its place is counted along x or along y in the source's own picture, so before flips
 abbrev pub sourceModeColour : SourceMode → Source → List ℕ → Point → Channels

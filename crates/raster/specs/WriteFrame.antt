@@ -10,7 +10,7 @@ use Rattle.pixel.specs.Colours.{packed}
 use Rattle.surface.specs.Surface.{InRow}
 use Rattle.register.specs.declared.bank.Bank.{Bank}
 use Rattle.register.specs.declared.task.Task.{Task}
-use Rattle.rules.specs.declared.task.Bounds.{Bounds}
+use Rattle.task_check.specs.declared.task.Bounds.{Bounds}
 use Rattle.batch.specs.Batch.{decodeBatch, tasksDrawn}
 use Rattle.raster.specs.Task.{pixelColour, drawTask, drawTasks}
 use Rattle.raster.specs.Batch.{drawBatch}

@@ -7,18 +7,18 @@ use native.Mathlib.Omega.{arith}
 use lib.ListN.{length, getD}
 use lib.Dec.{eqb, leb}
 use borrow.Author.Tests.{eqb-true, leb-true}
-use Rattle.word.specs.Word.{byteOf, leBytes, wordsBytes, words}
+use Rattle.word.specs.Word.{AllBytes, byteOf, leBytes, wordsBytes, words}
 use Rattle.word.proofs.Tests.{and-true}
 use Rattle.word.proofs.Words.{length-words}
 use Rattle.reset.specs.Reset.{isRuleNumber}
 use Rattle.reset.proofs.Numbers.{number-back}
-use Rattle.record.specs.declared.EngineRecord.{EngineRecord}
-use Rattle.record.specs.declared.Slot.{Slot}
+use Rattle.engine_record.specs.declared.EngineRecord.{EngineRecord}
+use Rattle.engine_record.specs.declared.Slot.{Slot}
 use Rattle.record_bytes.specs.declared.Row.{Row}
 use Rattle.record_bytes.specs.Layout.{wordAt, low}
 use Rattle.record_bytes.specs.Written.{headWords, clientsWords, stagedWords, rowOf, rowWords, rowAt, flagOf, wordsOf, bytesOf}
 use Rattle.record_bytes.specs.Read.{slotRight, slotsRight, fixedRight, isRecord, slotIn, clientsIn, slotsIn, recordIn, recordOf}
-use Rattle.record_bytes.specs.RoundTrip.{AllBytes, Canonical}
+use Rattle.record_bytes.specs.RoundTrip.{Canonical}
 use Rattle.record_bytes.proofs.Cases.{record-size}
 use Rattle.record_bytes.proofs.Words.{low-is}
 

@@ -9,11 +9,11 @@ use lib.Dec.{eqb}
 use borrow.Author.Tests.{eq-eqb, ne-eqb, eqb-true}
 use Rattle.word.proofs.Tests.{and-true}
 use Rattle.reset.specs.Reset.{isRuleNumber}
-use Rattle.record.specs.Rules.{valid}
+use Rattle.engine_record.specs.Rules.{valid}
 use Rattle.word.specs.Word.{wordsBytes, words}
 use Rattle.word.specs.Splice.{spliced}
 use Rattle.word.proofs.Written.{length-bytes, write-on}
-use Rattle.record.specs.declared.EngineRecord.{EngineRecord}
+use Rattle.engine_record.specs.declared.EngineRecord.{EngineRecord}
 use Rattle.record_bytes.specs.Layout.{wordAt}
 use Rattle.record_bytes.specs.Written.{headWords, clientsWords, slotsWords, stagedWords, wordsOf, bytesOf, written}
 use Rattle.record_bytes.specs.Read.{slotsRight, fixedRight, isRecord, recordIn, noRecord, recordOf}

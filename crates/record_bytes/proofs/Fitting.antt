@@ -10,21 +10,21 @@ use borrow.Author.Tests.{ltb-true, lt-ltb, eqb-true, not-true}
 use Rattle.word.proofs.Tests.{and-true}
 use Rattle.ring.specs.Segment.{wrapOffset}
 use Rattle.ring.proofs.Wrapped.{wrapped-below}
-use Rattle.record.specs.declared.Batch.{Batch}
-use Rattle.record.specs.declared.Slot.{Slot}
-use Rattle.record.specs.declared.SlotState.{SlotState}
-use Rattle.record.specs.declared.SlotState.the-variants.{Free, Ready}
-use Rattle.record.specs.declared.EngineRecord.{EngineRecord}
-use Rattle.record.specs.Setup.{badLength}
-use Rattle.record.specs.Slots.{consIfReady, readyBatches, sumOver}
-use Rattle.record.specs.Queue.{readySlots, waiting}
-use Rattle.record.specs.Staged.{noStaged, isIdle}
-use Rattle.record.specs.Rules.{endToEnd, lengthsAllowed, stagedRule, valid}
-use Rattle.record.proofs.Slots.{ready-most}
-use Rattle.record.proofs.Unfinished.{Unfinished, staged-cases}
+use Rattle.engine_record.specs.declared.Batch.{Batch}
+use Rattle.engine_record.specs.declared.Slot.{Slot}
+use Rattle.engine_record.specs.declared.SlotState.{SlotState}
+use Rattle.engine_record.specs.declared.SlotState.the-variants.{Free, Ready}
+use Rattle.engine_record.specs.declared.EngineRecord.{EngineRecord}
+use Rattle.engine_record.specs.Setup.{badLength}
+use Rattle.engine_record.specs.Slots.{consIfReady, readyBatches, sumOver}
+use Rattle.engine_record.specs.Queue.{readySlots, waiting}
+use Rattle.engine_record.specs.Staged.{noStaged, isIdle}
+use Rattle.engine_record.specs.Rules.{endToEnd, lengthsAllowed, stagedRule, valid}
+use Rattle.engine_record.proofs.Slots.{ready-most}
+use Rattle.engine_record.proofs.Unfinished.{Unfinished, staged-cases}
 use mathlib.Core.Logic.{⊎-elim}
-use Rattle.record.proofs.Rules.{length-good, valid-facts, sum-waiting}
-use Rattle.record_bytes.specs.RoundTrip.{AllSlots, StateSmall, Typed, Small, RoundTrip}
+use Rattle.engine_record.proofs.Rules.{length-good, valid-facts, sum-waiting}
+use Rattle.record_bytes.specs.RoundTrip.{AllSlots, SlotFitsWords, Typed, RecordFitsWords, RoundTrip}
 use Rattle.record_bytes.proofs.RoundTrip.{back}
 
 -- 1 for a batch that does not fit, so that the sum over the batches counts those
@@ -54,12 +54,12 @@ not-big b n e = go (ltb (b .offset) 4294967296 && ltb (b .length) 4294967296) re
         (ltb-true (b .offset) 4294967296 (both .0), ltb-true (b .length) 4294967296 (both .1))
     go false p q = absurd (omega arith)
 
-all-small : (ss : List Slot) → sumOver big (readyBatches ss) ≡ 0 → AllSlots StateSmall ss
+all-small : (ss : List Slot) → sumOver big (readyBatches ss) ≡ 0 → AllSlots SlotFitsWords ss
 unfolding sumOver readyBatches
 all-small [] e = tt
 all-small (s ∷ ss) e = go (s .state) refl (all-small ss) e
   where
-    go : (st : SlotState) → s .state ≡ st → (sumOver big (readyBatches ss) ≡ 0 → AllSlots StateSmall ss) → sumOver big (consIfReady st (readyBatches ss)) ≡ 0 → StateSmall (s .state) × AllSlots StateSmall ss
+    go : (st : SlotState) → s .state ≡ st → (sumOver big (readyBatches ss) ≡ 0 → AllSlots SlotFitsWords ss) → sumOver big (consIfReady st (readyBatches ss)) ≡ 0 → SlotFitsWords (s .state) × AllSlots SlotFitsWords ss
     go Free p others q = (rw p tt, others q)
     go (Ready b) p others q = (rw p (not-big b (sumOver big (readyBatches ss)) q), others (omega arith))
 
@@ -70,7 +70,7 @@ staged-fits r e small =
     (λ (u : (isIdle (r .staged) ≡ false) × Unfinished r). (omega (arith, u .1 .slot), omega (arith, u .1 .room), omega (arith, u .1 .room, u .1 .short)))
     (staged-cases r e)
 
-pub fits : (r : EngineRecord) → Typed r → valid r ≡ true → Small r
+pub fits : (r : EngineRecord) → Typed r → valid r ≡ true → RecordFitsWords r
 fits r t ok =
     let v = valid-facts r ok in
     let ring = v .numbers .ring .small in
@@ -78,13 +78,13 @@ fits r t ok =
     let shared = v .numbers .memory .shared in
     let few : readySlots r ≤ 8 = omega (arith, ready-most (r .slots), t .eight) in
     let none : sumOver big (readyBatches (r .slots)) ≡ 0 =
-    sum-waiting r v few big ∙ none-big (r .setup .ring) (r .read) (waiting r) ring (v .numbers .below) (v .ends) (v .lengths)
+    sum-waiting r v few big ∙ none-big (r .setup .ring) (r .«read_offset») (waiting r) ring (v .numbers .below) (v .ends) (v .lengths)
     in
     record {
       ring = omega arith;
       memory = omega arith;
       common = omega arith;
-      read = omega (arith, v .numbers .below);
+      read-offset = omega (arith, v .numbers .below);
       slots = all-small (r .slots) none;
       staged = staged-fits r (v .staged) ring;
     }

@@ -10,18 +10,18 @@ use borrow.Author.Tests.{eq-eqb}
 use Rattle.word.specs.Word.{words}
 use Rattle.reset.specs.Reset.{isRuleNumber}
 use Rattle.reset.proofs.Numbers.{rule-back, own-number}
-use Rattle.record.specs.declared.Client.{Client}
-use Rattle.record.specs.declared.Slot.{Slot}
-use Rattle.record.specs.declared.SlotState.{SlotState}
-use Rattle.record.specs.declared.SlotState.the-variants.{Free, Ready}
-use Rattle.record.specs.declared.EngineRecord.{EngineRecord}
-use Rattle.record.specs.Slots.{free}
-use Rattle.record.specs.Clients.{noClient}
+use Rattle.engine_record.specs.declared.Client.{Client}
+use Rattle.engine_record.specs.declared.Slot.{Slot}
+use Rattle.engine_record.specs.declared.SlotState.{SlotState}
+use Rattle.engine_record.specs.declared.SlotState.the-variants.{Free, Ready}
+use Rattle.engine_record.specs.declared.EngineRecord.{EngineRecord}
+use Rattle.engine_record.specs.Slots.{free}
+use Rattle.engine_record.specs.Clients.{noClient}
 use Rattle.record_bytes.specs.declared.Row.{Row}
 use Rattle.record_bytes.specs.Layout.{wordAt, low}
 use Rattle.record_bytes.specs.Written.{tagOf, flagOf, rowOf, rowAt, wordsOf, bytesOf}
 use Rattle.record_bytes.specs.Read.{slotRight, slotsRight, fixedRight, isRecord, setupIn, clientIn, slotIn, clientsIn, slotsIn, stagedIn, recordIn, noRecord, recordOf}
-use Rattle.record_bytes.specs.RoundTrip.{AllSlots, StateSmall, Typed, Small}
+use Rattle.record_bytes.specs.RoundTrip.{AllSlots, SlotFitsWords, Typed, RecordFitsWords}
 use Rattle.record_bytes.proofs.Cases.{length-record}
 use Rattle.record_bytes.proofs.Words.{low-is, slot-at, record-words}
 
@@ -70,11 +70,11 @@ row-right ws k s h = go (s .state) h
     go Free h = rw (h .0, h .1, h .2, h .3, h .4)
     go (Ready b) h = rw (h .0)
 
-row-back : (ws : List ℕ) (k : ℕ) (s : Slot) → StateSmall (s .state) → Stands ws k (rowOf s) → slotIn ws k ≡ s
+row-back : (ws : List ℕ) (k : ℕ) (s : Slot) → SlotFitsWords (s .state) → Stands ws k (rowOf s) → slotIn ws k ≡ s
 unfolding slotIn
 row-back ws k s small h = go (s .state) small h
   where
-    go : (st : SlotState) → StateSmall st → Stands ws k (rowOf (record { state = st })) → slotIn ws k ≡ record { state = st }
+    go : (st : SlotState) → SlotFitsWords st → Stands ws k (rowOf (record { state = st })) → slotIn ws k ≡ record { state = st }
     go Free small h = rw (h .0)
     go (Ready b) small h = rw (h .0, h .1, h .2, h .3, h .4, low-is (b .offset) (small .0), low-is (b .length) (small .1))
 
@@ -143,11 +143,11 @@ module _ (r : EngineRecord) where
         row-right ws 59 (at 7) s7,
       )
 
-  slots-back : AllSlots StateSmall (r .slots) → length (r .slots) ≡ 8 → slotsIn (wordsOf r) ≡ r .slots
+  slots-back : AllSlots SlotFitsWords (r .slots) → length (r .slots) ≡ 8 → slotsIn (wordsOf r) ≡ r .slots
   unfolding slotsIn
   slots-back small n =
       let ws : List ℕ = wordsOf r in
-      let sm : (i : ℕ) → StateSmall (at i .state) = slot-at StateSmall tt (r .slots) small in
+      let sm : (i : ℕ) → SlotFitsWords (at i .state) = slot-at SlotFitsWords tt (r .slots) small in
       rw (
         row-back ws 24 (at 0) (sm 0) s0,
         row-back ws 29 (at 1) (sm 1) s1,
@@ -164,22 +164,22 @@ module _ (r : EngineRecord) where
   unfolding clientsIn wordsOf
   clients-back n = rw (flag-is (flag 0), flag-is (flag 1), flag-is (flag 2), flag-is (flag 3)) (four-are (r .clients) n)
 
-  numbers-back : Small r →
-      record { setup = setupIn (wordsOf r); clients = r .clients; slots = r .slots; read = wordAt (wordsOf r) 5; next = wordAt (wordsOf r) 6; staged = stagedIn (wordsOf r) } ≡ r
+  numbers-back : RecordFitsWords r →
+      record { setup = setupIn (wordsOf r); clients = r .clients; slots = r .slots; «read_offset» = wordAt (wordsOf r) 5; «next_ticket» = wordAt (wordsOf r) 6; staged = stagedIn (wordsOf r) } ≡ r
   unfolding wordsOf
   numbers-back s =
       rw (
         low-is (r .setup .ring) (s .ring),
         low-is (r .setup .memory) (s .memory),
         low-is (r .setup .common) (s .common),
-        low-is (r .read) (s .read),
+        low-is (r .«read_offset») (s .read-offset),
         rule-back (r .setup .reset),
         low-is (r .staged .slot) (s .staged .0),
         low-is (r .staged .total) (s .staged .1),
         low-is (r .staged .received) (s .staged .2),
       )
 
-  words-stand : Typed r → Small r → recordIn (wordsOf r) ≡ r
+  words-stand : Typed r → RecordFitsWords r → recordIn (wordsOf r) ≡ r
   unfolding recordIn
   words-stand t s = rw (slots-back (s .slots) (t .eight), clients-back (t .four)) (numbers-back s)
 
@@ -187,6 +187,6 @@ module _ (r : EngineRecord) where
   unfolding isRecord
   is-record t = rw (eq-eqb (length (bytesOf r)) 272 (length-record r), record-words r t, rule, fixed, slots-right)
 
-  pub back : Typed r → Small r → recordOf (bytesOf r) ≡ r
+  pub back : Typed r → RecordFitsWords r → recordOf (bytesOf r) ≡ r
   unfolding recordOf
   back t s = rw (is-record t, record-words r t) (words-stand t s)

@@ -9,16 +9,16 @@ use Rattle.word.specs.Word.{words}
 use Rattle.word.proofs.Words.{Below32, words-back-all}
 use Rattle.reset.specs.declared.ResetRule.{ResetRule}
 use Rattle.reset.specs.declared.ResetRule.the-variants.{Unblended, SrcOver}
-use Rattle.reset.specs.Reset.{numberOf}
-use Rattle.record.specs.declared.Client.{Client}
-use Rattle.record.specs.declared.Slot.{Slot}
-use Rattle.record.specs.declared.SlotState.{SlotState}
-use Rattle.record.specs.declared.SlotState.the-variants.{Free, Ready}
-use Rattle.record.specs.declared.Setup.{Setup}
-use Rattle.record.specs.declared.Staged.{Staged}
-use Rattle.record.specs.declared.EngineRecord.{EngineRecord}
-use Rattle.record.specs.Slots.{free}
-use Rattle.record.specs.Clients.{noClient}
+use Rattle.reset.specs.Reset.{resetNumberOf}
+use Rattle.engine_record.specs.declared.Client.{Client}
+use Rattle.engine_record.specs.declared.Slot.{Slot}
+use Rattle.engine_record.specs.declared.SlotState.{SlotState}
+use Rattle.engine_record.specs.declared.SlotState.the-variants.{Free, Ready}
+use Rattle.engine_record.specs.declared.Setup.{Setup}
+use Rattle.engine_record.specs.declared.Staged.{Staged}
+use Rattle.engine_record.specs.declared.EngineRecord.{EngineRecord}
+use Rattle.engine_record.specs.Slots.{free}
+use Rattle.engine_record.specs.Clients.{noClient}
 use Rattle.record_bytes.specs.declared.Row.{Row}
 use Rattle.record_bytes.specs.Layout.{low}
 use Rattle.record_bytes.specs.Written.{flagOf, rowOf, stagedWords, wordsOf, bytesOf}
@@ -47,7 +47,7 @@ slot-at P n [] h i = n
 slot-at P n (s ∷ ss) h zero = h .0
 slot-at P n (s ∷ ss) h (suc i) = slot-at P n ss (h .1) i
 
-number-below : (rule : ResetRule) → numberOf rule < 2 ^ 32
+number-below : (rule : ResetRule) → resetNumberOf rule < 2 ^ 32
 number-below Unblended = zero-below
 number-below SrcOver = one-below
 
@@ -89,7 +89,7 @@ module _ (r : EngineRecord) (t : Typed r) where
       let clients = client 0 (client 1 (client 2 (client 3 slots))) in
       let s : Setup = r .setup in (
         low-below (s .ring),
-        (low-below (s .memory), (low-below (s .common), (number-below (s .reset), (zero-below, (low-below (r .read), (t .next, (zero-below, clients))))))),
+        (low-below (s .memory), (low-below (s .common), (number-below (s .reset), (zero-below, (low-below (r .«read_offset»), (t .next-ticket, (zero-below, clients))))))),
       )
 
   pub record-words : words (bytesOf r) ≡ wordsOf r

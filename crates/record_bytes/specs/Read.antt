@@ -7,15 +7,15 @@ use lib.Dec.{eqb, leb}
 use Rattle.reset.specs.declared.ResetRule.the-variants.{Unblended}
 use Rattle.reset.specs.Reset.{isRuleNumber, ruleOf}
 use Rattle.word.specs.Word.{words}
-use Rattle.record.specs.declared.Setup.{Setup}
-use Rattle.record.specs.declared.Client.{Client}
-use Rattle.record.specs.declared.Batch.{Batch}
-use Rattle.record.specs.declared.Slot.{Slot}
-use Rattle.record.specs.declared.EngineRecord.{EngineRecord}
-use Rattle.record.specs.declared.Staged.{Staged}
-use Rattle.record.specs.Staged.{noStaged}
-use Rattle.record.specs.Slots.{free, readyWith}
-use Rattle.record.specs.Clients.{noClient}
+use Rattle.engine_record.specs.declared.Setup.{Setup}
+use Rattle.engine_record.specs.declared.Client.{Client}
+use Rattle.engine_record.specs.declared.Batch.{Batch}
+use Rattle.engine_record.specs.declared.Slot.{Slot}
+use Rattle.engine_record.specs.declared.EngineRecord.{EngineRecord}
+use Rattle.engine_record.specs.declared.Staged.{Staged}
+use Rattle.engine_record.specs.Staged.{noStaged}
+use Rattle.engine_record.specs.Slots.{free, readyWith}
+use Rattle.engine_record.specs.Clients.{noClient}
 use Rattle.record_bytes.specs.Layout.{wordAt}
 
 -- ---- which bytes are a record
@@ -72,8 +72,8 @@ recordIn ws = record {
   setup = setupIn ws;
   clients = clientsIn ws;
   slots = slotsIn ws;
-  read = wordAt ws 5;
-  next = wordAt ws 6;
+  «read_offset» = wordAt ws 5;
+  «next_ticket» = wordAt ws 6;
   staged = stagedIn ws;
 }
 
@@ -83,8 +83,8 @@ noRecord = record {
   setup = record { ring = 0; memory = 0; common = 0; reset = Unblended };
   clients = noClient ∷ noClient ∷ noClient ∷ noClient ∷ [];
   slots = free ∷ free ∷ free ∷ free ∷ free ∷ free ∷ free ∷ free ∷ [];
-  read = 0;
-  next = 0;
+  «read_offset» = 0;
+  «next_ticket» = 0;
   staged = noStaged;
 }
 

@@ -5,12 +5,13 @@ use mathlib.Core.Bool.{true, false}
 use mathlib.Core.List.{List, [], _∷_}
 use Prim.Native.Nat.{ℕ, _<_, _^_}
 use lib.ListN.{length}
-use Rattle.record.specs.declared.Client.{Client}
-use Rattle.record.specs.declared.Slot.{Slot}
-use Rattle.record.specs.declared.SlotState.{SlotState}
-use Rattle.record.specs.declared.SlotState.the-variants.{Free, Ready}
-use Rattle.record.specs.declared.EngineRecord.{EngineRecord}
-use Rattle.record.specs.Rules.{valid}
+use Rattle.word.specs.Word.{AllBytes}
+use Rattle.engine_record.specs.declared.Client.{Client}
+use Rattle.engine_record.specs.declared.Slot.{Slot}
+use Rattle.engine_record.specs.declared.SlotState.{SlotState}
+use Rattle.engine_record.specs.declared.SlotState.the-variants.{Free, Ready}
+use Rattle.engine_record.specs.declared.EngineRecord.{EngineRecord}
+use Rattle.engine_record.specs.Rules.{valid}
 use Rattle.record_bytes.specs.Written.{bytesOf}
 use Rattle.record_bytes.specs.Read.{isRecord, recordOf}
 
@@ -36,36 +37,32 @@ pub record Typed (r : EngineRecord) : Type 0 where
   pub eight : length (r .slots) ≡ 8
   pub clients : AllClients ClientTyped (r .clients)
   pub slots : AllSlots StateTyped (r .slots)
-  pub next : r .next < 2 ^ 32
+  pub next-ticket : r .«next_ticket» < 2 ^ 32
   pub staged : r .staged .client < 2 ^ 32
 
 -- ---- the other numbers fit in words too
 
-abbrev pub StateSmall : SlotState → Type 0
-StateSmall Free = Unit {0}
-StateSmall (Ready b) = (b .offset < 2 ^ 32) × (b .length < 2 ^ 32)
+abbrev pub SlotFitsWords : SlotState → Type 0
+SlotFitsWords Free = Unit {0}
+SlotFitsWords (Ready b) = (b .offset < 2 ^ 32) × (b .length < 2 ^ 32)
 
-pub record Small (r : EngineRecord) : Type 0 where
+pub record RecordFitsWords (r : EngineRecord) : Type 0 where
   pub ring : r .setup .ring < 2 ^ 32
   pub memory : r .setup .memory < 2 ^ 32
   pub common : r .setup .common < 2 ^ 32
-  pub read : r .read < 2 ^ 32
-  pub slots : AllSlots StateSmall (r .slots)
+  pub read-offset : r .«read_offset» < 2 ^ 32
+  pub slots : AllSlots SlotFitsWords (r .slots)
   pub staged : (r .staged .slot < 2 ^ 32) × (r .staged .total < 2 ^ 32) × (r .staged .received < 2 ^ 32)
 
 -- ---- the promises
 
 pub record RoundTrip (r : EngineRecord) : Type 0 where
   -- every record whose numbers fit
-  pub back : Typed r → Small r → recordOf (bytesOf r) ≡ r
+  pub back : Typed r → RecordFitsWords r → recordOf (bytesOf r) ≡ r
   -- those of a valid record do
-  pub fits : Typed r → valid r ≡ true → Small r
+  pub fits : Typed r → valid r ≡ true → RecordFitsWords r
 
 -- ---- the other way: what is taken for a record is the bytes of that record, so that one record has one form
-
-abbrev pub AllBytes : List ℕ → Type 0
-AllBytes [] = Unit {0}
-AllBytes (b ∷ bs) = (b < 2 ^ 8) × AllBytes bs
 
 abbrev pub Canonical : (bytes : List ℕ) → Type 0
 Canonical bytes = AllBytes bytes → isRecord bytes ≡ true → bytesOf (recordOf bytes) ≡ bytes

@@ -4,23 +4,23 @@ use mathlib.Core.List.{List, [], _∷_, _++_}
 use Prim.Native.Nat.{ℕ}
 use lib.ListN.{length, getD}
 use lib.Dec.{eqb}
-use Rattle.reset.specs.Reset.{numberOf}
+use Rattle.reset.specs.Reset.{resetNumberOf}
 use Rattle.word.specs.Word.{wordsBytes}
-use Rattle.record.specs.declared.Client.{Client}
-use Rattle.record.specs.declared.Batch.{Batch}
-use Rattle.record.specs.declared.Slot.{Slot}
-use Rattle.record.specs.declared.SlotState.{SlotState}
-use Rattle.record.specs.declared.SlotState.the-variants.{Free, Ready}
-use Rattle.record.specs.declared.EngineRecord.{EngineRecord}
-use Rattle.record.specs.declared.Staged.{Staged}
-use Rattle.record.specs.Slots.{free}
-use Rattle.record.specs.Tickets.{batchInState}
-use Rattle.record.specs.Clients.{noClient}
+use Rattle.engine_record.specs.declared.Client.{Client}
+use Rattle.engine_record.specs.declared.Batch.{Batch}
+use Rattle.engine_record.specs.declared.Slot.{Slot}
+use Rattle.engine_record.specs.declared.SlotState.{SlotState}
+use Rattle.engine_record.specs.declared.SlotState.the-variants.{Free, Ready}
+use Rattle.engine_record.specs.declared.EngineRecord.{EngineRecord}
+use Rattle.engine_record.specs.declared.Staged.{Staged}
+use Rattle.engine_record.specs.Slots.{free}
+use Rattle.engine_record.specs.Tickets.{batchInState}
+use Rattle.engine_record.specs.Clients.{noClient}
 use Rattle.record_bytes.specs.declared.Row.{Row}
 use Rattle.record_bytes.specs.Layout.{low}
 
 abbrev pub headWords : EngineRecord → List ℕ
-headWords r = low (r .setup .ring) ∷ low (r .setup .memory) ∷ low (r .setup .common) ∷ numberOf (r .setup .reset) ∷ 0 ∷ low (r .read) ∷ r .next ∷ 0 ∷ []
+headWords r = low (r .setup .ring) ∷ low (r .setup .memory) ∷ low (r .setup .common) ∷ resetNumberOf (r .setup .reset) ∷ 0 ∷ low (r .«read_offset») ∷ r .«next_ticket» ∷ 0 ∷ []
 
 -- open or not
 abbrev pub flagOf : Bool → ℕ

@@ -5,14 +5,14 @@ ghost use lib.ListN.{length};
 ghost use Rattle.word.specs.Word.{words};
 ghost use Rattle.record_bytes.specs.Layout.{wordAt};
 ghost use Rattle.record_bytes.specs.Read.{slotRight, slotsRight, fixedRight, isRecord, setupIn, clientIn, batchIn, slotIn, clientsIn, slotsIn, stagedIn, recordIn, noRecord, recordOf};
-use record::Batch;
-use record::Client;
-use record::EngineRecord;
-use record::Setup;
-use record::Slot;
-use record::SlotState;
-use record::Staged;
-use record::Window;
+use engine_record::Batch;
+use engine_record::Client;
+use engine_record::EngineRecord;
+use engine_record::Setup;
+use engine_record::Slot;
+use engine_record::SlotState;
+use engine_record::Staged;
+use engine_record::Window;
 use reset::ResetRule;
 
 fn word_at(bytes: &[u8], k: usize) -> u32
@@ -130,8 +130,8 @@ fn record_in(bytes: &[u8]) -> EngineRecord
         setup: setup_in(bytes),
         clients: clients_in(bytes),
         slots: slots_in(bytes),
-        read: size_at(bytes, 5),
-        next: word_at(bytes, 6),
+        read_offset: size_at(bytes, 5),
+        next_ticket: word_at(bytes, 6),
         staged: staged_in(bytes),
     }
 }
@@ -199,9 +199,9 @@ fn no_record() -> EngineRecord
         },
         clients: clients,
         slots: slots,
-        read: 0,
-        next: 0,
-        staged: record::no_staged(),
+        read_offset: 0,
+        next_ticket: 0,
+        staged: engine_record::no_staged(),
     }
 }
 

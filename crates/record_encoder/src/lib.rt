@@ -4,11 +4,11 @@ ghost use lib.ListN.{length};
 ghost use Rattle.word.specs.Word.{wordsBytes};
 ghost use Rattle.word.specs.Splice.{spliced};
 ghost use Rattle.record_bytes.specs.Written.{headWords, tagOf, rowOf, rowWords, flagOf, clientWords, clientsWords, slotsWords, stagedWords, written};
-use record::Client;
-use record::EngineRecord;
-use record::Slot;
-use record::SlotState;
-use record::Staged;
+use engine_record::Client;
+use engine_record::EngineRecord;
+use engine_record::Slot;
+use engine_record::SlotState;
+use engine_record::Staged;
 use record_bytes::Row;
 
 fn tag_of(slot: Slot) -> u32
@@ -25,7 +25,7 @@ fn row_of(slot: Slot) -> Row
     ensures { λ r. ⌜ r ≡ rowOf slot ⌝ }
 {
     let tag = tag_of(slot);
-    let batch = record::batch_of(slot);
+    let batch = engine_record::batch_of(slot);
     Row {
         tag: tag,
         client: batch.client,
@@ -68,8 +68,8 @@ fn head_words(engine: EngineRecord) -> [u32; 8]
         (setup.common % 4294967296) as u32,
         rule.number(),
         0,
-        (engine.read % 4294967296) as u32,
-        engine.next,
+        (engine.read_offset % 4294967296) as u32,
+        engine.next_ticket,
         0,
     ]
 }

@@ -15,7 +15,7 @@ use Rattle.records.specs.declared.Edition.the-variants.{First, Second}
 use Rattle.records.specs.declared.Stage.the-variants.{Records, Ended}
 use Rattle.records.specs.declared.Found.the-variants.{Record, BadRecord}
 use Rattle.records.specs.Records.{lengthField, badSize, entryOf}
-use Rattle.records.specs.Reading.{entryIn, roomOf, batchStart, missing, undecided, decided}
+use Rattle.records.specs.Reading.{entryIn, roomOf, batchStart, bytesWanted, waitForMore, afterRecordBytes}
 
 -- the room of either edition
 pub room-between : (edition : Edition) → (32773 ≤ roomOf edition) × (roomOf edition ≤ 32777)
@@ -73,45 +73,45 @@ module _ (edition : Edition) where
   -- ---- what is decided
 
   module _ (bytes : List ℕ) (used : ℕ) where
-    pub decided-short : length bytes < 4 → decided edition bytes used ≡ undecided (length bytes) used
-    unfolding decided
-    decided-short h = rw (lt-ltb (length bytes) 4 h)
+    pub afterRecordBytes-short : length bytes < 4 → afterRecordBytes edition bytes used ≡ waitForMore (length bytes) used
+    unfolding afterRecordBytes
+    afterRecordBytes-short h = rw (lt-ltb (length bytes) 4 h)
 
-    pub decided-bad : 4 ≤ length bytes → badSize edition (lengthField bytes) ≡ true → decided edition bytes used ≡ record { reader = record { stage = Ended; held = 0 }; used = used; found = BadRecord }
-    unfolding decided
-    decided-bad h bad = rw (le-ltb (length bytes) 4 h, bad)
+    pub afterRecordBytes-bad : 4 ≤ length bytes → badSize edition (lengthField bytes) ≡ true → afterRecordBytes edition bytes used ≡ record { reader = record { stage = Ended; buffered = 0 }; used = used; found = BadRecord }
+    unfolding afterRecordBytes
+    afterRecordBytes-bad h bad = rw (le-ltb (length bytes) 4 h, bad)
 
-    pub decided-part : 4 ≤ length bytes → badSize edition (lengthField bytes) ≡ false → length bytes < 4 + lengthField bytes → decided edition bytes used ≡ undecided (length bytes) used
-    unfolding decided
-    decided-part h good part = rw (le-ltb (length bytes) 4 h, good, lt-ltb (length bytes) (4 + lengthField bytes) part)
+    pub afterRecordBytes-part : 4 ≤ length bytes → badSize edition (lengthField bytes) ≡ false → length bytes < 4 + lengthField bytes → afterRecordBytes edition bytes used ≡ waitForMore (length bytes) used
+    unfolding afterRecordBytes
+    afterRecordBytes-part h good part = rw (le-ltb (length bytes) 4 h, good, lt-ltb (length bytes) (4 + lengthField bytes) part)
 
-    pub decided-whole : badSize edition (lengthField bytes) ≡ false → 4 + lengthField bytes ≤ length bytes
-        → decided edition bytes used ≡ record { reader = record { stage = Records; held = 0 }; used = used; found = Record (4 + lengthField bytes) }
-    unfolding decided
-    decided-whole good all =
+    pub afterRecordBytes-whole : badSize edition (lengthField bytes) ≡ false → 4 + lengthField bytes ≤ length bytes
+        → afterRecordBytes edition bytes used ≡ record { reader = record { stage = Records; buffered = 0 }; used = used; found = Record (4 + lengthField bytes) }
+    unfolding afterRecordBytes
+    afterRecordBytes-whole good all =
         let h : 4 ≤ length bytes = omega arith in
         rw (le-ltb (length bytes) 4 h, good, le-ltb (length bytes) (4 + lengthField bytes) all)
 
   module _ (bytes : List ℕ) where
-    pub missing-short : length bytes < 4 → missing edition bytes ≡ 4 - length bytes
-    unfolding missing
-    missing-short h = rw (lt-ltb (length bytes) 4 h)
+    pub bytesWanted-short : length bytes < 4 → bytesWanted edition bytes ≡ 4 - length bytes
+    unfolding bytesWanted
+    bytesWanted-short h = rw (lt-ltb (length bytes) 4 h)
 
-    pub missing-bad : 4 ≤ length bytes → badSize edition (lengthField bytes) ≡ true → missing edition bytes ≡ 0
-    unfolding missing
-    missing-bad h bad = rw (le-ltb (length bytes) 4 h, bad)
+    pub bytesWanted-bad : 4 ≤ length bytes → badSize edition (lengthField bytes) ≡ true → bytesWanted edition bytes ≡ 0
+    unfolding bytesWanted
+    bytesWanted-bad h bad = rw (le-ltb (length bytes) 4 h, bad)
 
-    pub missing-rest : 4 ≤ length bytes → badSize edition (lengthField bytes) ≡ false → missing edition bytes ≡ 4 + lengthField bytes - length bytes
-    unfolding missing
-    missing-rest h good = rw (le-ltb (length bytes) 4 h, good)
+    pub bytesWanted-rest : 4 ≤ length bytes → badSize edition (lengthField bytes) ≡ false → bytesWanted edition bytes ≡ 4 + lengthField bytes - length bytes
+    unfolding bytesWanted
+    bytesWanted-rest h good = rw (le-ltb (length bytes) 4 h, good)
 
   -- ---- of the first bytes of a buffer
 
   module _ (held : List ℕ) (have : ℕ) (within : have ≤ length held) where
-    pub have-short : have < 4 → 4 - have ≡ missing edition (take have held)
+    pub have-short : have < 4 → 4 - have ≡ bytesWanted edition (take have held)
     have-short h =
         let few : length (take have held) < 4 = omega (arith, there held have within) in
-        sym (missing-short (take have held) few ∙ ap (λ (n : ℕ). 4 - n) (there held have within))
+        sym (bytesWanted-short (take have held) few ∙ ap (λ (n : ℕ). 4 - n) (there held have within))
 
     module _ (size : ℕ) (size-is : size ≡ lengthField held) (h : 4 ≤ have) where
       four : 4 ≤ length (take have held)
@@ -123,27 +123,27 @@ module _ (edition : Edition) where
       judged : (b : Bool) → badSize edition size ≡ b → badSize edition (lengthField (take have held)) ≡ b
       judged b e = ap (badSize edition) same ∙ e
 
-      pub have-bad : badSize edition size ≡ true → 0 ≡ missing edition (take have held)
-      have-bad bad = sym (missing-bad (take have held) four (judged true bad))
+      pub have-bad : badSize edition size ≡ true → 0 ≡ bytesWanted edition (take have held)
+      have-bad bad = sym (bytesWanted-bad (take have held) four (judged true bad))
 
-      pub have-rest : badSize edition size ≡ false → 4 + size - have ≡ missing edition (take have held)
-      have-rest good = sym (missing-rest (take have held) four (judged false good) ∙ rw (same, there held have within))
+      pub have-rest : badSize edition size ≡ false → 4 + size - have ≡ bytesWanted edition (take have held)
+      have-rest good = sym (bytesWanted-rest (take have held) four (judged false good) ∙ rw (same, there held have within))
 
-      pub decides-bad : (used : ℕ) → badSize edition size ≡ true → record { reader = record { stage = Ended; held = 0 }; used = used; found = BadRecord } ≡ decided edition (take have held) used
-      decides-bad used bad = sym (decided-bad (take have held) used four (judged true bad))
+      pub decides-bad : (used : ℕ) → badSize edition size ≡ true → record { reader = record { stage = Ended; buffered = 0 }; used = used; found = BadRecord } ≡ afterRecordBytes edition (take have held) used
+      decides-bad used bad = sym (afterRecordBytes-bad (take have held) used four (judged true bad))
 
-      pub decides-part : (used : ℕ) → badSize edition size ≡ false → have < 4 + size → undecided have used ≡ decided edition (take have held) used
+      pub decides-part : (used : ℕ) → badSize edition size ≡ false → have < 4 + size → waitForMore have used ≡ afterRecordBytes edition (take have held) used
       decides-part used good part =
           let less : length (take have held) < 4 + lengthField (take have held) = omega (arith, there held have within, same) in
-          sym (decided-part (take have held) used four (judged false good) less ∙ rw (there held have within))
+          sym (afterRecordBytes-part (take have held) used four (judged false good) less ∙ rw (there held have within))
 
       pub decides-whole : (used : ℕ) → badSize edition size ≡ false → 4 + size ≤ have
-          → record { reader = record { stage = Records; held = 0 }; used = used; found = Record (4 + size) } ≡ decided edition (take have held) used
+          → record { reader = record { stage = Records; buffered = 0 }; used = used; found = Record (4 + size) } ≡ afterRecordBytes edition (take have held) used
       decides-whole used good all =
           let full : 4 + lengthField (take have held) ≤ length (take have held) = omega (arith, there held have within, same) in
-          sym (decided-whole (take have held) used (judged false good) full ∙ rw same)
+          sym (afterRecordBytes-whole (take have held) used (judged false good) full ∙ rw same)
 
-    pub decides-short : (used : ℕ) → have < 4 → undecided have used ≡ decided edition (take have held) used
+    pub decides-short : (used : ℕ) → have < 4 → waitForMore have used ≡ afterRecordBytes edition (take have held) used
     decides-short used h =
         let few : length (take have held) < 4 = omega (arith, there held have within) in
-        sym (decided-short (take have held) used few ∙ rw (there held have within))
+        sym (afterRecordBytes-short (take have held) used few ∙ rw (there held have within))

@@ -21,8 +21,8 @@ use Rattle.records.specs.declared.Reader.{Reader}
 use Rattle.records.specs.declared.Found.the-variants.{Nothing, Record, BadVersion, BadRecord}
 use Rattle.records.specs.declared.Taken.{Taken}
 use Rattle.records.specs.Records.{Entry, FileEnd, File, whole, badVersion, badRecord, cutRecord, fileEnds, consEntry, versionOf, lengthField, badSize, entryOf, recordsFrom, records}
-use Rattle.records.specs.Reading.{fileFrom, fileIn, fileAt, entryIn, onto, roomOf, missing, Due, Ready, Over, Takes, Lies, endingAt, decided, versionTaken, nothingTaken, keptIn, recordTaken, takenIn, bufferSuffices, takenBy, heldAfter}
-use Rattle.records.proofs.Bytes.{room-between, good-size, size-front, entry-front, decided-short, decided-bad, decided-part, decided-whole, missing-short, missing-bad, missing-rest, there, entry-there}
+use Rattle.records.specs.Reading.{fileFrom, fileIn, fileAt, entryIn, onto, roomOf, bytesWanted, Due, ReaderReady, EndedIfBad, Takes, Lies, endingAt, afterRecordBytes, versionTaken, nothingTaken, keptIn, recordTaken, takenIn, bufferSuffices, takenBy, heldAfter}
+use Rattle.records.proofs.Bytes.{room-between, good-size, size-front, entry-front, afterRecordBytes-short, afterRecordBytes-bad, afterRecordBytes-part, afterRecordBytes-whole, bytesWanted-short, bytesWanted-bad, bytesWanted-rest, there, entry-there}
 
 -- ---- lists
 
@@ -121,21 +121,21 @@ module _ (edition : Edition) where
 
     record Decides (d : Taken) : Type 0 where
       file : (rest : List ℕ) → fileFrom edition (bytes ++ rest) ≡ onto (d .found) held (fileAt edition (d .reader) held rest)
-      over : Over (d .found) (d .reader .stage)
-      few : d .reader .held < roomOf edition
-      due : Due edition (d .reader .stage) (take (d .reader .held) held)
+      over : EndedIfBad (d .found) (d .reader .stage)
+      few : d .reader .buffered < roomOf edition
+      due : Due edition (d .reader .stage) (take (d .reader .buffered) held)
 
     itself : take (length bytes) held ≡ bytes
     itself = ap (λ (n : ℕ). take n held) (there held have within)
 
-    decides-by : Reach bytes → Exact → Decides (decided edition bytes used)
-    decides-by (short h) exact = rw (decided-short edition bytes used h) (record {
+    decides-by : Reach bytes → Exact → Decides (afterRecordBytes edition bytes used)
+    decides-by (short h) exact = rw (afterRecordBytes-short edition bytes used h) (record {
       file = λ rest. rw itself;
       over = tt;
       few = omega (arith, room-between edition);
-      due = rw (itself, missing-short edition bytes h) (omega arith);
+      due = rw (itself, bytesWanted-short edition bytes h) (omega arith);
     })
-    decides-by (bad h is) exact = rw (decided-bad edition bytes used h is) (record {
+    decides-by (bad h is) exact = rw (afterRecordBytes-bad edition bytes used h is) (record {
       file = λ rest.
           let long : 4 ≤ length (bytes ++ rest) = omega (arith, length-append bytes rest) in
           file-bad (bytes ++ rest) long (ap (badSize edition) (size-front bytes rest h) ∙ is);
@@ -143,13 +143,13 @@ module _ (edition : Edition) where
       few = omega (arith, room-between edition);
       due = tt;
     })
-    decides-by (part h is less) exact = rw (decided-part edition bytes used h is less) (record {
+    decides-by (part h is less) exact = rw (afterRecordBytes-part edition bytes used h is less) (record {
       file = λ rest. rw itself;
       over = tt;
       few = omega (arith, good-size edition (lengthField bytes) is .1);
-      due = rw (itself, missing-rest edition bytes h is) (omega arith);
+      due = rw (itself, bytesWanted-rest edition bytes h is) (omega arith);
     })
-    decides-by (full h is more) exact = rw (decided-whole edition bytes used is more) (record {
+    decides-by (full h is more) exact = rw (afterRecordBytes-whole edition bytes used is more) (record {
       file = λ rest.
           let long : 4 ≤ length (bytes ++ rest) = omega (arith, length-append bytes rest) in
           let same = size-front bytes rest h in
@@ -162,24 +162,24 @@ module _ (edition : Edition) where
           ∙ ap (λ (xs : List ℕ). consEntry (entryIn held (4 + lengthField bytes)) (fileFrom edition xs)) behind;
       over = tt;
       few = omega (arith, room-between edition);
-      due = rw (missing-short edition [] (omega arith)) (omega arith);
+      due = rw (bytesWanted-short edition [] (omega arith)) (omega arith);
     })
 
   -- no more bytes are taken than the record has
-  exact-by : (bytes input : List ℕ) → 0 < missing edition bytes → Reach bytes
-      → let all : List ℕ = bytes ++ take (missing edition bytes) input in 4 ≤ length all → badSize edition (lengthField all) ≡ false → length all ≤ 4 + lengthField all
+  exact-by : (bytes input : List ℕ) → 0 < bytesWanted edition bytes → Reach bytes
+      → let all : List ℕ = bytes ++ take (bytesWanted edition bytes) input in 4 ≤ length all → badSize edition (lengthField all) ≡ false → length all ≤ 4 + lengthField all
   exact-by bytes input some (short h) = λ long good.
-      omega (arith, length-append bytes (take (missing edition bytes) input), length-take (missing edition bytes) input, missing-short edition bytes h)
-  exact-by bytes input some (bad h is) = absurd (omega (arith, missing-bad edition bytes h is))
+      omega (arith, length-append bytes (take (bytesWanted edition bytes) input), length-take (bytesWanted edition bytes) input, bytesWanted-short edition bytes h)
+  exact-by bytes input some (bad h is) = absurd (omega (arith, bytesWanted-bad edition bytes h is))
   exact-by bytes input some (part h is less) = λ long good.
-      omega (arith, length-append bytes (take (missing edition bytes) input), length-take (missing edition bytes) input, missing-rest edition bytes h is, size-front bytes (take (missing edition bytes) input) h)
-  exact-by bytes input some (full h is more) = absurd (omega (arith, missing-rest edition bytes h is))
+      omega (arith, length-append bytes (take (bytesWanted edition bytes) input), length-take (bytesWanted edition bytes) input, bytesWanted-rest edition bytes h is, size-front bytes (take (bytesWanted edition bytes) input) h)
+  exact-by bytes input some (full h is more) = absurd (omega (arith, bytesWanted-rest edition bytes h is))
 
   -- ---- a step inside a record
 
-  module _ (have : ℕ) (held input : List ℕ) (taken : ℕ) (held′ : List ℕ) (t : Taken) (wanted : ℕ) (want : wanted ≡ missing edition (take have held)) (fits : have + wanted ≤ roomOf edition)
+  module _ (have : ℕ) (held input : List ℕ) (taken : ℕ) (held′ : List ℕ) (t : Taken) (wanted : ℕ) (want : wanted ≡ bytesWanted edition (take have held)) (fits : have + wanted ≤ roomOf edition)
       (room : roomOf edition ≤ length held) (same : length held′ ≡ length held) (least : taken ≡ min wanted (length input)) (is-held : held′ ≡ copiedIn held have (take taken input))
-      (is : t ≡ decided edition (take (have + taken) held′) taken) where
+      (is : t ≡ afterRecordBytes edition (take (have + taken) held′) taken) where
     abbrev so-far : List ℕ
     so-far = take have held
 
@@ -205,9 +205,9 @@ module _ (edition : Edition) where
 
     -- what is taken, of any bytes
     pub record-exact : t ≡ recordTaken edition so-far input
-    record-exact = is ∙ ap (λ (xs : List ℕ). decided edition xs taken) all ∙ ap (decided edition (so-far ++ kept)) (sym size)
+    record-exact = is ∙ ap (λ (xs : List ℕ). afterRecordBytes edition xs taken) all ∙ ap (afterRecordBytes edition (so-far ++ kept)) (sym size)
 
-    pub record-takes : t .used ≡ taken → 0 < missing edition so-far → Takes edition (record { stage = Records; held = have }) held input t held′
+    pub record-takes : t .used ≡ taken → 0 < bytesWanted edition so-far → Takes edition (record { stage = Records; buffered = have }) held input t held′
     record-takes used some =
         let exact : Exact held′ (have + taken) taken (omega arith) = rw all (exact-by so-far input some (reach so-far)) in
         let d = decides-by held′ (have + taken) taken (omega arith) (reach (take (have + taken) held′)) exact in
@@ -220,7 +220,7 @@ module _ (edition : Edition) where
               ∙ d .file rest;
           over = d .over;
           ready = record { room = omega arith; few = d .few; due = d .due };
-          some = λ one. let go : taken ≡ decided edition (take (have + taken) held′) taken .used = sym used ∙ ap (λ (x : Taken). x .used) is in omega (arith, want);
+          some = λ one. let go : taken ≡ afterRecordBytes edition (take (have + taken) held′) taken .used = sym used ∙ ap (λ (x : Taken). x .used) is in omega (arith, want);
         })
 
   -- ---- the other steps
@@ -229,12 +229,12 @@ module _ (edition : Edition) where
   pub version-used : (version : ℕ) → (versionTaken edition version .used ≡ 1) × ((room : ℕ) → Lies edition (versionTaken edition version .found) room)
   version-used version = go (eqb version (versionOf edition))
     where
-      go : (b : Bool) → let u : Taken = cond b (record { reader = record { stage = Records; held = 0 }; used = 1; found = Nothing }) (record { reader = record { stage = Ended; held = 0 }; used = 1; found = BadVersion }) in
+      go : (b : Bool) → let u : Taken = cond b (record { reader = record { stage = Records; buffered = 0 }; used = 1; found = Nothing }) (record { reader = record { stage = Ended; buffered = 0 }; used = 1; found = BadVersion }) in
           (u .used ≡ 1) × ((room : ℕ) → Lies edition (u .found) room)
       go true = (refl, λ room. tt)
       go false = (refl, λ room. tt)
 
-  module _ (r : Reader) (held input : List ℕ) (t : Taken) (ready : Ready edition r held) where
+  module _ (r : Reader) (held input : List ℕ) (t : Taken) (ready : ReaderReady edition r held) where
     -- nothing taken
     pub nothing-takes : length input ≡ 0 → t ≡ record { reader = r; used = 0; found = Nothing } → Takes edition r held input t held
     nothing-takes none is = rw is (record { file = λ rest. refl; over = tt; ready = ready; some = λ one. absurd (omega arith) })
@@ -248,9 +248,9 @@ module _ (edition : Edition) where
     version-takes stage some is = rw is (go input some)
       where
         by : (b : Bool) (version : ℕ) (more : List ℕ)
-            → let u : Taken = cond b (record { reader = record { stage = Records; held = 0 }; used = 1; found = Nothing }) (record { reader = record { stage = Ended; held = 0 }; used = 1; found = BadVersion }) in
-            ((rest : List ℕ) → cond b (fileFrom edition rest) (fileEnds badVersion) ≡ onto (u .found) held (fileAt edition (u .reader) held rest)) × Ready edition (u .reader) held × (1 ≤ u .used) × Over (u .found) (u .reader .stage)
-        by true version more = (λ rest. refl, record { room = ready .room; few = omega (arith, room-between edition); due = rw (missing-short edition [] (omega arith)) (omega arith) }, omega arith, tt)
+            → let u : Taken = cond b (record { reader = record { stage = Records; buffered = 0 }; used = 1; found = Nothing }) (record { reader = record { stage = Ended; buffered = 0 }; used = 1; found = BadVersion }) in
+            ((rest : List ℕ) → cond b (fileFrom edition rest) (fileEnds badVersion) ≡ onto (u .found) held (fileAt edition (u .reader) held rest)) × ReaderReady edition (u .reader) held × (1 ≤ u .used) × EndedIfBad (u .found) (u .reader .stage)
+        by true version more = (λ rest. refl, record { room = ready .room; few = omega (arith, room-between edition); due = rw (bytesWanted-short edition [] (omega arith)) (omega arith) }, omega arith, tt)
         by false version more = (λ rest. refl, record { room = ready .room; few = omega (arith, room-between edition); due = tt }, omega arith, refl)
 
         go : (xs : List ℕ) → (length xs ≡ 0 → ⊥) → Takes edition r held xs (versionTaken edition (getD xs 0 0)) held
@@ -262,16 +262,16 @@ module _ (edition : Edition) where
 
   -- ---- the end of the file
 
-  pub file-ends : (r : Reader) (held : List ℕ) → Ready edition r held → fileAt edition r held [] ≡ fileEnds (endingAt (r .stage) (length (take (r .held) held)))
+  pub file-ends : (r : Reader) (held : List ℕ) → ReaderReady edition r held → fileAt edition r held [] ≡ fileEnds (endingAt (r .stage) (length (take (r .buffered) held)))
   unfolding records recordsFrom
-  file-ends r held ready = go (r .stage) (take (r .held) held) (ready .due)
+  file-ends r held ready = go (r .stage) (take (r .buffered) held) (ready .due)
     where
-      last : (bytes : List ℕ) → Reach bytes → 0 < missing edition bytes → fileFrom edition bytes ≡ fileEnds (endingAt Records (length bytes))
+      last : (bytes : List ℕ) → Reach bytes → 0 < bytesWanted edition bytes → fileFrom edition bytes ≡ fileEnds (endingAt Records (length bytes))
       last [] far some = refl
       last (b ∷ more) (short h) some = file-short (b ∷ more) (omega arith) h
-      last (b ∷ more) (bad h is) some = absurd (omega (arith, missing-bad edition (b ∷ more) h is))
+      last (b ∷ more) (bad h is) some = absurd (omega (arith, bytesWanted-bad edition (b ∷ more) h is))
       last (b ∷ more) (part h is less) some = file-part (b ∷ more) h is less
-      last (b ∷ more) (full h is more′) some = absurd (omega (arith, missing-rest edition (b ∷ more) h is))
+      last (b ∷ more) (full h is more′) some = absurd (omega (arith, bytesWanted-rest edition (b ∷ more) h is))
 
       go : (g : Stage) (bytes : List ℕ) → Due edition g bytes → fileIn edition g bytes [] ≡ fileEnds (endingAt g (length bytes))
       go Version bytes due = refl
@@ -279,29 +279,29 @@ module _ (edition : Edition) where
       go Ended bytes due = refl
 
   -- so no record is left
-  pub ends-here : (r : Reader) (held : List ℕ) → Ready edition r held → fileAt edition r held [] .entries ≡ []
+  pub ends-here : (r : Reader) (held : List ℕ) → ReaderReady edition r held → fileAt edition r held [] .entries ≡ []
   ends-here r held ready = ap (λ (f : File). f .entries) (file-ends r held ready)
 
   -- ---- the test of the buffer
 
-  pub ready-enough : (r : Reader) (held : List ℕ) → Ready edition r held → bufferSuffices edition r held ≡ true
-  ready-enough r held ready = rw (le-leb (roomOf edition) (length held) (ready .room), lt-ltb (r .held) (roomOf edition) (ready .few))
+  pub ready-enough : (r : Reader) (held : List ℕ) → ReaderReady edition r held → bufferSuffices edition r held ≡ true
+  ready-enough r held ready = rw (le-leb (roomOf edition) (length held) (ready .room), lt-ltb (r .buffered) (roomOf edition) (ready .few))
 
-  pub enough-both : (r : Reader) (held : List ℕ) → bufferSuffices edition r held ≡ true → (roomOf edition ≤ length held) × (r .held < roomOf edition)
+  pub enough-both : (r : Reader) (held : List ℕ) → bufferSuffices edition r held ≡ true → (roomOf edition ≤ length held) × (r .buffered < roomOf edition)
   enough-both r held e =
-      let both = and-true (leb (roomOf edition) (length held)) (ltb (r .held) (roomOf edition)) e in
-      (leb-true (roomOf edition) (length held) (both .0), ltb-true (r .held) (roomOf edition) (both .1))
+      let both = and-true (leb (roomOf edition) (length held)) (ltb (r .buffered) (roomOf edition)) e in
+      (leb-true (roomOf edition) (length held) (both .0), ltb-true (r .buffered) (roomOf edition) (both .1))
 
   -- by the room that was asked for
-  pub suffices-by : (r : Reader) (held : List ℕ) (room : ℕ) → room ≡ roomOf edition → (b : Bool) → leb room (length held) && ltb (r .held) room ≡ b → bufferSuffices edition r held ≡ b
+  pub suffices-by : (r : Reader) (held : List ℕ) (room : ℕ) → room ≡ roomOf edition → (b : Bool) → leb room (length held) && ltb (r .buffered) room ≡ b → bufferSuffices edition r held ≡ b
   suffices-by r held room is b e = rw (← is) e
 
   -- a reader inside a record
-  pub inside-takes : (r : Reader) (held input : List ℕ) (t : Taken) (held′ : List ℕ) → r .stage ≡ Records → (0 < missing edition (take (r .held) held) → Takes edition (record { stage = Records; held = r .held }) held input t held′)
-      → Ready edition r held → Takes edition r held input t held′
+  pub inside-takes : (r : Reader) (held input : List ℕ) (t : Taken) (held′ : List ℕ) → r .stage ≡ Records → (0 < bytesWanted edition (take (r .buffered) held) → Takes edition (record { stage = Records; buffered = r .buffered }) held input t held′)
+      → ReaderReady edition r held → Takes edition r held input t held′
   inside-takes r held input t held′ stage takes ready =
-      let due : 0 < missing edition (take (r .held) held) = rw stage at (ready .due) in
-      subst (λ (g : Stage). Takes edition (record { stage = g; held = r .held }) held input t held′) (sym stage) (takes due)
+      let due : 0 < bytesWanted edition (take (r .buffered) held) = rw stage at (ready .due) in
+      subst (λ (g : Stage). Takes edition (record { stage = g; buffered = r .buffered }) held input t held′) (sym stage) (takes due)
 
   -- ---- the step by itself
 
@@ -315,19 +315,19 @@ module _ (edition : Edition) where
     exactly-not e is same = rw e (is, same)
 
     module _ (e : bufferSuffices edition r held ≡ true) where
-      pub exactly-in : (g : Stage) → r .stage ≡ g → t ≡ takenIn edition g r (take (r .held) held) input → held′ ≡ spliced (r .held) (keptIn edition g (take (r .held) held) input) held → Exactly
+      pub exactly-in : (g : Stage) → r .stage ≡ g → t ≡ takenIn edition g r (take (r .buffered) held) input → held′ ≡ spliced (r .buffered) (keptIn edition g (take (r .buffered) held) input) held → Exactly
       unfolding takenBy heldAfter
       exactly-in g stage is buffer = rw e (
-        is ∙ ap (λ (x : Stage). takenIn edition x r (take (r .held) held) input) (sym stage),
-        buffer ∙ ap (λ (x : Stage). spliced (r .held) (keptIn edition x (take (r .held) held) input) held) (sym stage),
+        is ∙ ap (λ (x : Stage). takenIn edition x r (take (r .buffered) held) input) (sym stage),
+        buffer ∙ ap (λ (x : Stage). spliced (r .buffered) (keptIn edition x (take (r .buffered) held) input) held) (sym stage),
       )
 
       -- outside a record no byte is kept
-      pub exactly-version : r .stage ≡ Version → held′ ≡ held → t ≡ takenIn edition Version r (take (r .held) held) input → Exactly
-      exactly-version stage same is = exactly-in Version stage is (same ∙ sym (spliced-none (r .held) held))
+      pub exactly-version : r .stage ≡ Version → held′ ≡ held → t ≡ takenIn edition Version r (take (r .buffered) held) input → Exactly
+      exactly-version stage same is = exactly-in Version stage is (same ∙ sym (spliced-none (r .buffered) held))
 
       pub exactly-ended : r .stage ≡ Ended → held′ ≡ held → t ≡ nothingTaken r (length input) → Exactly
-      exactly-ended stage same is = exactly-in Ended stage is (same ∙ sym (spliced-none (r .held) held))
+      exactly-ended stage same is = exactly-in Ended stage is (same ∙ sym (spliced-none (r .buffered) held))
 
   -- the version byte, if there is one
   pub version-none : (r : Reader) (bytes input : List ℕ) → length input ≡ 0 → takenIn edition Version r bytes input ≡ nothingTaken r 0

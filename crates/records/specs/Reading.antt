@@ -29,7 +29,7 @@ fileIn edition Records bytes rest = fileFrom edition (bytes ++ rest)
 fileIn edition Ended bytes rest = fileEnds whole
 
 abbrev pub fileAt : Edition → Reader → (held rest : List ℕ) → File
-fileAt edition r held rest = fileIn edition (r .stage) (take (r .held) held) rest
+fileAt edition r held rest = fileIn edition (r .stage) (take (r .buffered) held) rest
 
 -- a whole record that lies in the buffer, after the four bytes of its length, up to `end`
 abbrev pub entryIn : (held : List ℕ) → (end : ℕ) → Entry
@@ -45,15 +45,15 @@ onto BadRecord held rest = record { entries = rest .entries; ending = badRecord 
 -- ---- a reader that may go on
 
 -- how many bytes are missing to the next thing to decide
-unfoldable pub missing : Edition → List ℕ → ℕ
-missing edition bytes =
+unfoldable pub bytesWanted : Edition → List ℕ → ℕ
+bytesWanted edition bytes =
     cond (ltb (length bytes) 4) (4 - length bytes)
     (cond (badSize edition (lengthField bytes)) 0
     (4 + lengthField bytes - length bytes))
 
 abbrev pub Due : Edition → Stage → List ℕ → Type 0
 Due edition Version bytes = Unit {0}
-Due edition Records bytes = 0 < missing edition bytes
+Due edition Records bytes = 0 < bytesWanted edition bytes
 Due edition Ended bytes = Unit {0}
 
 -- the bytes of the longest record and of its length
@@ -62,25 +62,25 @@ roomOf First = 32773
 roomOf Second = 32777
 
 -- the longest record and its length have room, and nothing that could be decided is left undecided
-pub record Ready (edition : Edition) (r : Reader) (held : List ℕ) : Type 0 where
+pub record ReaderReady (edition : Edition) (r : Reader) (held : List ℕ) : Type 0 where
   pub room : roomOf edition ≤ length held
-  pub few : r .held < roomOf edition
-  pub due : Due edition (r .stage) (take (r .held) held)
+  pub few : r .buffered < roomOf edition
+  pub due : Due edition (r .stage) (take (r .buffered) held)
 
 -- ---- one step
 
 -- a file that ended so is not looked at any more
-abbrev pub Over : Found → Stage → Type 0
-Over Nothing stage = Unit {0}
-Over (Record end) stage = Unit {0}
-Over BadVersion stage = stage ≡ Ended
-Over BadRecord stage = stage ≡ Ended
+abbrev pub EndedIfBad : Found → Stage → Type 0
+EndedIfBad Nothing stage = Unit {0}
+EndedIfBad (Record end) stage = Unit {0}
+EndedIfBad BadVersion stage = stage ≡ Ended
+EndedIfBad BadRecord stage = stage ≡ Ended
 
 pub record Takes (edition : Edition) (r : Reader) (held input : List ℕ) (t : Taken) (held′ : List ℕ) : Type 0 where
   -- the bytes that it used, whatever follows them
   pub file : (rest : List ℕ) → fileAt edition r held (take (t .used) input ++ rest) ≡ onto (t .found) held′ (fileAt edition (t .reader) held′ rest)
-  pub over : Over (t .found) (t .reader .stage)
-  pub ready : Ready edition (t .reader) held′
+  pub over : EndedIfBad (t .found) (t .reader .stage)
+  pub ready : ReaderReady edition (t .reader) held′
   pub some : 1 ≤ length input → 1 ≤ t .used
 
 -- Internal: where the batch begins in the buffer: behind the length and the client, and in edition 2 behind the score
@@ -106,21 +106,21 @@ endingAt Ended have = whole
 
 -- what comes of the bytes of a record that are there
 
-abbrev pub undecided : (have used : ℕ) → Taken
-undecided have used = record { reader = record { stage = Records; held = have }; used = used; found = Nothing }
+abbrev pub waitForMore : (have used : ℕ) → Taken
+waitForMore have used = record { reader = record { stage = Records; buffered = have }; used = used; found = Nothing }
 
-unfoldable pub decided : Edition → List ℕ → (used : ℕ) → Taken
-decided edition bytes used =
-    cond (ltb (length bytes) 4) (undecided (length bytes) used)
-    (cond (badSize edition (lengthField bytes)) (record { reader = record { stage = Ended; held = 0 }; used = used; found = BadRecord })
-    (cond (ltb (length bytes) (4 + lengthField bytes)) (undecided (length bytes) used)
-    (record { reader = record { stage = Records; held = 0 }; used = used; found = Record (4 + lengthField bytes) })))
+unfoldable pub afterRecordBytes : Edition → List ℕ → (used : ℕ) → Taken
+afterRecordBytes edition bytes used =
+    cond (ltb (length bytes) 4) (waitForMore (length bytes) used)
+    (cond (badSize edition (lengthField bytes)) (record { reader = record { stage = Ended; buffered = 0 }; used = used; found = BadRecord })
+    (cond (ltb (length bytes) (4 + lengthField bytes)) (waitForMore (length bytes) used)
+    (record { reader = record { stage = Records; buffered = 0 }; used = used; found = Record (4 + lengthField bytes) })))
 
 abbrev pub versionTaken : Edition → (version : ℕ) → Taken
 versionTaken edition version =
     cond (eqb version (versionOf edition))
-    (record { reader = record { stage = Records; held = 0 }; used = 1; found = Nothing })
-    (record { reader = record { stage = Ended; held = 0 }; used = 1; found = BadVersion })
+    (record { reader = record { stage = Records; buffered = 0 }; used = 1; found = Nothing })
+    (record { reader = record { stage = Ended; buffered = 0 }; used = 1; found = BadVersion })
 
 abbrev pub nothingTaken : Reader → (used : ℕ) → Taken
 nothingTaken r used = record { reader = r; used = used; found = Nothing }
@@ -128,11 +128,11 @@ nothingTaken r used = record { reader = r; used = used; found = Nothing }
 -- the bytes that it keeps behind those of an unfinished record
 abbrev pub keptIn : Edition → Stage → (bytes input : List ℕ) → List ℕ
 keptIn edition Version bytes input = []
-keptIn edition Records bytes input = take (missing edition bytes) input
+keptIn edition Records bytes input = take (bytesWanted edition bytes) input
 keptIn edition Ended bytes input = []
 
 abbrev pub recordTaken : Edition → (bytes input : List ℕ) → Taken
-recordTaken edition bytes input = decided edition (bytes ++ keptIn edition Records bytes input) (length (keptIn edition Records bytes input))
+recordTaken edition bytes input = afterRecordBytes edition (bytes ++ keptIn edition Records bytes input) (length (keptIn edition Records bytes input))
 
 -- after the end of the file all input is used up
 abbrev pub takenIn : Edition → Stage → Reader → (bytes input : List ℕ) → Taken
@@ -143,12 +143,12 @@ takenIn edition Ended r bytes input = nothingTaken r (length input)
 
 -- the longest record and its length fit in the buffer, and an unfinished record may have so many bytes
 abbrev pub bufferSuffices : Edition → Reader → (held : List ℕ) → Bool
-bufferSuffices edition r held = leb (roomOf edition) (length held) && ltb (r .held) (roomOf edition)
+bufferSuffices edition r held = leb (roomOf edition) (length held) && ltb (r .buffered) (roomOf edition)
 
 -- one step, or nothing at all where the buffer does not suffice
 unfoldable pub takenBy : Edition → Reader → (held input : List ℕ) → Taken
-takenBy edition r held input = cond (bufferSuffices edition r held) (takenIn edition (r .stage) r (take (r .held) held) input) (nothingTaken r 0)
+takenBy edition r held input = cond (bufferSuffices edition r held) (takenIn edition (r .stage) r (take (r .buffered) held) input) (nothingTaken r 0)
 
 -- and the buffer after it
 unfoldable pub heldAfter : Edition → Reader → (held input : List ℕ) → List ℕ
-heldAfter edition r held input = cond (bufferSuffices edition r held) (spliced (r .held) (keptIn edition (r .stage) (take (r .held) held) input) held) held
+heldAfter edition r held input = cond (bufferSuffices edition r held) (spliced (r .buffered) (keptIn edition (r .stage) (take (r .buffered) held) input) held) held

@@ -5,7 +5,7 @@ ghost use lib.ListN.{length, take};
 ghost use Rattle.records.specs.declared.Stage.the-variants.{Version, Records};
 ghost use Rattle.records.specs.Records.{versionOf, badSize};
 ghost use Rattle.word.specs.Splice.{spliced};
-ghost use Rattle.records.specs.Reading.{roomOf, batchStart, missing, Ready, Takes, Lies, undecided, decided, versionTaken, keptIn, recordTaken, takenBy, heldAfter};
+ghost use Rattle.records.specs.Reading.{roomOf, batchStart, bytesWanted, ReaderReady, Takes, Lies, waitForMore, afterRecordBytes, versionTaken, keptIn, recordTaken, takenBy, heldAfter};
 
 // The edition of a file. The second has a score in each record.
 pub enum Edition {
@@ -54,7 +54,7 @@ pub enum Stage {
 // Where the reading stands. The first `held` bytes of the buffer of that name are those of an unfinished record.
 pub struct Reader {
     pub stage: Stage,
-    pub held: usize,
+    pub buffered: usize,
 }
 
 // What a step found. A record lies in `held` up to an end: its client at 4, then in edition 2 its score, then its batch.
@@ -73,11 +73,11 @@ pub struct Taken {
 
 // Before the version byte.
 pub fn start() -> Reader
-    ensures { λ r. ⌜ r ≡ record { stage = Version; held = 0 } ⌝ }
+    ensures { λ r. ⌜ r ≡ record { stage = Version; buffered = 0 } ⌝ }
 {
     Reader {
         stage: Stage::Version,
-        held: 0,
+        buffered: 0,
     }
 }
 
@@ -92,9 +92,9 @@ fn bad_size(edition: Edition, size: usize) -> bool
 }
 
 // How many bytes of a record are missing to the next thing to decide, of which the first `have` bytes of `held` are there.
-fn bytes_missing(edition: Edition, held: &[u8], have: usize) -> usize
+fn bytes_wanted(edition: Edition, held: &[u8], have: usize) -> usize
     requires { ⌜ (roomOf edition ≤ length (now held)) × (have < roomOf edition) ⌝ }
-    ensures { λ r. ⌜ (r ≡ missing edition (take have (now (held .entry)))) × (have + r ≤ roomOf edition) ⌝ }
+    ensures { λ r. ⌜ (r ≡ bytesWanted edition (take have (now (held .entry)))) × (have + r ≤ roomOf edition) ⌝ }
 {
     if have < 4 {
         return 4 - have;
@@ -110,17 +110,17 @@ fn bytes_missing(edition: Edition, held: &[u8], have: usize) -> usize
 // What comes of the bytes of a record that are there, the first `have` of `held`.
 fn decide(edition: Edition, held: &[u8], have: usize, used: usize) -> Taken
     requires { ⌜ (roomOf edition ≤ length (now held)) × (have ≤ roomOf edition) ⌝ }
-    ensures { λ r. ⌜ (r ≡ decided edition (take have (now (held .entry))) used) × Lies edition (r .found) (length (now (held .entry))) × (r .used ≡ used) ⌝ }
+    ensures { λ r. ⌜ (r ≡ afterRecordBytes edition (take have (now (held .entry))) used) × Lies edition (r .found) (length (now (held .entry))) × (r .used ≡ used) ⌝ }
 {
     if have < 4 {
-        return partly(have, used);
+        return wait_for_more(have, used);
     }
     let size = word::read_be32(held, 0) as usize;
     if bad_size(edition, size) {
         return Taken {
             reader: Reader {
                 stage: Stage::Ended,
-                held: 0,
+                buffered: 0,
             },
             used: used,
             found: Found::BadRecord,
@@ -128,12 +128,12 @@ fn decide(edition: Edition, held: &[u8], have: usize, used: usize) -> Taken
     }
     let end = 4 + size;
     if have < end {
-        return partly(have, used);
+        return wait_for_more(have, used);
     }
     Taken {
         reader: Reader {
             stage: Stage::Records,
-            held: 0,
+            buffered: 0,
         },
         used: used,
         found: Found::Record(end),
@@ -141,13 +141,13 @@ fn decide(edition: Edition, held: &[u8], have: usize, used: usize) -> Taken
 }
 
 // Nothing is decided yet.
-fn partly(have: usize, used: usize) -> Taken
-    ensures { λ r. ⌜ r ≡ undecided have used ⌝ }
+fn wait_for_more(have: usize, used: usize) -> Taken
+    ensures { λ r. ⌜ r ≡ waitForMore have used ⌝ }
 {
     Taken {
         reader: Reader {
             stage: Stage::Records,
-            held: have,
+            buffered: have,
         },
         used: used,
         found: Found::Nothing,
@@ -158,12 +158,12 @@ fn partly(have: usize, used: usize) -> Taken
 fn take_record(edition: Edition, have: usize, held: &mut [u8], input: &[u8]) -> Taken
     requires { ⌜ (roomOf edition ≤ length (now held)) × (have < roomOf edition) ⌝ }
     ensures { λ r. ⌜ (r .used ≤ length (now (input .entry))) × Lies edition (r .found) (length (now (held .entry)))
-        × (0 < missing edition (take have (now (held .entry)))
-        → Takes edition (record { stage = Records; held = have }) (now (held .entry)) (now (input .entry)) r (now (held .exit)))
+        × (0 < bytesWanted edition (take have (now (held .entry)))
+        → Takes edition (record { stage = Records; buffered = have }) (now (held .entry)) (now (input .entry)) r (now (held .exit)))
         × (r ≡ recordTaken edition (take have (now (held .entry))) (now (input .entry)))
         × (now (held .exit) ≡ spliced have (keptIn edition Records (take have (now (held .entry))) (now (input .entry))) (now (held .entry))) ⌝ }
 {
-    let wanted = bytes_missing(edition, held, have);
+    let wanted = bytes_wanted(edition, held, have);
     let taken = range::min_usize(wanted, input.len());
     // It never goes on at byte 0: no record is longer than `held`.
     ring::copy_in(held, have, &input[..taken]);
@@ -171,7 +171,7 @@ fn take_record(edition: Edition, have: usize, held: &mut [u8], input: &[u8]) -> 
 }
 
 // So many bytes passed over.
-fn passed(reader: Reader, used: usize, found: Found) -> Taken
+fn skip_input(reader: Reader, used: usize, found: Found) -> Taken
     ensures { λ r. ⌜ r ≡ record { reader = reader; used = used; found = found } ⌝ }
 {
     Taken {
@@ -182,14 +182,14 @@ fn passed(reader: Reader, used: usize, found: Found) -> Taken
 }
 
 // The version byte.
-fn judge_version(edition: Edition, version: u8) -> Taken
+fn check_version(edition: Edition, version: u8) -> Taken
     ensures { λ r. ⌜ r ≡ versionTaken edition version ⌝ }
 {
     if version == edition.version() {
         return Taken {
             reader: Reader {
                 stage: Stage::Records,
-                held: 0,
+                buffered: 0,
             },
             used: 1,
             found: Found::Nothing,
@@ -198,7 +198,7 @@ fn judge_version(edition: Edition, version: u8) -> Taken
     Taken {
         reader: Reader {
             stage: Stage::Ended,
-            held: 0,
+            buffered: 0,
         },
         used: 1,
         found: Found::BadVersion,
@@ -209,24 +209,24 @@ fn judge_version(edition: Edition, version: u8) -> Taken
 // Where the buffer does not suffice, nothing is used.
 pub fn take(edition: Edition, reader: Reader, held: &mut [u8], input: &[u8]) -> Taken
     ensures { λ r. ⌜ (r .used ≤ length (now (input .entry))) × Lies edition (r .found) (length (now (held .entry)))
-        × (Ready edition reader (now (held .entry)) → Takes edition reader (now (held .entry)) (now (input .entry)) r (now (held .exit)))
+        × (ReaderReady edition reader (now (held .entry)) → Takes edition reader (now (held .entry)) (now (input .entry)) r (now (held .exit)))
         × (r ≡ takenBy edition reader (now (held .entry)) (now (input .entry))) × (now (held .exit) ≡ heldAfter edition reader (now (held .entry)) (now (input .entry))) ⌝ }
 {
-    let have = reader.held;
+    let have = reader.buffered;
     let room = edition.room();
     let enough = (room <= held.len()) & (have < room);
     if !enough {
-        return passed(reader, 0, Found::Nothing);
+        return skip_input(reader, 0, Found::Nothing);
     }
     let stage = reader.stage;
     match stage {
         Stage::Version => {
             if input.len() == 0 {
-                return passed(reader, 0, Found::Nothing);
+                return skip_input(reader, 0, Found::Nothing);
             }
-            judge_version(edition, input[0])
+            check_version(edition, input[0])
         }
         Stage::Records => take_record(edition, have, held, input),
-        Stage::Ended => passed(reader, input.len(), Found::Nothing),
+        Stage::Ended => skip_input(reader, input.len(), Found::Nothing),
     }
 }

@@ -11,8 +11,7 @@ use Rattle.pixel.specs.Blending.{factorOf}
 use Rattle.pixel.specs.declared.format.Format.the-variants.{Argb8888}
 use Rattle.surface.specs.declared.Surface.{Surface}
 use Rattle.transform.specs.declared.Transform.{Transform}
-use Rattle.transform.specs.declared.Rotation.{Rotation}
-use Rattle.transform.specs.declared.Rotation.the-variants.{Rotate0, Rotate90, Rotate180, Rotate270}
+use Rattle.transform.specs.Transform.{rotationOf}
 use Rattle.register.specs.declared.bank.SurfaceRegisters.{SurfaceRegisters}
 use Rattle.register.specs.declared.bank.Bank.{Bank}
 use Rattle.register.specs.declared.task.Alpha.{Alpha}
@@ -32,10 +31,6 @@ surfaceOf r = record {
   height = field 28 16 (r .size);
   format = formatOf (field 14 8 (r .control));
 }
-
--- quarter turns clockwise (the paper's turn), 0 to 3
-abbrev pub rotationOf : ℕ → Rotation
-rotationOf code = cond (eqb code 0) Rotate0 (cond (eqb code 1) Rotate90 (cond (eqb code 2) Rotate180 Rotate270))
 
 -- 0 buffer, 1 colour, 2 shaded along x, 3 shaded along y
 abbrev pub sourceModeOf : ℕ → SourceMode

@@ -1,6 +1,7 @@
 // The task that a bank describes.
 ghost use mathlib.Core.Path.{_≡_};
-ghost use Rattle.register.specs.Task.{surfaceOf, rotationOf, sourceModeOf, isBuffer, transformOf, alphaOf, isEnabled, sourceOfBank, destinationOf, blendingOf, taskOf};
+ghost use Rattle.transform.specs.Transform.{rotationOf};
+ghost use Rattle.register.specs.Task.{surfaceOf, sourceModeOf, isBuffer, transformOf, alphaOf, isEnabled, sourceOfBank, destinationOf, blendingOf, taskOf};
 use crate::bank::Bank;
 use crate::bank::SurfaceRegisters;
 use gradient::Steps;

@@ -9,7 +9,7 @@ use lib.ListN.{length, take, drop, replicate, take-append-drop}
 use lib.Seq.{length-take-le, take-append-seam}
 use borrow.Author.Tests.{le-leb}
 use Rattle.word.specs.Splice.{spliced}
-use Rattle.record.specs.declared.EngineRecord.{EngineRecord}
+use Rattle.engine_record.specs.declared.EngineRecord.{EngineRecord}
 use Rattle.claims.specs.Engine.{State, mkState}
 use Rattle.records.specs.declared.Edition.{Edition}
 use Rattle.records.specs.declared.Edition.the-variants.{First, Second}
@@ -19,7 +19,7 @@ use Rattle.records.specs.declared.Found.{Found}
 use Rattle.records.specs.declared.Found.the-variants.{Nothing, Record as OneRecord, BadVersion, BadRecord}
 use Rattle.records.specs.declared.Taken.{Taken}
 use Rattle.records.specs.Records.{Entry, File, records}
-use Rattle.records.specs.Reading.{roomOf, entryIn, fileIn, fileAt, onto, Over, Ready, Takes, endingAt}
+use Rattle.records.specs.Reading.{roomOf, entryIn, fileIn, fileAt, onto, EndedIfBad, ReaderReady, Takes, endingAt}
 use Rattle.records.proofs.Bytes.{room-between}
 use Rattle.records.proofs.Onward.{file-ends, ends-here}
 use Rattle.editions.specs.Editions.{scoreHolds, submission, scored, submissions}
@@ -30,7 +30,7 @@ use Rattle.replay.specs.declared.Replay.{Replay}
 use Rattle.replay.specs.declared.FeedResult.{FeedResult}
 use Rattle.replay.specs.Calls.{stateOf, atStart, foundText, foundState, fedStep, FeedContract, finishedText}
 use Rattle.record_lines.specs.Prints.{Prints}
-use Rattle.replay.specs.Chunking.{Stands, concatChunks, FeedTrace, finishing, onto as passing, feeding, ChunkingIrrelevant}
+use Rattle.replay.specs.Chunking.{Stands, concatChunks, FeedTrace, finish, next-chunk, feed, ChunkingIrrelevant}
 
 -- what was written is the text
 written-text : (text line : List ℕ) (written : ℕ) (line′ : List ℕ) → Prints text line written line′ → take written line′ ≡ text
@@ -51,7 +51,7 @@ more-left Second entry entries s = go (scoreHolds Second entry) refl
     go false e = rw e
 
 module _ (edition : Edition) where
-  found-prints : (found : Found) (g : Stage) (bytes held rest : List ℕ) (s : State) → Over found g
+  found-prints : (found : Found) (g : Stage) (bytes held rest : List ℕ) (s : State) → EndedIfBad found g
       → linesFrom edition s (onto found held (fileIn edition g bytes rest)) ≡ foundText edition found held s ++ linesFrom edition (foundState edition found held s) (fileIn edition g bytes rest)
   unfolding printedFrom endingLine
   found-prints Nothing g bytes held rest s over = refl
@@ -82,16 +82,16 @@ module _ (engine : State) (seen text : List ℕ) (r : Replay) (held ring memory 
   abbrev next : State
   next = foundState edition (t .found) held′ here
 
-  abbrev told : List ℕ
-  told = foundText edition (t .found) held′ here
+  abbrev printed : List ℕ
+  printed = foundText edition (t .found) held′ here
 
-  step-prints : (rest : List ℕ) → linesFrom edition engine (records edition ((seen ++ bytes) ++ rest)) ≡ (text ++ told) ++ linesFrom edition next (fileAt edition (t .reader) held′ rest)
+  step-prints : (rest : List ℕ) → linesFrom edition engine (records edition ((seen ++ bytes) ++ rest)) ≡ (text ++ printed) ++ linesFrom edition next (fileAt edition (t .reader) held′ rest)
   step-prints rest =
       ap (λ (xs : List ℕ). linesFrom edition engine (records edition xs)) (append-assoc seen bytes rest)
       ∙ S .prints (bytes ++ rest)
       ∙ ap (λ (file : File). text ++ linesFrom edition here file) (T .file rest)
-      ∙ ap (λ (xs : List ℕ). text ++ xs) (found-prints edition (t .found) (t .reader .stage) (take (t .reader .held) held′) held′ rest here (T .over))
-      ∙ sym (append-assoc text told (linesFrom edition next (fileAt edition (t .reader) held′ rest)))
+      ∙ ap (λ (xs : List ℕ). text ++ xs) (found-prints edition (t .found) (t .reader .stage) (take (t .reader .buffered) held′) held′ rest here (T .over))
+      ∙ sym (append-assoc text printed (linesFrom edition next (fileAt edition (t .reader) held′ rest)))
 
   step-leaves : (rest : List ℕ)
       → submitAndRunAll (submissions edition (records edition ((seen ++ bytes) ++ rest) .entries)) engine ≡ submitAndRunAll (submissions edition (fileAt edition (t .reader) held′ rest .entries)) next
@@ -102,14 +102,14 @@ module _ (engine : State) (seen text : List ℕ) (r : Replay) (held ring memory 
       ∙ found-leaves edition (t .found) held′ (fileAt edition (t .reader) held′ rest) here
 
   step-stands : (f : Replay) (ring′ memory′ : List ℕ) → f .edition ≡ edition → f .reader ≡ t .reader → stateOf f ring′ memory′ ≡ next
-      → Stands engine (seen ++ bytes) (text ++ told) f held′ ring′ memory′
+      → Stands engine (seen ++ bytes) (text ++ printed) f held′ ring′ memory′
   step-stands f ring′ memory′ same reader state = record {
     ready = rw (same, reader) (T .ready);
     prints = λ rest.
-        subst (λ (e : Edition). linesFrom e engine (records e ((seen ++ bytes) ++ rest)) ≡ (text ++ told) ++ linesFrom e (stateOf f ring′ memory′) (fileAt e (f .reader) held′ rest)) (sym same)
+        subst (λ (e : Edition). linesFrom e engine (records e ((seen ++ bytes) ++ rest)) ≡ (text ++ printed) ++ linesFrom e (stateOf f ring′ memory′) (fileAt e (f .reader) held′ rest)) (sym same)
         (step-prints rest
-        ∙ ap (λ (q : Reader). (text ++ told) ++ linesFrom edition next (fileAt edition q held′ rest)) (sym reader)
-        ∙ ap (λ (s : State). (text ++ told) ++ linesFrom edition s (fileAt edition (f .reader) held′ rest)) (sym state));
+        ∙ ap (λ (q : Reader). (text ++ printed) ++ linesFrom edition next (fileAt edition q held′ rest)) (sym reader)
+        ∙ ap (λ (s : State). (text ++ printed) ++ linesFrom edition s (fileAt edition (f .reader) held′ rest)) (sym state));
     leaves = λ rest.
         subst (λ (e : Edition). submitAndRunAll (submissions e (records e ((seen ++ bytes) ++ rest) .entries)) engine ≡ submitAndRunAll (submissions e (fileAt e (f .reader) held′ rest .entries)) (stateOf f ring′ memory′)) (sym same)
         (step-leaves rest
@@ -156,10 +156,10 @@ module _ (engine : State) (seen text : List ℕ) (r : Replay) (held ring memory 
   own = r .edition
 
   -- the line of the ending is left
-  end-prints : text ++ endingLine (endingAt (r .reader .stage) (r .reader .held)) ≡ linesFrom own engine (records own seen)
+  end-prints : text ++ endingLine (endingAt (r .reader .stage) (r .reader .buffered)) ≡ linesFrom own engine (records own seen)
   unfolding printedFrom
   end-prints =
-      let size : length (take (r .reader .held) held) ≡ r .reader .held = length-take-le (r .reader .held) held (omega (arith, S .ready .room, S .ready .few)) in
+      let size : length (take (r .reader .buffered) held) ≡ r .reader .buffered = length-take-le (r .reader .buffered) held (omega (arith, S .ready .room, S .ready .few)) in
       ap (λ (n : ℕ). text ++ endingLine (endingAt (r .reader .stage) n)) (sym size)
       ∙ ap (λ (file : File). text ++ linesFrom own (stateOf r ring memory) file) (sym (file-ends own (r .reader) held (S .ready)))
       ∙ sym (S .prints [])
@@ -167,7 +167,7 @@ module _ (engine : State) (seen text : List ℕ) (r : Replay) (held ring memory 
 
   finishes : (line : List ℕ) (written : ℕ) (line′ : List ℕ) → 128 ≤ length line → Prints (finishedText r line) line written line′ → text ++ take written line′ ≡ linesFrom own engine (records own seen)
   finishes line written line′ room prints =
-      let all : finishedText r line ≡ endingLine (endingAt (r .reader .stage) (r .reader .held)) = rw (le-leb 128 (length line) room) in
+      let all : finishedText r line ≡ endingLine (endingAt (r .reader .stage) (r .reader .buffered)) = rw (le-leb 128 (length line) room) in
       ap (λ (xs : List ℕ). text ++ xs) (written-text (finishedText r line) line written line′ prints ∙ all) ∙ end-prints
 
   left : stateOf r ring memory ≡ submitAndRunAll (submissions own (records own seen .entries)) engine
@@ -188,10 +188,10 @@ plays : {r : Replay} {held ring memory line : List ℕ} {pieces : List (List ℕ
     → (engine : State) (seen text : List ℕ) → 128 ≤ length line → Stands engine seen text r held ring memory
     → text ++ output ≡ linesFrom (r .edition) engine (records (r .edition) (seen ++ concatChunks pieces))
 unfolding concatChunks
-plays {r} {held} {ring} {memory} {line} (finishing {written = w} {line′ = l} prints) engine seen text room S =
+plays {r} {held} {ring} {memory} {line} (finish {written = w} {line′ = l} prints) engine seen text room S =
     finishes engine seen text r held ring memory S line w l room prints ∙ ap (λ (xs : List ℕ). linesFrom (r .edition) engine (records (r .edition) xs)) (sym (append-nil seen))
-plays (passing played) engine seen text room S = plays played engine seen text room S
-plays {r} {held} {ring} {memory} {line} (feeding {byte = b} {more = m} {pieces = ps} {output = o} {f = f} {held′ = h′} {ring′ = g′} {memory′ = m′} {line′ = l′} F same played) engine seen text room S =
+plays (next-chunk played) engine seen text room S = plays played engine seen text room S
+plays {r} {held} {ring} {memory} {line} (feed {byte = b} {more = m} {pieces = ps} {output = o} {f = f} {held′ = h′} {ring′ = g′} {memory′ = m′} {line′ = l′} F same played) engine seen text room S =
     let next = feeds engine seen text r held ring memory (b ∷ m) line f h′ g′ m′ l′ F room S .0 in
     let rest : List ℕ = drop (f .used) (b ∷ m) ++ concatChunks ps in
     sym (append-assoc text (take (f .written) l′) o)

@@ -11,15 +11,15 @@ use Rattle.records.specs.declared.Found.{Found}
 use Rattle.records.specs.declared.Found.the-variants.{Nothing, Record as OneRecord, BadVersion, BadRecord}
 use Rattle.records.specs.declared.Taken.{Taken}
 use Rattle.records.specs.Records.{badVersion, badRecord, cutRecord}
-use Rattle.records.specs.Reading.{entryIn, Ready, Takes, endingAt, takenBy, heldAfter}
-use Rattle.record.specs.declared.EngineRecord.{EngineRecord}
+use Rattle.records.specs.Reading.{entryIn, ReaderReady, Takes, endingAt, takenBy, heldAfter}
+use Rattle.engine_record.specs.declared.EngineRecord.{EngineRecord}
 use Rattle.claims.specs.Engine.{State, mkState}
 use Rattle.lines.specs.Lines.{endingLine, recordLine, recordAfter}
 use Rattle.replay.specs.declared.Replay.{Replay}
 use Rattle.serving.specs.declared.SubmitRunResult.{SubmitRunResult}
 use Rattle.replay.specs.Calls.{stateOf, foundText, foundState, fedStep, fedHeld, FeedContract, finishedText}
 use Rattle.record_lines.specs.Prints.{Prints}
-use Rattle.serving.specs.Serves.{Serves}
+use Rattle.serving.specs.SubmitRunContract.{SubmitRunContract}
 use Rattle.record_lines.proofs.Printing.{prints-none}
 
 -- ---- what was found
@@ -29,13 +29,13 @@ module _ (edition : Edition) (engine : EngineRecord) (ring memory held line : Li
   here = mkState engine ring memory
 
   abbrev Found-serves : SubmitRunResult → (ring′ memory′ line′ : List ℕ) → Type 0
-  Found-serves s ring′ memory′ line′ = Serves (foundText edition found held here) (foundState edition found held here) line s ring′ memory′ line′
+  Found-serves s ring′ memory′ line′ = SubmitRunContract (foundText edition found held here) (foundState edition found held here) line s ring′ memory′ line′
 
   pub found-nothing : found ≡ Nothing → Found-serves (record { engine = engine; written = 0 }) ring memory line
   found-nothing e = rw e (record { engine-is = refl; ring-is = refl; memory-is = refl; prints = prints-none line })
 
   pub found-record : (end : ℕ) → found ≡ OneRecord end → (s : SubmitRunResult) (ring′ memory′ line′ : List ℕ)
-      → Serves (recordLine edition (entryIn held end) here) (recordAfter edition (entryIn held end) here) line s ring′ memory′ line′ → Found-serves s ring′ memory′ line′
+      → SubmitRunContract (recordLine edition (entryIn held end) here) (recordAfter edition (entryIn held end) here) line s ring′ memory′ line′ → Found-serves s ring′ memory′ line′
   found-record end e s ring′ memory′ line′ serves = rw e serves
 
   pub found-version : (written : ℕ) (line′ : List ℕ) → found ≡ BadVersion → Prints (endingLine badVersion) line written line′
@@ -71,8 +71,8 @@ module _ (r : Replay) (held ring memory input line : List ℕ) where
     unfolding fedStep
     step-is = rw (le-leb 128 (length line) room) (sym is)
 
-    pub feeds-taken : (s : SubmitRunResult) (ring′ memory′ line′ : List ℕ) → t .used ≤ length input → (Ready (r .edition) (r .reader) held → Takes (r .edition) (r .reader) held input t held′)
-        → Serves (foundText (r .edition) (t .found) held′ (stateOf r ring memory)) (foundState (r .edition) (t .found) held′ (stateOf r ring memory)) line s ring′ memory′ line′
+    pub feeds-taken : (s : SubmitRunResult) (ring′ memory′ line′ : List ℕ) → t .used ≤ length input → (ReaderReady (r .edition) (r .reader) held → Takes (r .edition) (r .reader) held input t held′)
+        → SubmitRunContract (foundText (r .edition) (t .found) held′ (stateOf r ring memory)) (foundState (r .edition) (t .found) held′ (stateOf r ring memory)) line s ring′ memory′ line′
         → FeedContract r held ring memory input line (record { replay = record { edition = r .edition; engine = s .engine; reader = t .reader }; used = t .used; written = s .written }) held′ ring′ memory′ line′
     unfolding fedHeld
     feeds-taken s ring′ memory′ line′ within takes serves = record {
@@ -94,19 +94,19 @@ module _ (r : Replay) (line : List ℕ) (written : ℕ) (line′ : List ℕ) whe
   pub finishes-short : length line < 128 → Prints (finishedText r line) line 0 line
   finishes-short short = rw (lt-leb 128 (length line) short) (prints-none line)
 
-  finishes : 128 ≤ length line → (text : List ℕ) → endingLine (endingAt (r .reader .stage) (r .reader .held)) ≡ text → Prints text line written line′ → Prints (finishedText r line) line written line′
+  finishes : 128 ≤ length line → (text : List ℕ) → endingLine (endingAt (r .reader .stage) (r .reader .buffered)) ≡ text → Prints text line written line′ → Prints (finishedText r line) line written line′
   finishes room text e prints = rw (le-leb 128 (length line) room, e) prints
 
   module _ (room : 128 ≤ length line) where
     pub finishes-version : r .reader .stage ≡ Version → Prints (endingLine badVersion) line written line′ → Prints (finishedText r line) line written line′
     finishes-version stage prints = finishes room (endingLine badVersion) (rw stage) prints
 
-    pub finishes-whole : r .reader .stage ≡ Records → r .reader .held ≡ 0 → Prints [] line written line′ → Prints (finishedText r line) line written line′
+    pub finishes-whole : r .reader .stage ≡ Records → r .reader .buffered ≡ 0 → Prints [] line written line′ → Prints (finishedText r line) line written line′
     unfolding endingLine
     finishes-whole stage none prints = finishes room [] (rw (stage, none)) prints
 
-    pub finishes-cut : r .reader .stage ≡ Records → (r .reader .held ≡ 0 → ⊥) → Prints (endingLine cutRecord) line written line′ → Prints (finishedText r line) line written line′
-    finishes-cut stage some prints = finishes room (endingLine cutRecord) (rw stage (cut (r .reader .held) some)) prints
+    pub finishes-cut : r .reader .stage ≡ Records → (r .reader .buffered ≡ 0 → ⊥) → Prints (endingLine cutRecord) line written line′ → Prints (finishedText r line) line written line′
+    finishes-cut stage some prints = finishes room (endingLine cutRecord) (rw stage (cut (r .reader .buffered) some)) prints
       where
         cut : (n : ℕ) → (n ≡ 0 → ⊥) → endingLine (endingAt Records n) ≡ endingLine cutRecord
         cut zero h = absurd (h refl)

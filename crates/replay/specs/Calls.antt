@@ -12,7 +12,7 @@ use Rattle.records.specs.declared.Found.{Found}
 use Rattle.records.specs.declared.Found.the-variants.{Nothing, Record, BadVersion, BadRecord}
 use Rattle.records.specs.declared.Taken.{Taken}
 use Rattle.records.specs.Records.{badVersion, badRecord}
-use Rattle.records.specs.Reading.{entryIn, Ready, Takes, endingAt, nothingTaken, takenBy, heldAfter}
+use Rattle.records.specs.Reading.{entryIn, ReaderReady, Takes, endingAt, nothingTaken, takenBy, heldAfter}
 use Rattle.lines.specs.Lines.{endingLine, recordLine, recordAfter, replayStart}
 use Rattle.replay.specs.declared.Replay.{Replay}
 use Rattle.replay.specs.declared.FeedResult.{FeedResult}
@@ -23,7 +23,7 @@ abbrev pub stateOf : Replay → (ring memory : List ℕ) → State
 stateOf r ring memory = mkState (r .engine) ring memory
 
 abbrev pub atStart : Edition → Replay
-atStart edition = record { edition = edition; engine = replayStart edition .engine; reader = record { stage = Version; held = 0 } }
+atStart edition = record { edition = edition; engine = replayStart edition .engine; reader = record { stage = Version; buffered = 0 } }
 
 -- ---- what the reading found (crate records): what is printed of it, and the engine after it
 
@@ -59,10 +59,10 @@ pub record FeedContract (r : Replay) (held ring memory input line : List ℕ) (f
   pub prints : Prints (foundText (r .edition) (fedStep r held input line .found) held′ (stateOf r ring memory)) line (f .written) line′
   -- so the file goes on from there, whatever follows
   pub within : f .used ≤ length input
-  pub takes : 128 ≤ length line → Ready (r .edition) (r .reader) held → Takes (r .edition) (r .reader) held input (fedStep r held input line) held′
+  pub takes : 128 ≤ length line → ReaderReady (r .edition) (r .reader) held → Takes (r .edition) (r .reader) held input (fedStep r held input line) held′
 
 -- ---- finish
 
 -- what it prints: nothing into a line that may be too short
 abbrev pub finishedText : Replay → (line : List ℕ) → List ℕ
-finishedText r line = cond (leb 128 (length line)) (endingLine (endingAt (r .reader .stage) (r .reader .held))) []
+finishedText r line = cond (leb 128 (length line)) (endingLine (endingAt (r .reader .stage) (r .reader .buffered))) []

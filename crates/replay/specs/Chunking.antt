@@ -7,7 +7,7 @@ use lib.ListN.{length, take, drop, replicate}
 use Rattle.claims.specs.Engine.{State}
 use Rattle.records.specs.declared.Edition.{Edition}
 use Rattle.records.specs.Records.{records}
-use Rattle.records.specs.Reading.{roomOf, fileAt, Ready}
+use Rattle.records.specs.Reading.{roomOf, fileAt, ReaderReady}
 use Rattle.editions.specs.Editions.{submissions}
 use Rattle.lines.specs.Lines.{engineOpened, linesFrom, lines}
 use Rattle.lines.specs.Answered.{submitAndRunAll}
@@ -21,7 +21,7 @@ use Rattle.record_lines.specs.Prints.{Prints}
 -- After these bytes of a file, of which this text was printed, from an engine on: whatever follows, the lines of the whole file are this text
 -- and then those from here on, and the engine after the whole file is the one after the rest from here on.
 pub record Stands (engine : State) (seen text : List ℕ) (r : Replay) (held ring memory : List ℕ) : Type 0 where
-  pub ready : Ready (r .edition) (r .reader) held
+  pub ready : ReaderReady (r .edition) (r .reader) held
   pub prints : (rest : List ℕ)
       → linesFrom (r .edition) engine (records (r .edition) (seen ++ rest)) ≡ text ++ linesFrom (r .edition) (stateOf r ring memory) (fileAt (r .edition) (r .reader) held rest)
   pub leaves : (rest : List ℕ)
@@ -38,13 +38,13 @@ concatChunks (piece ∷ pieces) = piece ++ concatChunks pieces
 -- Calls of feed and finish as a caller makes them, one after the other, each by its contract: a piece is fed until it is used up, and what a
 -- call wrote into the line is printed. A slice that is lent keeps its length.
 pub data FeedTrace : Replay → (held ring memory line : List ℕ) → (pieces : List (List ℕ)) → (output : List ℕ) → Type 0 where
-  finishing : {r : Replay} {held ring memory line : List ℕ} {written : ℕ} {line′ : List ℕ}
+  finish : {r : Replay} {held ring memory line : List ℕ} {written : ℕ} {line′ : List ℕ}
       → Prints (finishedText r line) line written line′
       → FeedTrace r held ring memory line [] (take written line′)
-  onto : {r : Replay} {held ring memory line : List ℕ} {pieces : List (List ℕ)} {output : List ℕ}
+  next-chunk : {r : Replay} {held ring memory line : List ℕ} {pieces : List (List ℕ)} {output : List ℕ}
       → FeedTrace r held ring memory line pieces output
       → FeedTrace r held ring memory line ([] ∷ pieces) output
-  feeding : {r : Replay} {held ring memory line : List ℕ} {byte : ℕ} {more : List ℕ} {pieces : List (List ℕ)} {output : List ℕ}
+  feed : {r : Replay} {held ring memory line : List ℕ} {byte : ℕ} {more : List ℕ} {pieces : List (List ℕ)} {output : List ℕ}
       {f : FeedResult} {held′ ring′ memory′ line′ : List ℕ}
       → FeedContract r held ring memory (byte ∷ more) line f held′ ring′ memory′ line′
       → length line′ ≡ length line

@@ -7,8 +7,8 @@ ghost use Rattle.claims.specs.Engine.{mkState};
 ghost use Rattle.records.specs.Reading.{Lies};
 ghost use Rattle.replay.specs.Calls.{atStart, foundText, foundState, FeedContract, finishedText};
 ghost use Rattle.record_lines.specs.Prints.{Prints};
-ghost use Rattle.serving.specs.Serves.{Serves};
-use record::EngineRecord;
+ghost use Rattle.serving.specs.SubmitRunContract.{SubmitRunContract};
+use engine_record::EngineRecord;
 use records::Edition;
 use records::Found;
 use records::Reader;
@@ -35,7 +35,7 @@ pub struct FeedResult {
 pub fn start(edition: Edition) -> Replay
     ensures { λ r. ⌜ r ≡ atStart edition ⌝ }
 {
-    let none = clients::set_up(32768, 65536, 16384, editions::reset_of(edition));
+    let none = clients::set_up(32768, 65536, 16384, editions::reset_rule_of(edition));
     let first = none.engine;
     let one = clients::open(first, 16384, 12288);
     let second = one.engine;
@@ -64,7 +64,7 @@ fn after_found(
     slow: bool,
 ) -> SubmitRunResult
     requires { ⌜ Lies edition found (length (now held)) × (128 ≤ length (now line)) ⌝ }
-    ensures { λ r. ⌜ Serves (foundText edition found (now (held .entry)) (mkState engine (now (ring .entry)) (now (memory .entry))))
+    ensures { λ r. ⌜ SubmitRunContract (foundText edition found (now (held .entry)) (mkState engine (now (ring .entry)) (now (memory .entry))))
         (foundState edition found (now (held .entry)) (mkState engine (now (ring .entry)) (now (memory .entry))))
         (now (line .entry)) r (now (ring .exit)) (now (memory .exit)) (now (line .exit)) ⌝ }
 {
@@ -136,7 +136,7 @@ pub fn finish(replay: Replay, line: &mut [u8]) -> usize
         return 0;
     }
     let reader = replay.reader;
-    let have = reader.held;
+    let have = reader.buffered;
     let stage = reader.stage;
     match stage {
         Stage::Version => record_lines::bad_version(line),

@@ -31,7 +31,7 @@ fn read_some(
             replay,
             handed,
             more: false,
-            well: got.well,
+            ok: got.ok,
         };
     }
     replay_pieces::feed_piece(
@@ -64,7 +64,7 @@ fn read_all(
         replay,
         handed: 0,
         more: true,
-        well: true,
+        ok: true,
     };
     let mut turns = u64::MAX;
     let mut more = true;
@@ -81,7 +81,7 @@ fn read_all(
 // What a replay came to: how many bytes were handed to the system to write (modulo 2 to the 64th), and whether nothing failed.
 pub struct Replaying {
     pub handed: u64,
-    pub well: bool,
+    pub ok: bool,
 }
 
 // Replays what a descriptor reads, to its end, in memory, which is to be 65,536 bytes. Shows the lines or not, by the slow engine
@@ -94,7 +94,7 @@ pub fn replay_from(
     shows: bool,
     slow: bool,
 ) -> Replaying
-    ensures { λ r. ⌜ Replayed edition (now (memory .entry)) shows (r .handed) (r .well) (now (memory .exit)) ⌝ }
+    ensures { λ r. ⌜ Replayed edition (now (memory .entry)) shows (r .handed) (r .ok) (now (memory .exit)) ⌝ }
 {
     // The longest record of either edition has room.
     let mut held = [0u8; 32777];
@@ -102,17 +102,17 @@ pub fn replay_from(
     let start = replay::start(edition);
     let done = read_all(fd, name, start, &mut held, &mut ring, memory, shows, slow);
     let replay = done.replay;
-    if !done.well {
+    if !done.ok {
         return Replaying {
             handed: done.handed,
-            well: false,
+            ok: false,
         };
     }
     let mut line = [0u8; LINE];
     let last = replay_pieces::finish(replay, &mut line, shows);
     Replaying {
         handed: std::num::wrapping_add_u64(done.handed, last.size as u64),
-        well: last.well,
+        ok: last.ok,
     }
 }
 
@@ -124,7 +124,7 @@ pub fn replay_argument(
     shows: bool,
     slow: bool,
 ) -> Replaying
-    ensures { λ r. ⌜ Replayed edition (now (memory .entry)) shows (r .handed) (r .well) (now (memory .exit)) ⌝ }
+    ensures { λ r. ⌜ Replayed edition (now (memory .entry)) shows (r .handed) (r .ok) (now (memory .exit)) ⌝ }
 {
     let mut path = io::buffer();
     let opened = command::open_argument(index, &mut path);
@@ -132,7 +132,7 @@ pub fn replay_argument(
     if fd < 0 {
         return Replaying {
             handed: 0,
-            well: false,
+            ok: false,
         };
     }
     let came = replay_from(edition, fd, &path[..opened.length], memory, shows, slow);

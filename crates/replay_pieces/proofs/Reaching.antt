@@ -90,8 +90,8 @@ piece-failed edition engine seen text piece shows used r handed held ring memory
     record { used = used; more = G .more; of = G .of; stands = G .stands; counts = G .counts; whole = λ e. absurd (true≢false (sym e)) }
 
 -- nothing failed, so all of it was used
-pub all-used : (used n : ℕ) (well : Bool) → (ltb used n && well) ≡ false → used ≤ n → well ≡ true → used ≡ n
-all-used used n well e few is =
+pub all-used : (used n : ℕ) (ok : Bool) → (ltb used n && ok) ≡ false → used ≤ n → ok ≡ true → used ≡ n
+all-used used n ok e few is =
     ⊎-elim (λ (less : used < n). absurd (true≢false (sym is ∙ (rw (lt-ltb used n less) at e)))) (λ (le : n ≤ used). omega arith) (split used n)
 
 -- ---- some pieces
@@ -103,9 +103,9 @@ reached-start edition shows r held ring memory is room =
     rw is (record { seen = []; text = []; of = refl; stands = chunking edition .starts held ring memory (omega (arith, room-between edition)); counts = handed-none shows })
 
 pub piece-reached : (edition : Edition) (engine : State) (shows : Bool) (handed : ℕ) (r : Replay) (held ring memory : List ℕ) (R : Reached edition engine shows handed r held ring memory)
-    → (piece : List ℕ) (r′ : Replay) (handed′ : ℕ) (well : Bool) (held′ ring′ memory′ : List ℕ)
-    → PieceFed (r .edition) engine (R .seen) (R .text) piece shows r′ handed′ well held′ ring′ memory′ → Reached edition engine shows handed′ r′ held′ ring′ memory′
-piece-reached edition engine shows handed r held ring memory R piece r′ handed′ well held′ ring′ memory′ P =
+    → (piece : List ℕ) (r′ : Replay) (handed′ : ℕ) (ok : Bool) (held′ ring′ memory′ : List ℕ)
+    → PieceFed (r .edition) engine (R .seen) (R .text) piece shows r′ handed′ ok held′ ring′ memory′ → Reached edition engine shows handed′ r′ held′ ring′ memory′
+piece-reached edition engine shows handed r held ring memory R piece r′ handed′ ok held′ ring′ memory′ P =
     record { seen = R .seen ++ take (P .used) piece; text = R .text ++ P .more; of = P .of ∙ R .of; stands = P .stands; counts = P .counts }
 
 -- ---- the end
@@ -128,9 +128,9 @@ module _ (edition : Edition) (ring memory : List ℕ) (shows : Bool) (handed : �
   replayed-some = record { ring = ring; seen = R .seen; left = left; lines = λ e. absurd (true≢false (sym e)) }
 
   -- read to the end
-  pub replayed-all : (well : Bool) (line : List ℕ) (size : ℕ) (line′ : List ℕ) → 128 ≤ length line → length line′ ≡ length line → Finishes r shows line size line′
-      → Replayed edition memory shows ((handed + size) % 2 ^ 64) well memory′
-  replayed-all well line size line′ room same F =
+  pub replayed-all : (ok : Bool) (line : List ℕ) (size : ℕ) (line′ : List ℕ) → 128 ≤ length line → length line′ ≡ length line → Finishes r shows line size line′
+      → Replayed edition memory shows ((handed + size) % 2 ^ 64) ok memory′
+  replayed-all ok line size line′ room same F =
       let whole : R .text ++ take (F .written) line′ ≡ linesFrom edition (engineOpened edition ring memory) (records edition (R .seen)) =
       subst (λ (e : Edition). R .text ++ take (F .written) line′ ≡ linesFrom e (engineOpened edition ring memory) (records e (R .seen))) (R .of)
       (chunking edition .finishes (engineOpened edition ring memory) (R .seen) (R .text) r held ring′ memory′ line (F .written) line′ (R .stands) room (F .prints)) in

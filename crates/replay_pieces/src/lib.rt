@@ -17,7 +17,7 @@ pub struct Progress {
     pub replay: Replay,
     pub handed: u64,
     pub more: bool,
-    pub well: bool,
+    pub ok: bool,
 }
 
 // Prints the first n bytes of `out`, if lines are to be shown.
@@ -27,10 +27,7 @@ fn show(shows: bool, out: &[u8], n: usize) -> Printed
     if shows {
         return command::print(out, n);
     }
-    Printed {
-        size: 0,
-        well: true,
-    }
+    Printed { size: 0, ok: true }
 }
 
 // Feeds a piece of the file, whole. It fails where nothing is used, which happens only where a buffer is too short.
@@ -45,14 +42,14 @@ pub fn feed_piece(
     slow: bool,
 ) -> Progress
     ensures { λ r. ⌜ ((engine : State) (seen text : List ℕ) → Stands engine seen text replay (now (held .entry)) (now (ring .entry)) (now (memory .entry))
-        → handed ≡ handedOf shows text → PieceFed (replay .edition) engine seen text (now (piece .entry)) shows (r .replay) (r .handed) (r .well) (now (held .exit)) (now (ring .exit)) (now (memory .exit))) ⌝ }
+        → handed ≡ handedOf shows text → PieceFed (replay .edition) engine seen text (now (piece .entry)) shows (r .replay) (r .handed) (r .ok) (now (held .exit)) (now (ring .exit)) (now (memory .exit))) ⌝ }
 {
     let mut out = io::large_buffer();
     let mut now = replay;
     let mut used = 0;
     let mut sum = handed;
-    let mut well = true;
-    while (used < piece.len()) & well {
+    let mut ok = true;
+    while (used < piece.len()) & ok {
         let fed = replay_lines::feed_lines(now, held, ring, memory, &piece[used..], &mut out, slow);
         let after = fed.replay;
         let count = fed.used;
@@ -60,17 +57,17 @@ pub fn feed_piece(
         used += count;
         let printed = show(shows, &out, fed.written);
         sum = std::num::wrapping_add_u64(sum, printed.size as u64);
-        well = printed.well;
+        ok = printed.ok;
         if count == 0 {
-            well = false;
+            ok = false;
             break;
         }
     }
     Progress {
         replay: now,
         handed: sum,
-        more: well,
-        well,
+        more: ok,
+        ok,
     }
 }
 

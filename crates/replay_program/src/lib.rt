@@ -52,7 +52,7 @@ fn replay_one(
     slow: bool,
     usage: &[u8],
 ) -> Replaying
-    ensures { λ r. ⌜ ReplayedInZeros edition true (r .handed) (r .well) ⌝ }
+    ensures { λ r. ⌜ ReplayedInZeros edition true (r .handed) (r .ok) ⌝ }
 {
     let mut memory = [0u8; 65536];
     if is_input {
@@ -71,14 +71,14 @@ fn replay_one(
     io::write_all(libc::STDERR_FILENO, usage);
     Replaying {
         handed: 0,
-        well: false,
+        ok: false,
     }
 }
 
 // Prints the lines of a replay file of an edition: the one that the program's argument names, or standard input. With --slow before it the
 // file is run by the slow engine, which prints the same lines. With other arguments `usage` is reported on standard error.
 pub fn print_lines(edition: Edition, usage: &[u8]) -> Replaying
-    ensures { λ r. ⌜ ReplayedInZeros edition true (r .handed) (r .well) ⌝ }
+    ensures { λ r. ⌜ ReplayedInZeros edition true (r .handed) (r .ok) ⌝ }
 {
     let count = os::arg_count();
     let choice = asked();

@@ -13,9 +13,9 @@ blendingAtReset SrcOver = 0x00000B01
 
 -- ---- the rule as a number
 
-abbrev pub numberOf : ResetRule → ℕ
-numberOf Unblended = 0
-numberOf SrcOver = 1
+abbrev pub resetNumberOf : ResetRule → ℕ
+resetNumberOf Unblended = 0
+resetNumberOf SrcOver = 1
 
 abbrev pub isRuleNumber : ℕ → Bool
 isRuleNumber number = eqb number 0 || eqb number 1

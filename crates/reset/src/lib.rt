@@ -1,6 +1,6 @@
 // The reset rule: what register 0x090, blending, holds at the start of every batch. It is chosen once, at set up.
 ghost use mathlib.Core.Path.{_≡_};
-ghost use Rattle.reset.specs.Reset.{blendingAtReset, numberOf, isRuleNumber, ruleOf};
+ghost use Rattle.reset.specs.Reset.{blendingAtReset, resetNumberOf, isRuleNumber, ruleOf};
 
 pub enum ResetRule {
     // blending off, the factors those of NONE
@@ -26,7 +26,7 @@ impl ResetRule {
 
     // The rule's own number.
     pub fn number(self) -> u32
-        ensures { λ r. ⌜ r ≡ numberOf self ⌝ }
+        ensures { λ r. ⌜ r ≡ resetNumberOf self ⌝ }
     {
         match self {
             ResetRule::Unblended => 0,

@@ -1,13 +1,13 @@
 // The results of a call written out: what it answered in numbers, and the record after it as bytes.
 ghost use Rattle.record_bytes.specs.Written.{written};
-ghost use Rattle.answers.specs.Answers.{Small};
-ghost use Rattle.calls.specs.Calls.{Told, ToldTwo, Reports};
+ghost use Rattle.answers.specs.Answers.{OutcomeFitsWords};
+ghost use Rattle.calls.specs.Calls.{ValueWritten, ProgressWritten, Reports};
 use engine::RunResult;
 use queue::Reply;
 
 // Writes the value that a call answered, and the record after it if it was not refused.
 pub fn write_value(bytes: &mut [u8], reply: Reply, value: &mut u32) -> u32
-    ensures { λ r. ⌜ Told (now (bytes .entry)) (written (reply .engine) (now (bytes .entry))) (reply .answer) r (now (value .exit)) (now (bytes .exit)) ⌝ }
+    ensures { λ r. ⌜ ValueWritten (now (bytes .entry)) (written (reply .engine) (now (bytes .entry))) (reply .answer) r (now (value .exit)) (now (bytes .exit)) ⌝ }
 {
     let answer = reply.answer;
     let engine = reply.engine;
@@ -22,7 +22,7 @@ pub fn write_value(bytes: &mut [u8], reply: Reply, value: &mut u32) -> u32
 
 // The same of a piece: whether it was the last, and the value.
 pub fn write_progress(bytes: &mut [u8], reply: Reply, two: &mut [u32; 2]) -> u32
-    ensures { λ r. ⌜ ToldTwo (now (bytes .entry)) (written (reply .engine) (now (bytes .entry))) (reply .answer) r (now (two .exit)) (now (bytes .exit)) ⌝ }
+    ensures { λ r. ⌜ ProgressWritten (now (bytes .entry)) (written (reply .engine) (now (bytes .entry))) (reply .answer) r (now (two .exit)) (now (bytes .exit)) ⌝ }
 {
     let answer = reply.answer;
     let engine = reply.engine;
@@ -37,12 +37,12 @@ pub fn write_progress(bytes: &mut [u8], reply: Reply, two: &mut [u32; 2]) -> u32
 
 // The same of run: the five numbers of its completion.
 pub fn write_completion(bytes: &mut [u8], ran: RunResult, five: &mut [u32; 5]) -> u32
-    requires { ⌜ Small (ran .outcome) ⌝ }
+    requires { ⌜ OutcomeFitsWords (ran .outcome) ⌝ }
     ensures { λ r. ⌜ Reports (now (bytes .entry)) (written (ran .engine) (now (bytes .entry))) (ran .outcome) r (now (five .exit)) (now (bytes .exit)) ⌝ }
 {
     let outcome = ran.outcome;
     let engine = ran.engine;
-    let words = answers::outcome_words(outcome);
+    let words = answers::run_words(outcome);
     let number = words[0];
     *five = [words[1], words[2], words[3], words[4], words[5]];
     if number == 0 {

@@ -3,16 +3,15 @@ use mathlib.Core.Path.{_≡_, sym, ap, _∙_}
 use mathlib.Core.List.{List, _++_}
 use mathlib.Core.Logic.{⊎-elim}
 use Prim.Native.Nat.{ℕ, _+_, _-_, _≤_, _<_}
-use native.Mathlib.Nat.{add-zero}
 use native.Mathlib.Omega.{arith}
-use lib.ListN.{length, take, drop, getD, length-append, length-take, length-drop, take-append-drop, List·getD-append}
+use lib.ListN.{length, take, drop, getD, length-take, length-drop, take-append-drop}
 use lib.Seq.{ext-getD, getD-take, getD-drop, take-append-le, drop-append-le, length-take-le}
 use Rattle.word.specs.Splice.{spliced}
-use Rattle.word.proofs.Splice.{getD-right, length-spliced, spliced-before, spliced-in, spliced-past}
+use Rattle.word.proofs.Splice.{length-spliced, spliced-before, spliced-in, spliced-past}
 use Rattle.word.proofs.Tests.{split}
 use Rattle.ring.specs.Segment.{segment, LiesInRing, wrapOffset}
 use Rattle.ring.specs.Copied.{copiedIn}
-use Rattle.ring.proofs.Wrapped.{wrapped-in, wrapped-below, wrapped-add, wrapped-round}
+use Rattle.ring.proofs.Wrapped.{wrapped-add, wrapped-round}
 use Rattle.ring.proofs.Segment.{lies-wrapped, length-segment, segment-byte}
 use Rattle.ring.proofs.Copied.{length-copied, copied-in, copied-out}
 
@@ -51,45 +50,6 @@ module _ (ring : List ℕ) (read : ℕ) (below : read < length ring) where
           segment-byte ring offset size lies i l
           ∙ ap (λ (m : ℕ). getD ring m 0) (wrapped-add (length ring) read u i below (omega arith))
           ∙ sym (getD-take size (drop u (view ring read)) i 0 l ∙ getD-drop u (view ring read) i 0 ∙ view-byte (u + i) (omega arith))
-
-  -- the view from u bytes on
-  pub view-on : (u : ℕ) → u ≤ length ring → view ring (wrapOffset (length ring) (read + u)) ≡ drop u (view ring read) ++ take u (view ring read)
-  view-on u h =
-      ext-getD 0 (view ring offset) (drop u (view ring read) ++ take u (view ring read))
-      (length-segment ring offset (length ring) lies ∙ sym long)
-      (λ i l. at i (rw (length-segment ring offset (length ring) lies) at l))
-    where
-      offset : ℕ
-      offset = wrapOffset (length ring) (read + u)
-
-      lies : LiesInRing ring offset (length ring)
-      lies = record { starts = wrapped-below (length ring) (read + u) (omega arith); fits = omega arith }
-
-      long : length (drop u (view ring read) ++ take u (view ring read)) ≡ length ring
-      long = simp (length-append, length-take, length-drop, length-view) (omega arith)
-
-      cut : length (drop u (view ring read)) ≡ length ring - u
-      cut = simp (length-drop, length-view)
-
-      at : (i : ℕ) → i < length ring → getD (view ring offset) i 0 ≡ getD (drop u (view ring read) ++ take u (view ring read)) i 0
-      at i l = segment-byte ring offset (length ring) lies i l ∙ ⊎-elim before past (split i (length ring - u))
-        where
-          before : i < length ring - u → getD ring (wrapOffset (length ring) (offset + i)) 0 ≡ getD (drop u (view ring read) ++ take u (view ring read)) i 0
-          before p =
-              ap (λ (m : ℕ). getD ring m 0) (wrapped-add (length ring) read u i below (omega arith))
-              ∙ sym (List·getD-append (drop u (view ring read)) (take u (view ring read)) 0 i (rw cut p)
-              ∙ getD-drop u (view ring read) i 0
-              ∙ view-byte (u + i) (omega arith))
-
-          past : length ring - u ≤ i → getD ring (wrapOffset (length ring) (offset + i)) 0 ≡ getD (drop u (view ring read) ++ take u (view ring read)) i 0
-          past p =
-              let j : ℕ = i - (length ring - u) in
-              let e : i ≡ length ring - u + j = omega arith in
-              ap (λ (m : ℕ). getD ring (wrapOffset (length ring) (offset + m)) 0) e
-              ∙ ap (λ (m : ℕ). getD ring m 0) (wrapped-round (length ring) read u j below h (omega arith))
-              ∙ sym (getD-right (drop u (view ring read)) (take u (view ring read)) (length ring - u) i cut p
-              ∙ getD-take u (view ring read) j 0 (omega arith)
-              ∙ view-byte j (omega arith))
 
 -- a batch copied in u bytes on lies in the view from u on, and the view is otherwise as before
 module _ (ring : List ℕ) (read : ℕ) (below : read < length ring) (u : ℕ) (batch : List ℕ) (fits : u + length batch ≤ length ring) where
@@ -175,10 +135,3 @@ segment-kept-on ring read u size v batch below h k =
     ∙ ap (λ (l : List ℕ). take size (drop u l)) (view-copied ring read below v batch k)
     ∙ take-spliced u size v batch (view ring read) h (rw (length-view ring read below) (omega arith))
     ∙ sym (segment-view ring read below u size (omega arith))
-
--- the same of a batch at `offset`
-pub segment-kept : (ring : List ℕ) (offset size v : ℕ) (batch : List ℕ) → offset < length ring → size ≤ v → v + length batch ≤ length ring
-    → segment (copiedIn ring (wrapOffset (length ring) (offset + v)) batch) offset size ≡ segment ring offset size
-segment-kept ring offset size v batch below h k =
-    let e : wrapOffset (length ring) (offset + 0) ≡ offset = rw add-zero (wrapped-in (length ring) offset below) in
-    rw e at (segment-kept-on ring offset 0 size v batch below (omega arith) k)

@@ -1,4 +1,4 @@
 -- Batches in the ring.
 pub mod Segment
-pub mod Read
 pub mod Copied
+pub mod Read

@@ -8,5 +8,5 @@ use Rattle.ring.specs.declared.Read.{Read}
 use Rattle.ring.specs.declared.Read.the-variants.{Word, OutOfRange}
 
 -- word k of a list of words
-abbrev pub wordAt : List ℕ → ℕ → Read
-wordAt words k = cond (ltb k (length words)) (Word (getD words k 0)) OutOfRange
+abbrev pub readWord : List ℕ → ℕ → Read
+readWord words k = cond (ltb k (length words)) (Word (getD words k 0)) OutOfRange

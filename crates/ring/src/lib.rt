@@ -1,4 +1,4 @@
-// Batches in the ring: one read as an unbroken run of words, one copied in.
+// Batches in the ring: one read as a sequence of words, whether or not it wraps, one copied in.
 ghost use mathlib.Core.Path.{_≡_};
 ghost use Prim.Native.Nat.{_+_, _≤_, _<_};
 ghost use mathlib.Core.Bool.{_&&_};
@@ -6,7 +6,7 @@ ghost use lib.ListN.{length, getD};
 ghost use lib.Dec.{ltb, leb};
 ghost use Rattle.word.specs.Splice.{spliced};
 ghost use Rattle.ring.specs.Segment.{LiesInRing, segment, batchWords};
-ghost use Rattle.ring.specs.Read.{wordAt};
+ghost use Rattle.ring.specs.Read.{readWord};
 ghost use Rattle.ring.specs.Copied.{copiedIn};
 
 // A word of a batch, or that the batch has no such word.
@@ -15,11 +15,11 @@ pub enum Read {
     OutOfRange,
 }
 
-// Whether a batch of `size` bytes at `offset` lies in a ring of `length` bytes.
-fn lies_in(length: usize, offset: usize, size: usize) -> bool
-    ensures { λ r. ⌜ r ≡ ltb offset length && leb size length ⌝ }
+// Whether a batch of `size` bytes at `offset` lies in a ring of `ring_size` bytes.
+fn lies_in(ring_size: usize, offset: usize, size: usize) -> bool
+    ensures { λ r. ⌜ r ≡ ltb offset «ring_size» && leb size «ring_size» ⌝ }
 {
-    (offset < length) & (size <= length)
+    (offset < ring_size) & (size <= ring_size)
 }
 
 // Byte i of the batch that starts at `offset`.
@@ -48,7 +48,7 @@ pub fn word_count(ring: &[u8], offset: usize, size: usize) -> usize
 
 // Word k of a batch, for any ring and numbers.
 fn word_at(ring: &[u8], offset: usize, size: usize, k: usize) -> Read
-    ensures { λ r. ⌜ r ≡ wordAt (batchWords (now (ring .entry)) offset size) k ⌝ }
+    ensures { λ r. ⌜ r ≡ readWord (batchWords (now (ring .entry)) offset size) k ⌝ }
 {
     if word_count(ring, offset, size) <= k {
         return Read::OutOfRange;
@@ -70,7 +70,7 @@ fn word_at(ring: &[u8], offset: usize, size: usize, k: usize) -> Read
     ))
 }
 
-// One batch in the ring, shown as an unbroken run of words.
+// One batch in the ring, shown as a sequence of words, whether or not it wraps.
 pub struct Reader<'a> {
     pub ring: &'a [u8],
     pub offset: usize,
@@ -85,14 +85,14 @@ pub fn reader_of<'a>(ring: &'a [u8], offset: usize, size: usize) -> Reader<'a>
 
 // Word k of the reader's batch.
 pub fn word_of<'a>(reader: Reader<'a>, k: usize) -> Read
-    ensures { λ r. ⌜ r ≡ wordAt (batchWords (now (reader .entry .ring)) (reader .entry .offset) (reader .entry .size)) k ⌝ }
+    ensures { λ r. ⌜ r ≡ readWord (batchWords (now (reader .entry .ring)) (reader .entry .offset) (reader .entry .size)) k ⌝ }
 {
     word_at(reader.ring, reader.offset, reader.size, k)
 }
 
 // Word k of a batch, through a reader. Its parameters are plain, so that who calls it needs no proof by hand.
 pub fn read_word(ring: &[u8], offset: usize, size: usize, k: usize) -> Read
-    ensures { λ r. ⌜ r ≡ wordAt (batchWords (now (ring .entry)) offset size) k ⌝ }
+    ensures { λ r. ⌜ r ≡ readWord (batchWords (now (ring .entry)) offset size) k ⌝ }
 {
     word_of(reader_of(ring, offset, size), k)
 }

@@ -17,7 +17,7 @@ use Rattle.surface.specs.Drawn.{loadPixel}
 use Rattle.surface.specs.Rows.{rowByte}
 use Rattle.surface.proofs.Loaded.{loaded-bytes}
 use Rattle.surface.proofs.Mapi.{is-mapi}
-use Rattle.rows.specs.Row.{colourIn, rowStored}
+use Rattle.row_pixels.specs.Row.{colourIn, rowStored}
 use Rattle.lanes.specs.Lanes.{Done}
 use Rattle.lanes.proofs.Laws.{under-or}
 use Rattle.plan.specs.Blend.{blendAt}

@@ -24,8 +24,8 @@ use Rattle.surface.proofs.Rows.{next}
 use Rattle.surface.proofs.Loaded.{loaded-bytes, loaded-shift}
 use Rattle.register.specs.declared.task.Alpha.{Alpha}
 use Rattle.register.specs.declared.task.Blending.{Blending}
-use Rattle.rows.specs.Row.{colourIn, HoldsColours, rowStored}
-use Rattle.rows.specs.Mixed.{composite}
+use Rattle.row_pixels.specs.Row.{colourIn, HoldsColours, rowStored}
+use Rattle.row_pixels.specs.Composite.{composite}
 use Rattle.pixel.proofs.Kept.{word-colour}
 use Rattle.lanes.specs.Lanes.{Done}
 use Rattle.row_colours.proofs.Colours.{Row, colour-is, row-is}
@@ -95,9 +95,9 @@ row-colour p row x l small =
     ∙ word-colour (p x) small
 
 -- a part that came back as a row of colours
-pub part-spelt : (p : ℕ → Colour) (buffer last : List ℕ) (width n : ℕ) → n ≡ width * 4 → width * 4 ≤ length buffer → length last ≡ n →
+pub holds-part : (p : ℕ → Colour) (buffer last : List ℕ) (width n : ℕ) → n ≡ width * 4 → width * 4 ≤ length buffer → length last ≡ n →
     ((x : ℕ) → Bytes (p x)) → last ≡ rowStored Argb8888 p (midOf 0 n buffer) → HoldsColours (putMid 0 n buffer last) width p
-part-spelt p buffer last width n e fits long small h x l =
+holds-part p buffer last width n e fits long small h x l =
     lent-colour buffer last n x (omega arith) long (omega arith)
     ∙ (ap (λ (m : List ℕ). colourIn m x) h ∙ row-colour p (midOf 0 n buffer) x (omega (arith, length-mid 0 n buffer (omega arith))) (small x))
 
@@ -106,7 +106,7 @@ pub part-fetched : (f : Format) (memory buffer last : List ℕ) (start width k n
     last ≡ rowStored Argb8888 (λ x. loadPixel f (midOf start k memory) (x * bytesPerPixel f)) (midOf 0 n buffer) →
     HoldsColours (putMid 0 n buffer last) width (λ x. loadPixel f memory (start + x * bytesPerPixel f))
 part-fetched f memory buffer last start width k n ek en fits long h x l =
-    part-spelt _ buffer last width n en fits long (λ x. loaded-small f (midOf start k memory) (x * bytesPerPixel f)) h x l
+    holds-part _ buffer last width n en fits long (λ x. loaded-small f (midOf start k memory) (x * bytesPerPixel f)) h x l
     ∙ loaded-shift f start k (x * bytesPerPixel f) memory (omega (arith, next x width (bytesPerPixel f) l))
 
 -- a row that was copied from a buffer

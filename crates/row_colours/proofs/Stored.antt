@@ -12,7 +12,7 @@ use Rattle.pixel.specs.declared.format.Format.{Format}
 use Rattle.pixel.specs.declared.format.Format.the-variants.{Argb8888}
 use Rattle.surface.specs.Rows.{rowByte}
 use Rattle.surface.proofs.Mapi.{is-mapi}
-use Rattle.rows.specs.Row.{rowStored}
+use Rattle.row_pixels.specs.Row.{rowStored}
 use Rattle.lanes.specs.Lanes.{Done}
 use Rattle.lanes.proofs.Passes.{more-done}
 use Rattle.row_colours.specs.Line.{pixelByte}

@@ -19,12 +19,12 @@ use Rattle.surface.proofs.Mapi.{is-mapi}
 use Rattle.surface.proofs.Parts.{Side, before, inside, past, side, within-before, within-in, within-past, length-mid, getD-mid, mid-put}
 use Rattle.surface.proofs.Rows.{next}
 use Rattle.surface.proofs.Loaded.{byte-lowest, byte-next, loaded-same, loaded-shift}
-use Rattle.rows.specs.Row.{rowStored}
+use Rattle.row_pixels.specs.Row.{rowStored}
 use Rattle.lanes.specs.Lanes.{Done}
 use Rattle.row_copy.specs.Held.{HoldsPixels}
 use Rattle.byte_rows.specs.Apart.{movedByte}
 
--- ---- the number that bytes spell
+-- ---- the number that bytes hold
 
 abbrev AreBytes : List ℕ → Type 0
 AreBytes xs = (k : ℕ) → k < length xs → getD xs k 0 < 256

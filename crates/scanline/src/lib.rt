@@ -2,8 +2,8 @@
 ghost use mathlib.Core.Path.{_≡_};
 ghost use Prim.Native.Nat.{_*_, _≤_};
 ghost use lib.ListN.{length};
-ghost use Rattle.rows.specs.Row.{colourIn, HoldsColours, rowStored, RowIsWide};
-ghost use Rattle.rows.specs.Mixed.{composite};
+ghost use Rattle.row_pixels.specs.Row.{colourIn, HoldsColours, rowStored, RowIsWide};
+ghost use Rattle.row_pixels.specs.Composite.{composite};
 ghost use Rattle.plan.specs.Plan.{planOf};
 use argb_words::fill_words;
 use argb_words::word_of;

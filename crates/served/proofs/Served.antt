@@ -6,11 +6,11 @@ use Prim.Native.Nat.{ℕ, zero, suc, _<_, _^_}
 use native.Mathlib.Omega.{arith}
 use lib.ListN.{length, getD}
 use lib.Dec.{eqb}
-use Rattle.record.specs.declared.Setup.{Setup as Numbers}
-use Rattle.record.specs.declared.Window.{Window as Place}
-use Rattle.record.specs.declared.EngineRecord.{EngineRecord}
-use Rattle.record.specs.Staged.{noStaged, missingBytes}
-use Rattle.record.specs.Rules.{valid}
+use Rattle.engine_record.specs.declared.Setup.{Setup as Numbers}
+use Rattle.engine_record.specs.declared.Window.{Window as Place}
+use Rattle.engine_record.specs.declared.EngineRecord.{EngineRecord}
+use Rattle.engine_record.specs.Staged.{noStaged, missingBytes}
+use Rattle.engine_record.specs.Rules.{valid}
 use Rattle.queue.specs.declared.Answer.the-variants.{Accepted, Missing}
 use Rattle.queue.specs.declared.Reply.{Reply}
 use Rattle.queue.specs.Answers.{refusalNumberOf, valueOf, answerUnlessRefused}
@@ -25,16 +25,16 @@ use Rattle.engine.proofs.Preservation.{run-number, run-preserves}
 use Rattle.answers.specs.Answers.{lastOf}
 use Rattle.model.specs.Windows.{Window}
 use Rattle.model.specs.Calls.{Setup, Call, opens, submit, run, pending, begin, piece, cancel, close, Answer}
-use Rattle.claims.specs.Engine.{State, mkState, pieceTold, performCall, answersOf, stateAfter, answerOrRefusal, initialState, SetUpAccepted}
+use Rattle.claims.specs.Engine.{State, mkState, modelAnswerOf, performCall, answersOf, stateAfter, answerOrRefusal, initialState, SetUpAccepted}
 use Rattle.claims.proofs.Simulation.{like-model}
 use Rattle.record_bytes.specs.Read.{recordOf}
 use Rattle.record_bytes.specs.Written.{bytesOf}
 use Rattle.record_bytes.specs.RoundTrip.{Typed}
 use Rattle.record_bytes.proofs.RoundTrip.{back}
 use Rattle.record_bytes.proofs.Fitting.{fits}
-use Rattle.calls.specs.Calls.{setUpNumber, SetsUp, Told, Opens, Submits, Done as Silent, Begins, ToldTwo, HandsOver, Cancels, Closes, Reports, Runs}
+use Rattle.calls.specs.Calls.{setUpNumber, SetsUp, ValueWritten, Opens, Submits, NumberWritten, Begins, ProgressWritten, HandsOver, Cancels, Closes, Reports, Runs}
 use Rattle.calls.proofs.Results.{unless-zero}
-use Rattle.served.specs.Served.{Lent, ServesOpen, ServesSubmit, ServesRun, ServesPending, ServesBegin, ofPiece, ServesPiece, ServesCancel, ServesClose, Serves, ServesAll, none, first, Plain, AllPlain, Promise}
+use Rattle.served.specs.Served.{CallBuffers, ServesOpen, ServesSubmit, ServesRun, ServesPending, ServesBegin, ofPiece, ServesPiece, ServesCancel, ServesClose, Serves, ServesAll, nil, cons, CallFits32Bits, CallsFit32Bits, ServedHolds}
 use Rattle.served.proofs.Typed.{sized, fresh-typed, open-typed, submit-typed, begin-typed, piece-typed, cancel-typed, close-typed, run-typed}
 
 -- the bytes are those of a record that keeps its rules
@@ -53,43 +53,43 @@ keeps zero bytes e x h = refl
 keeps (suc n) bytes e x h = h
 
 -- what is lent holds the engine's state
-record Agrees (s : Lent) (x : State) : Type 0 where
+record Agrees (s : CallBuffers) (x : State) : Type 0 where
   holds : Holds (s .bytes) (x .engine)
   rings : s .ring ≡ x .ring
   memories : s .memory ≡ x .memory
 
-record Steps (c : Call) (x : State) (a : Answer) (t : Lent) : Type 0 where
-  says : a ≡ performCall c x .answer
+record Steps (c : Call) (x : State) (a : Answer) (t : CallBuffers) : Type 0 where
+  answer : a ≡ performCall c x .answer
   after : Agrees t (performCall c x .after)
 
 -- a piece's two numbers say what it answers
-two-told : (n : ℕ) (b : Bool) (ticket left : ℕ) →
+ofPiece-answer : (n : ℕ) (b : Bool) (ticket left : ℕ) →
     answerOrRefusal (refusalNumberOf (answerUnlessRefused n (cond b (Accepted ticket) (Missing left))))
     (ofPiece (lastOf (answerUnlessRefused n (cond b (Accepted ticket) (Missing left)))) (valueOf (answerUnlessRefused n (cond b (Accepted ticket) (Missing left)))))
-    ≡ answerOrRefusal (refusalNumberOf (answerUnlessRefused n (cond b (Accepted ticket) (Missing left)))) (pieceTold (answerUnlessRefused n (cond b (Accepted ticket) (Missing left))))
+    ≡ answerOrRefusal (refusalNumberOf (answerUnlessRefused n (cond b (Accepted ticket) (Missing left)))) (modelAnswerOf (answerUnlessRefused n (cond b (Accepted ticket) (Missing left))))
 unfolding answerUnlessRefused answerOrRefusal
-two-told zero true ticket left = refl
-two-told zero false ticket left = refl
-two-told (suc n) b ticket left = refl
+ofPiece-answer zero true ticket left = refl
+ofPiece-answer zero false ticket left = refl
+ofPiece-answer (suc n) b ticket left = refl
 
 -- ---- each call
 
-module _ (s : Lent) (x : State) (g : Agrees s x) where
+module _ (s : CallBuffers) (x : State) (g : Agrees s x) where
   abbrev e : EngineRecord
   e = x .engine
 
   z : recordOf (s .bytes) ≡ e
   z = stands (g .holds)
 
-  open-step : (w : Window) (a : Answer) (t : Lent) → Plain (opens w) → ServesOpen w s a t → Steps (opens w) x a t
+  open-step : (w : Window) (a : Answer) (t : CallBuffers) → CallFits32Bits (opens w) → ServesOpen w s a t → Steps (opens w) x a t
   unfolding performCall Opens openResult
   open-step w a t p q =
       let place : Place = record { start = w .start; length = w .length } in
-      let k : Told (s .bytes) (bytesOf (openResult e place .engine)) (openResult e place .answer) (q .number) (q .value) (t .bytes) =
-      subst (λ (y : EngineRecord). Told (s .bytes) (bytesOf (openResult y place .engine)) (openResult y place .answer) (q .number) (q .value) (t .bytes)) z (q .says)
+      let k : ValueWritten (s .bytes) (bytesOf (openResult e place .engine)) (openResult e place .answer) (q .number) (q .value) (t .bytes) =
+      subst (λ (y : EngineRecord). ValueWritten (s .bytes) (bytesOf (openResult y place .engine)) (openResult y place .answer) (q .number) (q .value) (t .bytes)) z (q .contract)
       in
       record {
-        says = q .answer ∙ rw (k .number-is, k .value-is);
+        answer = q .answer ∙ rw (k .number-is, k .value-is);
         after = record {
           holds = record {
             are =
@@ -104,17 +104,17 @@ module _ (s : Lent) (x : State) (g : Agrees s x) where
         };
       }
 
-  submit-step : (client : ℕ) (batch : List ℕ) (a : Answer) (t : Lent) → client < 2 ^ 32 → ServesSubmit client batch s a t → Steps (submit client batch) x a t
+  submit-step : (client : ℕ) (batch : List ℕ) (a : Answer) (t : CallBuffers) → client < 2 ^ 32 → ServesSubmit client batch s a t → Steps (submit client batch) x a t
   unfolding performCall submitResult
   submit-step client batch a t p q =
       let b : Submits (s .bytes) (x .ring) client batch (q .number) (q .value) (t .bytes) (t .ring) =
-      subst (λ (l : List ℕ). Submits (s .bytes) l client batch (q .number) (q .value) (t .bytes) (t .ring)) (g .rings) (q .says)
+      subst (λ (l : List ℕ). Submits (s .bytes) l client batch (q .number) (q .value) (t .bytes) (t .ring)) (g .rings) (q .contract)
       in
-      let k : Told (s .bytes) (bytesOf (submitResult e (x .ring) client batch .engine)) (submitResult e (x .ring) client batch .answer) (q .number) (q .value) (t .bytes) =
-      subst (λ (y : EngineRecord). Told (s .bytes) (bytesOf (submitResult y (x .ring) client batch .engine)) (submitResult y (x .ring) client batch .answer) (q .number) (q .value) (t .bytes)) z (b .told)
+      let k : ValueWritten (s .bytes) (bytesOf (submitResult e (x .ring) client batch .engine)) (submitResult e (x .ring) client batch .answer) (q .number) (q .value) (t .bytes) =
+      subst (λ (y : EngineRecord). ValueWritten (s .bytes) (bytesOf (submitResult y (x .ring) client batch .engine)) (submitResult y (x .ring) client batch .answer) (q .number) (q .value) (t .bytes)) z (b .answered)
       in
       record {
-        says = q .answer ∙ rw (k .number-is, k .value-is);
+        answer = q .answer ∙ rw (k .number-is, k .value-is);
         after = record {
           holds = record {
             are =
@@ -129,13 +129,13 @@ module _ (s : Lent) (x : State) (g : Agrees s x) where
         };
       }
 
-  run-step : (a : Answer) (t : Lent) → ServesRun s a t → Steps run x a t
+  run-step : (a : Answer) (t : CallBuffers) → ServesRun s a t → Steps run x a t
   unfolding performCall runResult
   run-step a t q =
       let five : List ℕ = q .client ∷ q .ticket ∷ q .status ∷ q .fault ∷ q .place ∷ [] in
       let b : Runs (s .bytes) (x .ring) (x .memory) (q .number) five (t .bytes) (t .memory) =
       subst (λ (m : List ℕ). Runs (s .bytes) (x .ring) m (q .number) five (t .bytes) (t .memory)) (g .memories)
-      (subst (λ (l : List ℕ). Runs (s .bytes) l (s .memory) (q .number) five (t .bytes) (t .memory)) (g .rings) (q .says))
+      (subst (λ (l : List ℕ). Runs (s .bytes) l (s .memory) (q .number) five (t .bytes) (t .memory)) (g .rings) (q .contract))
       in
       let k : Reports (s .bytes) (bytesOf (runResult e (x .ring) (x .memory) .engine)) (runResult e (x .ring) (x .memory) .outcome) (q .number) five (t .bytes) =
       subst (λ (y : EngineRecord). Reports (s .bytes) (bytesOf (runResult y (x .ring) (x .memory) .engine)) (runResult y (x .ring) (x .memory) .outcome) (q .number) five (t .bytes)) z (b .reports)
@@ -146,7 +146,7 @@ module _ (s : Lent) (x : State) (g : Agrees s x) where
       let e3 = ap (λ (l : List ℕ). getD l 3 0) (k .five-are) in
       let e4 = ap (λ (l : List ℕ). getD l 4 0) (k .five-are) in
       record {
-        says = q .answer ∙ rw (k .number-is, e0, e1, e2, e3, e4);
+        answer = q .answer ∙ rw (k .number-is, e0, e1, e2, e3, e4);
         after = record {
           holds = record {
             are =
@@ -161,18 +161,18 @@ module _ (s : Lent) (x : State) (g : Agrees s x) where
         };
       }
 
-  begin-step : (client total : ℕ) (a : Answer) (t : Lent) → client < 2 ^ 32 → ServesBegin client total s a t → Steps (begin client total) x a t
+  begin-step : (client total : ℕ) (a : Answer) (t : CallBuffers) → client < 2 ^ 32 → ServesBegin client total s a t → Steps (begin client total) x a t
   unfolding performCall Begins beginResult
   begin-step client total a t p q =
       let n : ℕ = length (x .ring) in
       let b : Begins (s .bytes) (x .ring) client total (q .number) (t .bytes) =
-      subst (λ (l : List ℕ). Begins (s .bytes) l client total (q .number) (t .bytes)) (g .rings) (q .says)
+      subst (λ (l : List ℕ). Begins (s .bytes) l client total (q .number) (t .bytes)) (g .rings) (q .contract)
       in
-      let k : Silent (s .bytes) (bytesOf (beginResult e n client total .engine)) (beginResult e n client total .answer) (q .number) (t .bytes) =
-      subst (λ (y : EngineRecord). Silent (s .bytes) (bytesOf (beginResult y n client total .engine)) (beginResult y n client total .answer) (q .number) (t .bytes)) z b
+      let k : NumberWritten (s .bytes) (bytesOf (beginResult e n client total .engine)) (beginResult e n client total .answer) (q .number) (t .bytes) =
+      subst (λ (y : EngineRecord). NumberWritten (s .bytes) (bytesOf (beginResult y n client total .engine)) (beginResult y n client total .answer) (q .number) (t .bytes)) z b
       in
       record {
-        says = q .answer ∙ rw (k .number-is);
+        answer = q .answer ∙ rw (k .number-is);
         after = record {
           holds = record {
             are =
@@ -187,22 +187,22 @@ module _ (s : Lent) (x : State) (g : Agrees s x) where
         };
       }
 
-  piece-step : (client : ℕ) (bytes : List ℕ) (a : Answer) (t : Lent) → ServesPiece client bytes s a t → Steps (piece client bytes) x a t
+  piece-step : (client : ℕ) (bytes : List ℕ) (a : Answer) (t : CallBuffers) → ServesPiece client bytes s a t → Steps (piece client bytes) x a t
   unfolding performCall pieceResult
   piece-step client bytes a t q =
       let two : List ℕ = q .last ∷ q .value ∷ [] in
       let b : HandsOver (s .bytes) (x .ring) client bytes (q .number) two (t .bytes) (t .ring) =
-      subst (λ (l : List ℕ). HandsOver (s .bytes) l client bytes (q .number) two (t .bytes) (t .ring)) (g .rings) (q .says)
+      subst (λ (l : List ℕ). HandsOver (s .bytes) l client bytes (q .number) two (t .bytes) (t .ring)) (g .rings) (q .contract)
       in
-      let k : ToldTwo (s .bytes) (bytesOf (pieceResult e (x .ring) client bytes .engine)) (pieceResult e (x .ring) client bytes .answer) (q .number) two (t .bytes) =
-      subst (λ (y : EngineRecord). ToldTwo (s .bytes) (bytesOf (pieceResult y (x .ring) client bytes .engine)) (pieceResult y (x .ring) client bytes .answer) (q .number) two (t .bytes)) z (b .told)
+      let k : ProgressWritten (s .bytes) (bytesOf (pieceResult e (x .ring) client bytes .engine)) (pieceResult e (x .ring) client bytes .answer) (q .number) two (t .bytes) =
+      subst (λ (y : EngineRecord). ProgressWritten (s .bytes) (bytesOf (pieceResult y (x .ring) client bytes .engine)) (pieceResult y (x .ring) client bytes .answer) (q .number) two (t .bytes)) z (b .answered)
       in
       let e0 = ap (λ (l : List ℕ). getD l 0 0) (k .two-are) in
       let e1 = ap (λ (l : List ℕ). getD l 1 0) (k .two-are) in
       record {
-        says =
+        answer =
             q .answer ∙ rw (k .number-is, e0, e1)
-            (two-told (pieceNumber e (x .ring) client bytes) (isLast (e .staged) (length bytes)) (e .next) (missingBytes (more (e .staged) (length bytes))));
+            (ofPiece-answer (pieceNumber e (x .ring) client bytes) (isLast (e .staged) (length bytes)) (e .«next_ticket») (missingBytes (more (e .staged) (length bytes))));
         after = record {
           holds = record {
             are =
@@ -217,14 +217,14 @@ module _ (s : Lent) (x : State) (g : Agrees s x) where
         };
       }
 
-  cancel-step : (client : ℕ) (a : Answer) (t : Lent) → ServesCancel client s a t → Steps (cancel client) x a t
+  cancel-step : (client : ℕ) (a : Answer) (t : CallBuffers) → ServesCancel client s a t → Steps (cancel client) x a t
   unfolding performCall Cancels cancelResult
   cancel-step client a t q =
-      let k : Silent (s .bytes) (bytesOf (cancelResult e client .engine)) (cancelResult e client .answer) (q .number) (t .bytes) =
-      subst (λ (y : EngineRecord). Silent (s .bytes) (bytesOf (cancelResult y client .engine)) (cancelResult y client .answer) (q .number) (t .bytes)) z (q .says)
+      let k : NumberWritten (s .bytes) (bytesOf (cancelResult e client .engine)) (cancelResult e client .answer) (q .number) (t .bytes) =
+      subst (λ (y : EngineRecord). NumberWritten (s .bytes) (bytesOf (cancelResult y client .engine)) (cancelResult y client .answer) (q .number) (t .bytes)) z (q .contract)
       in
       record {
-        says = q .answer ∙ rw (k .number-is);
+        answer = q .answer ∙ rw (k .number-is);
         after = record {
           holds = record {
             are =
@@ -239,18 +239,18 @@ module _ (s : Lent) (x : State) (g : Agrees s x) where
         };
       }
 
-  close-step : (client : ℕ) (a : Answer) (t : Lent) → ServesClose client s a t → Steps (close client) x a t
+  close-step : (client : ℕ) (a : Answer) (t : CallBuffers) → ServesClose client s a t → Steps (close client) x a t
   unfolding performCall closeResult
   close-step client a t q =
       let n : ℕ = length (x .memory) in
       let b : Closes (s .bytes) (x .memory) client (q .number) (t .bytes) (t .memory) =
-      subst (λ (m : List ℕ). Closes (s .bytes) m client (q .number) (t .bytes) (t .memory)) (g .memories) (q .says)
+      subst (λ (m : List ℕ). Closes (s .bytes) m client (q .number) (t .bytes) (t .memory)) (g .memories) (q .contract)
       in
-      let k : Silent (s .bytes) (bytesOf (closeResult e n client .engine)) (closeResult e n client .answer) (q .number) (t .bytes) =
-      subst (λ (y : EngineRecord). Silent (s .bytes) (bytesOf (closeResult y n client .engine)) (closeResult y n client .answer) (q .number) (t .bytes)) z (b .told)
+      let k : NumberWritten (s .bytes) (bytesOf (closeResult e n client .engine)) (closeResult e n client .answer) (q .number) (t .bytes) =
+      subst (λ (y : EngineRecord). NumberWritten (s .bytes) (bytesOf (closeResult y n client .engine)) (closeResult y n client .answer) (q .number) (t .bytes)) z (b .answered)
       in
       record {
-        says = q .answer ∙ rw (k .number-is);
+        answer = q .answer ∙ rw (k .number-is);
         after = record {
           holds = record {
             are =
@@ -265,14 +265,14 @@ module _ (s : Lent) (x : State) (g : Agrees s x) where
         };
       }
 
-  pending-step : (client : ℕ) (a : Answer) (t : Lent) → ServesPending client s a t → Steps (pending client) x a t
+  pending-step : (client : ℕ) (a : Answer) (t : CallBuffers) → ServesPending client s a t → Steps (pending client) x a t
   unfolding performCall
   pending-step client a t q = record {
-    says = q .answer ∙ rw (q .says .number-is, q .says .value-is, z);
-    after = subst (λ (l : Lent). Agrees l x) (sym (q .same)) g;
+    answer = q .answer ∙ rw (q .contract .number-is, q .contract .value-is, z);
+    after = subst (λ (l : CallBuffers). Agrees l x) (sym (q .same)) g;
   }
 
-  step : (c : Call) (a : Answer) (t : Lent) → Plain c → Serves c s a t → Steps c x a t
+  step : (c : Call) (a : Answer) (t : CallBuffers) → CallFits32Bits c → Serves c s a t → Steps c x a t
   step (opens w) a t p q = open-step w a t p q
   step (submit client batch) a t p q = submit-step client batch a t p q
   step run a t p q = run-step a t q
@@ -284,17 +284,17 @@ module _ (s : Lent) (x : State) (g : Agrees s x) where
 
 -- ---- a list of calls
 
-record Ends (cs : List Call) (x : State) (said : List Answer) (last : Lent) : Type 0 where
+record Ends (cs : List Call) (x : State) (said : List Answer) (last : CallBuffers) : Type 0 where
   all : said ≡ answersOf cs x
   end : Agrees last (stateAfter cs x)
 
-list : (cs : List Call) (s : Lent) (x : State) (said : List Answer) (last : Lent) → AllPlain cs → Agrees s x → ServesAll cs s said last → Ends cs x said last
+list : (cs : List Call) (s : CallBuffers) (x : State) (said : List Answer) (last : CallBuffers) → CallsFit32Bits cs → Agrees s x → ServesAll cs s said last → Ends cs x said last
 unfolding answersOf stateAfter
-list [] s x said last p g none = record { all = refl; end = g }
-list (c ∷ cs) s x said last p g (first {t = t} {a = a} {said = rest} q qs) =
+list [] s x said last p g nil = record { all = refl; end = g }
+list (c ∷ cs) s x said last p g (cons {t = t} {a = a} {said = rest} q qs) =
     let one = step s x g c a t (p .0) q in
     let more = list cs t (performCall c x .after) rest last (p .1) (one .after) qs in
-    record { all = rw (one .says, more .all); end = more .end }
+    record { all = rw (one .answer, more .all); end = more .end }
 
 -- ---- from an accepted set up
 
@@ -330,7 +330,7 @@ module _ (setup : Setup) (before bytes ring memory : List ℕ) (u : SetsUp befor
     memories = refl;
   }
 
-pub promise : Promise
+pub promise : ServedHolds
 promise setup before bytes ring memory calls said last u p q =
     let e = list calls (record { bytes = bytes; ring = ring; memory = memory }) (initialState setup ring memory) said last p (begins setup before bytes ring memory u) q in
     let m = like-model setup ring (taken setup before bytes ring memory u) calls memory in

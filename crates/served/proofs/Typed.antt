@@ -5,20 +5,20 @@ use mathlib.Core.List.{List, [], _∷_}
 use Prim.Native.Nat.{ℕ, zero, suc, _+_, _-_, _%_, _≤_, _<_, _^_}
 use native.Mathlib.Omega.{arith}
 use lib.ListN.{length, getD, set}
-use Rattle.record.specs.declared.Setup.{Setup}
-use Rattle.record.specs.declared.Window.{Window}
-use Rattle.record.specs.declared.Client.{Client}
-use Rattle.record.specs.declared.Batch.{Batch}
-use Rattle.record.specs.declared.Slot.{Slot}
-use Rattle.record.specs.declared.SlotState.{SlotState}
-use Rattle.record.specs.declared.SlotState.the-variants.{Free, Ready}
-use Rattle.record.specs.declared.Staged.{Staged}
-use Rattle.record.specs.declared.EngineRecord.{EngineRecord}
-use Rattle.record.specs.Slots.{free, lowestFree}
-use Rattle.record.specs.Clients.{isOpen, noClient, lowestClosed}
-use Rattle.record.specs.Staged.{noStaged}
-use Rattle.record.specs.Queue.{readySlots}
-use Rattle.record.specs.Rules.{valid}
+use Rattle.engine_record.specs.declared.Setup.{Setup}
+use Rattle.engine_record.specs.declared.Window.{Window}
+use Rattle.engine_record.specs.declared.Client.{Client}
+use Rattle.engine_record.specs.declared.Batch.{Batch}
+use Rattle.engine_record.specs.declared.Slot.{Slot}
+use Rattle.engine_record.specs.declared.SlotState.{SlotState}
+use Rattle.engine_record.specs.declared.SlotState.the-variants.{Free, Ready}
+use Rattle.engine_record.specs.declared.Staged.{Staged}
+use Rattle.engine_record.specs.declared.EngineRecord.{EngineRecord}
+use Rattle.engine_record.specs.Slots.{free, lowestFree}
+use Rattle.engine_record.specs.Clients.{isOpen, noClient, lowestClosed}
+use Rattle.engine_record.specs.Staged.{noStaged}
+use Rattle.engine_record.specs.Queue.{readySlots}
+use Rattle.engine_record.specs.Rules.{valid}
 use Rattle.queue.specs.Refusals.{firstRefusal, openTable, submitTable, cancelTable, closeTable}
 use Rattle.queue.specs.Calls.{initialRecord, withClient, openResult, newBatch, withBatch, submitted, submitNumber, submitResult, withStaged, begun, beginResult, more, isLast, pieceNumber, afterPiece, pieceResult, cancelResult, withoutClient, closeResult}
 use Rattle.queue.proofs.Refusals.{submit-allowed, piece-allowed}
@@ -32,10 +32,10 @@ use Rattle.record_bytes.specs.RoundTrip.{AllClients, AllSlots, ClientTyped, Sta
 use Rattle.record_bytes.proofs.Words.{client-at}
 
 pub sized : {e : EngineRecord} → Typed e → Sized e
-sized t = record { clients = t .four; slots = t .eight; next = t .next }
+sized t = record { clients = t .four; slots = t .eight; next-ticket = t .next-ticket }
 
 typed : (e : EngineRecord) → Sized e → AllClients ClientTyped (e .clients) → AllSlots StateTyped (e .slots) → e .staged .client < 2 ^ 32 → Typed e
-typed e s cs ss g = record { four = s .clients; eight = s .slots; clients = cs; slots = ss; next = s .next; staged = g }
+typed e s cs ss g = record { four = s .clients; eight = s .slots; clients = cs; slots = ss; next-ticket = s .next-ticket; staged = g }
 
 clients-set : (P : Client → Type 0) (cs : List Client) (i : ℕ) (c : Client) → AllClients P cs → P c → AllClients P (set cs i c)
 clients-set P [] i c h p = tt
@@ -75,7 +75,7 @@ module _ (e : EngineRecord) (t : Typed e) where
       let eight = few-taken e (sized t) in
       typed (withBatch e at (newBatch e client size)) (added-sized e at (newBatch e client size) (sized t))
       (clients-set ClientTyped (e .clients) client _ (t .clients) (counted e t client (getD (e .clients) client noClient .pending + 1) (omega arith)))
-      (slots-set StateTyped (e .slots) at _ (t .slots) (h, t .next))
+      (slots-set StateTyped (e .slots) at _ (t .slots) (h, t .next-ticket))
       (omega arith)
 
   -- another staged submission, or none

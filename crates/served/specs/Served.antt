@@ -13,49 +13,49 @@ use Rattle.claims.specs.Engine.{answerOrRefusal, stateAfter, initialState}
 use Rattle.calls.specs.Calls.{SetsUp, Opens, Submits, Begins, HandsOver, Cancels, Closes, Pends, Runs}
 
 -- what the caller lends
-pub record Lent : Type 0 where
+pub record CallBuffers : Type 0 where
   pub bytes : List ℕ
   pub ring : List ℕ
   pub memory : List ℕ
 
 -- ---- one call: what is lent before it, its answer, and what is lent after it
 
-pub record ServesOpen (w : Window) (s : Lent) (a : Answer) (t : Lent) : Type 0 where
+pub record ServesOpen (w : Window) (s : CallBuffers) (a : Answer) (t : CallBuffers) : Type 0 where
   pub number : ℕ
   pub value : ℕ
-  pub says : Opens (s .bytes) (record { start = w .start; length = w .length }) number value (t .bytes)
+  pub contract : Opens (s .bytes) (record { start = w .start; length = w .length }) number value (t .bytes)
   pub answer : a ≡ answerOrRefusal number (opened value)
   pub ring : t .ring ≡ s .ring
   pub memory : t .memory ≡ s .memory
 
-pub record ServesSubmit (client : ℕ) (batch : List ℕ) (s : Lent) (a : Answer) (t : Lent) : Type 0 where
+pub record ServesSubmit (client : ℕ) (batch : List ℕ) (s : CallBuffers) (a : Answer) (t : CallBuffers) : Type 0 where
   pub number : ℕ
   pub value : ℕ
-  pub says : Submits (s .bytes) (s .ring) client batch number value (t .bytes) (t .ring)
+  pub contract : Submits (s .bytes) (s .ring) client batch number value (t .bytes) (t .ring)
   pub answer : a ≡ answerOrRefusal number (accepted value)
   pub memory : t .memory ≡ s .memory
 
-pub record ServesRun (s : Lent) (a : Answer) (t : Lent) : Type 0 where
+pub record ServesRun (s : CallBuffers) (a : Answer) (t : CallBuffers) : Type 0 where
   pub number : ℕ
   pub client : ℕ
   pub ticket : ℕ
   pub status : ℕ
   pub fault : ℕ
   pub place : ℕ
-  pub says : Runs (s .bytes) (s .ring) (s .memory) number (client ∷ ticket ∷ status ∷ fault ∷ place ∷ []) (t .bytes) (t .memory)
+  pub contract : Runs (s .bytes) (s .ring) (s .memory) number (client ∷ ticket ∷ status ∷ fault ∷ place ∷ []) (t .bytes) (t .memory)
   pub answer : a ≡ answerOrRefusal number (completed client ticket (record { status = status; fault = fault; offset = place }))
   pub ring : t .ring ≡ s .ring
 
-pub record ServesPending (client : ℕ) (s : Lent) (a : Answer) (t : Lent) : Type 0 where
+pub record ServesPending (client : ℕ) (s : CallBuffers) (a : Answer) (t : CallBuffers) : Type 0 where
   pub number : ℕ
   pub value : ℕ
-  pub says : Pends (s .bytes) client number value
+  pub contract : Pends (s .bytes) client number value
   pub answer : a ≡ answerOrRefusal number (ready value)
   pub same : t ≡ s
 
-pub record ServesBegin (client total : ℕ) (s : Lent) (a : Answer) (t : Lent) : Type 0 where
+pub record ServesBegin (client total : ℕ) (s : CallBuffers) (a : Answer) (t : CallBuffers) : Type 0 where
   pub number : ℕ
-  pub says : Begins (s .bytes) (s .ring) client total number (t .bytes)
+  pub contract : Begins (s .bytes) (s .ring) client total number (t .bytes)
   pub answer : a ≡ answerOrRefusal number done
   pub ring : t .ring ≡ s .ring
   pub memory : t .memory ≡ s .memory
@@ -65,28 +65,28 @@ abbrev pub ofPiece : (last value : ℕ) → Answer
 ofPiece zero value = missing value
 ofPiece (suc n) value = accepted value
 
-pub record ServesPiece (client : ℕ) (bytes : List ℕ) (s : Lent) (a : Answer) (t : Lent) : Type 0 where
+pub record ServesPiece (client : ℕ) (bytes : List ℕ) (s : CallBuffers) (a : Answer) (t : CallBuffers) : Type 0 where
   pub number : ℕ
   pub last : ℕ
   pub value : ℕ
-  pub says : HandsOver (s .bytes) (s .ring) client bytes number (last ∷ value ∷ []) (t .bytes) (t .ring)
+  pub contract : HandsOver (s .bytes) (s .ring) client bytes number (last ∷ value ∷ []) (t .bytes) (t .ring)
   pub answer : a ≡ answerOrRefusal number (ofPiece last value)
   pub memory : t .memory ≡ s .memory
 
-pub record ServesCancel (client : ℕ) (s : Lent) (a : Answer) (t : Lent) : Type 0 where
+pub record ServesCancel (client : ℕ) (s : CallBuffers) (a : Answer) (t : CallBuffers) : Type 0 where
   pub number : ℕ
-  pub says : Cancels (s .bytes) client number (t .bytes)
+  pub contract : Cancels (s .bytes) client number (t .bytes)
   pub answer : a ≡ answerOrRefusal number done
   pub ring : t .ring ≡ s .ring
   pub memory : t .memory ≡ s .memory
 
-pub record ServesClose (client : ℕ) (s : Lent) (a : Answer) (t : Lent) : Type 0 where
+pub record ServesClose (client : ℕ) (s : CallBuffers) (a : Answer) (t : CallBuffers) : Type 0 where
   pub number : ℕ
-  pub says : Closes (s .bytes) (s .memory) client number (t .bytes) (t .memory)
+  pub contract : Closes (s .bytes) (s .memory) client number (t .bytes) (t .memory)
   pub answer : a ≡ answerOrRefusal number done
   pub ring : t .ring ≡ s .ring
 
-abbrev pub Serves : Call → Lent → Answer → Lent → Type 0
+abbrev pub Serves : Call → CallBuffers → Answer → CallBuffers → Type 0
 Serves (opens w) = ServesOpen w
 Serves (submit client batch) = ServesSubmit client batch
 Serves run = ServesRun
@@ -98,35 +98,35 @@ Serves (close client) = ServesClose client
 
 -- ---- a list of calls
 
-pub data ServesAll : List Call → Lent → List Answer → Lent → Type 0 where
-  none : {s : Lent} → ServesAll [] s [] s
-  first : {c : Call} {cs : List Call} {s t u : Lent} {a : Answer} {said : List Answer} → Serves c s a t → ServesAll cs t said u → ServesAll (c ∷ cs) s (a ∷ said) u
+pub data ServesAll : List Call → CallBuffers → List Answer → CallBuffers → Type 0 where
+  nil : {s : CallBuffers} → ServesAll [] s [] s
+  cons : {c : Call} {cs : List Call} {s t u : CallBuffers} {a : Answer} {said : List Answer} → Serves c s a t → ServesAll cs t said u → ServesAll (c ∷ cs) s (a ∷ said) u
 
 -- arguments are 32-bit numbers, as those that the code is handed are
-abbrev pub Plain : Call → Type 0
-Plain (opens w) = (w .start < 2 ^ 32) × (w .length < 2 ^ 32)
-Plain (submit client batch) = client < 2 ^ 32
-Plain run = Unit {0}
-Plain (pending client) = Unit {0}
-Plain (begin client total) = client < 2 ^ 32
-Plain (piece client bytes) = Unit {0}
-Plain (cancel client) = Unit {0}
-Plain (close client) = Unit {0}
+abbrev pub CallFits32Bits : Call → Type 0
+CallFits32Bits (opens w) = (w .start < 2 ^ 32) × (w .length < 2 ^ 32)
+CallFits32Bits (submit client batch) = client < 2 ^ 32
+CallFits32Bits run = Unit {0}
+CallFits32Bits (pending client) = Unit {0}
+CallFits32Bits (begin client total) = client < 2 ^ 32
+CallFits32Bits (piece client bytes) = Unit {0}
+CallFits32Bits (cancel client) = Unit {0}
+CallFits32Bits (close client) = Unit {0}
 
-abbrev pub AllPlain : List Call → Type 0
-AllPlain [] = Unit {0}
-AllPlain (c ∷ cs) = Plain c × AllPlain cs
+abbrev pub CallsFit32Bits : List Call → Type 0
+CallsFit32Bits [] = Unit {0}
+CallsFit32Bits (c ∷ cs) = CallFits32Bits c × CallsFit32Bits cs
 
 -- ---- the promise: every answer and every byte of memory is the reference model's, every byte of the ring the engine's
 
-pub record Served (setup : Setup) (ring memory : List ℕ) (calls : List Call) (said : List Answer) (last : Lent) : Type 0 where
+pub record Served (setup : Setup) (ring memory : List ℕ) (calls : List Call) (said : List Answer) (last : CallBuffers) : Type 0 where
   pub every-answer : said ≡ answers (batchSemantics setup) setup (length ring) calls (initialModel memory)
   pub every-byte : last .memory ≡ modelAfterAll (batchSemantics setup) setup (length ring) calls memory .memory
   pub ring-end : last .ring ≡ stateAfter calls (initialState setup ring memory) .ring
 
-abbrev pub Promise : Type 0
-Promise = (setup : Setup) (before bytes ring memory : List ℕ) (calls : List Call) (said : List Answer) (last : Lent) →
+abbrev pub ServedHolds : Type 0
+ServedHolds = (setup : Setup) (before bytes ring memory : List ℕ) (calls : List Call) (said : List Answer) (last : CallBuffers) →
     SetsUp before (setup .ring) (setup .memory) (setup .common) (setup .reset) 0 bytes →
-    AllPlain calls →
+    CallsFit32Bits calls →
     ServesAll calls (record { bytes = bytes; ring = ring; memory = memory }) said last →
     Served setup ring memory calls said last

@@ -3,7 +3,7 @@ use mathlib.Core.Path.{_≡_, refl, sym, ap, _∙_}
 use mathlib.Core.List.{List}
 use Prim.Native.Nat.{ℕ, zero, suc, _<_, _-_, _≤_}
 use native.Mathlib.Omega.{arith}
-use Rattle.record.specs.declared.EngineRecord.{EngineRecord}
+use Rattle.engine_record.specs.declared.EngineRecord.{EngineRecord}
 use Rattle.queue.specs.declared.Reply.{Reply}
 use Rattle.queue.specs.Answers.{refusalNumberOf}
 use Rattle.queue.specs.Calls.{submitResult, submitRing}
@@ -25,7 +25,7 @@ use Rattle.records.specs.Reading.{batchStart, entryIn}
 use Rattle.editions.specs.Editions.{scoreHolds, scoreIn}
 use Rattle.editions.proofs.Records.{score-in, submission-in}
 use Rattle.record_lines.specs.Prints.{Prints}
-use Rattle.serving.specs.Serves.{Serves}
+use Rattle.serving.specs.SubmitRunContract.{SubmitRunContract}
 
 -- ---- what run answers
 
@@ -65,7 +65,7 @@ module _ (engine : EngineRecord) (ring memory : List ℕ) (entry : Entry) where
 module _ (engine : EngineRecord) (ring memory : List ℕ) (entry : Entry) (line : List ℕ) (s : SubmitRunResult) (r : Reply) (ring′ memory′ line′ : List ℕ)
     (submitted : r ≡ submitResult engine ring (entry .client) (entry .batch)) (rung-is : ring′ ≡ submitRing engine ring (entry .client) (entry .batch)) where
   pub serves-refused : (number : ℕ) → number ≡ refusalNumberOf (r .answer) → (number ≡ 0 → ⊥) → s .engine ≡ r .engine → memory′ ≡ memory
-      → Prints (refusalLine (entry .client) number) line (s .written) line′ → Serves (entryLine entry (mkState engine ring memory)) (submitAndRun entry (mkState engine ring memory) .after) line s ring′ memory′ line′
+      → Prints (refusalLine (entry .client) number) line (s .written) line′ → SubmitRunContract (entryLine entry (mkState engine ring memory)) (submitAndRun entry (mkState engine ring memory) .after) line s ring′ memory′ line′
   unfolding answerLine
   serves-refused zero e some same kept prints = absurd (some refl)
   serves-refused (suc k) e some same kept prints =
@@ -79,7 +79,7 @@ module _ (engine : EngineRecord) (ring memory : List ℕ) (entry : Entry) (line 
 
   pub serves-ran : (ran : RunResult) → refusalNumberOf (r .answer) ≡ 0 → ran ≡ runResult (r .engine) ring′ memory → memory′ ≡ runMemory (r .engine) ring′ memory → s .engine ≡ ran .engine
       → Prints (answerLine (entry .client) (answerOrRefusal (refusalOf (ran .outcome)) (completion (valuesOf (ran .outcome))))) line (s .written) line′
-      → Serves (entryLine entry (mkState engine ring memory)) (submitAndRun entry (mkState engine ring memory) .after) line s ring′ memory′ line′
+      → SubmitRunContract (entryLine entry (mkState engine ring memory)) (submitAndRun entry (mkState engine ring memory) .after) line s ring′ memory′ line′
   unfolding performCall
   serves-ran ran e ran-is drawn same prints =
       let all = served-ran engine ring memory entry (ap (λ (q : Reply). refusalNumberOf (q .answer)) (sym submitted) ∙ e) in
@@ -102,7 +102,7 @@ module _ (edition : Edition) (engine : EngineRecord) (ring memory held line : Li
   begun = mkState engine ring memory
 
   abbrev Record-serves : SubmitRunResult → (ring′ memory′ line′ : List ℕ) → Type 0
-  Record-serves s ring′ memory′ line′ = Serves (recordLine edition (entryIn held end) begun) (recordAfter edition (entryIn held end) begun) line s ring′ memory′ line′
+  Record-serves s ring′ memory′ line′ = SubmitRunContract (recordLine edition (entryIn held end) begun) (recordAfter edition (entryIn held end) begun) line s ring′ memory′ line′
 
   holds : (b good : Bool) → good ≡ scoreIn edition held end → good ≡ b → scoreHolds edition (entryIn held end) ≡ b
   holds b good is e = sym (score-in edition held end lies) ∙ sym is ∙ e
@@ -115,5 +115,5 @@ module _ (edition : Edition) (engine : EngineRecord) (ring memory held line : Li
   -- it is submitted
   pub record-good : (good : Bool) (start : ℕ) (s : SubmitRunResult) (ring′ memory′ line′ : List ℕ) → good ≡ scoreIn edition held end → good ≡ true → start ≡ batchStart edition
       → let entry : Entry = record { client = getD held 4 0; batch = take (end - start) (drop start held) } in
-      Serves (entryLine entry begun) (submitAndRun entry begun .after) line s ring′ memory′ line′ → Record-serves s ring′ memory′ line′
+      SubmitRunContract (entryLine entry begun) (submitAndRun entry begun .after) line s ring′ memory′ line′ → Record-serves s ring′ memory′ line′
   record-good good start s ring′ memory′ line′ is e at serves = rw (holds true good is e, submission-in edition held end lies, ← at) serves

@@ -1,2 +1,2 @@
 -- What the call that serves a record leaves.
-pub mod Serves
+pub mod SubmitRunContract

@@ -7,9 +7,9 @@ ghost use Rattle.claims.specs.Engine.{mkState};
 ghost use Rattle.records.specs.declared.Found.the-variants.{Record as OneRecord};
 ghost use Rattle.records.specs.Reading.{entryIn, Lies};
 ghost use Rattle.lines.specs.Lines.{entryLine, submitAndRun, recordLine, recordAfter};
-ghost use Rattle.serving.specs.Serves.{Serves};
+ghost use Rattle.serving.specs.SubmitRunContract.{SubmitRunContract};
+use engine_record::EngineRecord;
 use queue::Answer;
-use record::EngineRecord;
 use records::Edition;
 use text::line;
 
@@ -44,7 +44,7 @@ fn submit_and_run(
     slow: bool,
 ) -> SubmitRunResult
     requires { ⌜ 128 ≤ length (now line) ⌝ }
-    ensures { λ r. ⌜ Serves (entryLine (record { client = client; batch = now (batch .entry) }) (mkState engine (now (ring .entry)) (now (memory .entry))))
+    ensures { λ r. ⌜ SubmitRunContract (entryLine (record { client = client; batch = now (batch .entry) }) (mkState engine (now (ring .entry)) (now (memory .entry))))
         (submitAndRun (record { client = client; batch = now (batch .entry) }) (mkState engine (now (ring .entry)) (now (memory .entry))) .after)
         (now (line .entry)) r (now (ring .exit)) (now (memory .exit)) (now (line .exit)) ⌝ }
 {
@@ -79,7 +79,7 @@ pub fn serve_record(
     slow: bool,
 ) -> SubmitRunResult
     requires { ⌜ Lies edition (OneRecord end) (length (now held)) × (128 ≤ length (now line)) ⌝ }
-    ensures { λ r. ⌜ Serves (recordLine edition (entryIn (now (held .entry)) end) (mkState engine (now (ring .entry)) (now (memory .entry))))
+    ensures { λ r. ⌜ SubmitRunContract (recordLine edition (entryIn (now (held .entry)) end) (mkState engine (now (ring .entry)) (now (memory .entry))))
         (recordAfter edition (entryIn (now (held .entry)) end) (mkState engine (now (ring .entry)) (now (memory .entry))))
         (now (line .entry)) r (now (ring .exit)) (now (memory .exit)) (now (line .exit)) ⌝ }
 {

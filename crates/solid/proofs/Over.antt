@@ -18,8 +18,8 @@ use Rattle.pixel.specs.declared.format.Format.the-variants.{Argb8888}
 use Rattle.pixel.proofs.Stored.{Bytes}
 use Rattle.register.specs.declared.task.Alpha.{Alpha}
 use Rattle.register.specs.declared.task.Blending.{Blending}
-use Rattle.rows.specs.Row.{colourIn, rowStored}
-use Rattle.rows.specs.Mixed.{sourceForBlending, withSurfaceAlpha, composite}
+use Rattle.row_pixels.specs.Row.{colourIn, rowStored}
+use Rattle.row_pixels.specs.Composite.{sourceForBlending, withSurfaceAlpha, composite}
 use Rattle.lanes.specs.Lanes.{two, Done}
 use Rattle.lanes.proofs.Passes.{Ahead, more-done}
 use Rattle.plan.specs.Blend.{duo}

@@ -8,7 +8,7 @@ ghost use Rattle.pixel.specs.declared.blend.BlendMode.the-variants.{SrcOver};
 ghost use Rattle.pixel.specs.declared.format.Format.the-variants.{Argb8888};
 ghost use Rattle.lanes.specs.Lanes.{Done};
 ghost use Rattle.plan.specs.Blend.{duo};
-ghost use Rattle.rows.specs.Row.{colourIn, rowStored, RowIsWide};
+ghost use Rattle.row_pixels.specs.Row.{colourIn, rowStored, RowIsWide};
 ghost use Rattle.solid_colour.specs.Solid.{halfOf, Prepared};
 ghost use Rattle.solid.specs.Over.{overAt};
 use channels::over_two;

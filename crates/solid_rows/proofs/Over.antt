@@ -18,8 +18,8 @@ use Rattle.surface.proofs.Loaded.{loaded-shift}
 use Rattle.register.specs.declared.task.Source.{Source}
 use Rattle.register.specs.declared.task.SourceMode.the-variants.{Colour}
 use Rattle.register.specs.declared.task.Task.{Task}
-use Rattle.rows.specs.Row.{colourIn, rowStored}
-use Rattle.rows.specs.Mixed.{composite}
+use Rattle.row_pixels.specs.Row.{colourIn, rowStored}
+use Rattle.row_pixels.specs.Composite.{composite}
 use Rattle.solid.proofs.Over.{composite-over}
 use Rattle.raster.specs.Task.{sourceColour, destinationColour, pixelColour}
 use Rattle.raster.specs.Row.{rowDrawn}

@@ -8,7 +8,7 @@ use Rattle.pixel.specs.declared.format.Format.the-variants.{Argb8888}
 use Rattle.surface.specs.Surface.{rowLength}
 use Rattle.surface.specs.declared.Surface.{Surface}
 use Rattle.register.specs.declared.task.Task.{Task}
-use Rattle.rows.specs.Mixed.{sourceForBlending, withSurfaceAlpha}
+use Rattle.row_pixels.specs.Composite.{sourceForBlending, withSurfaceAlpha}
 
 -- the colour that is laid over it: the source's as it goes into blending, with its alpha by the source's mode
 abbrev pub solidColour : Task → Channels

@@ -16,7 +16,7 @@ use kinds::Kind;
 use pixel::Format;
 use range::Range;
 use register::Task;
-use rows::blending_colour;
+use row_pixels::blending_colour;
 use solid::solid_row;
 use solid_colour::Solid;
 use solid_colour::solid_of;

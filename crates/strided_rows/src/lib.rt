@@ -4,13 +4,13 @@ ghost use Prim.Native.Nat.{_+_, _≤_};
 ghost use lib.ListN.{length};
 ghost use Rattle.pixel.specs.Formats.{bytesPerPixel};
 ghost use Rattle.surface.specs.Drawn.{loadPixel};
-ghost use Rattle.rows.specs.Row.{wordColour, HoldsColours};
-ghost use Rattle.rows.specs.Step.{stridedAddress, StridedFetchInBounds};
+ghost use Rattle.row_pixels.specs.Row.{wordColour, HoldsColours};
+ghost use Rattle.row_pixels.specs.Strided.{stridedAddress, StridedFetchInBounds};
 use argb_words::load_word;
 use argb_words::store_word;
 use argb_words::word_of;
 use pixel::Format;
-use rows::strided_address;
+use row_pixels::strided_address;
 use surface::load;
 
 // The word of the pixel at an address.
@@ -26,7 +26,7 @@ fn load_as_word(memory: &[u8], at: usize, format: Format) -> u32
 }
 
 // Fetches pixels that lie one step apart, the first of them at an address.
-fn fetch_each(
+fn fetch_strided_pixels(
     buffer: &mut [u8],
     width: usize,
     memory: &[u8],
@@ -50,7 +50,7 @@ fn fetch_each(
 }
 
 // The same, with a loop for each format.
-pub fn fetch_steps(
+pub fn fetch_strided(
     buffer: &mut [u8],
     width: usize,
     memory: &[u8],
@@ -64,15 +64,15 @@ pub fn fetch_steps(
 {
     match format {
         Format::Argb8888 => {
-            fetch_each(buffer, width, memory, start, step, back, Format::Argb8888);
+            fetch_strided_pixels(buffer, width, memory, start, step, back, Format::Argb8888);
             return;
         }
         Format::Rgb888 => {
-            fetch_each(buffer, width, memory, start, step, back, Format::Rgb888);
+            fetch_strided_pixels(buffer, width, memory, start, step, back, Format::Rgb888);
             return;
         }
         Format::Rgb565 => {
-            fetch_each(buffer, width, memory, start, step, back, Format::Rgb565);
+            fetch_strided_pixels(buffer, width, memory, start, step, back, Format::Rgb565);
             return;
         }
     }

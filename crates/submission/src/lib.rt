@@ -2,18 +2,18 @@
 ghost use mathlib.Core.Path.{_≡_};
 ghost use Prim.Native.Nat.{_≤_, _<_};
 ghost use lib.ListN.{length};
-ghost use Rattle.record.specs.Clients.{clientAt};
-ghost use Rattle.record.specs.Queue.{writeOffset};
-ghost use Rattle.record.specs.Staged.{missingBytes};
-ghost use Rattle.record.specs.Checking.{checkedOf};
+ghost use Rattle.engine_record.specs.Clients.{clientAt};
+ghost use Rattle.engine_record.specs.Queue.{writeOffset};
+ghost use Rattle.engine_record.specs.Staged.{missingBytes};
+ghost use Rattle.engine_record.specs.Checking.{checkedOf};
 ghost use Rattle.queue.specs.Refusals.{firstRefusal, pieceTable, cancelTable};
 ghost use Rattle.queue.specs.Calls.{newBatch, withBatch, submitResult, submitRing, withStaged, withReceived, beginResult, pieceResult, pieceRing, cancelResult};
+use engine_record::Batch;
+use engine_record::Checked;
+use engine_record::EngineRecord;
+use engine_record::Staged;
 use queue::Answer;
 use queue::Reply;
-use record::Batch;
-use record::Checked;
-use record::EngineRecord;
-use record::Staged;
 
 // Puts a batch into the ring and the queue. What it says is not looked at.
 pub fn submit(engine: EngineRecord, ring: &mut [u8], client: u32, batch: &[u8]) -> Reply
@@ -21,7 +21,7 @@ pub fn submit(engine: EngineRecord, ring: &mut [u8], client: u32, batch: &[u8]) 
         × (now (ring .exit) ≡ submitRing engine (now (ring .entry)) client (now (batch .entry))) ⌝ }
 {
     let size = batch.len();
-    let found = record::check(engine);
+    let found = validity::check(engine);
     let refusal = enqueue::submit_refusal(engine, found, ring.len(), client, size);
     if refusal != 0 {
         return Reply {
@@ -29,7 +29,7 @@ pub fn submit(engine: EngineRecord, ring: &mut [u8], client: u32, batch: &[u8]) 
             engine: engine,
         };
     }
-    let next = engine.next;
+    let next = engine.next_ticket;
     let offset = enqueue::write_offset(engine, found.bytes);
     ring::copy_in(ring, offset, batch);
     let added = Batch {
@@ -39,7 +39,7 @@ pub fn submit(engine: EngineRecord, ring: &mut [u8], client: u32, batch: &[u8]) 
         length: size,
     };
     let slots = engine.slots;
-    let at = record::lowest_free(slots);
+    let at = slots::lowest_free(slots);
     let after = enqueue::with_batch(engine, at, added);
     Reply {
         answer: Answer::Accepted(next),
@@ -60,7 +60,7 @@ fn with_staged(engine: EngineRecord, staged: Staged) -> EngineRecord
 pub fn begin(engine: EngineRecord, ring: &[u8], client: u32, total: usize) -> Reply
     ensures { λ r. ⌜ r ≡ beginResult engine (length (now (ring .entry))) client total ⌝ }
 {
-    let found = record::check(engine);
+    let found = validity::check(engine);
     let number = enqueue::submit_refusal(engine, found, ring.len(), client, total);
     if number != 0 {
         return Reply {
@@ -69,7 +69,7 @@ pub fn begin(engine: EngineRecord, ring: &[u8], client: u32, total: usize) -> Re
         };
     }
     let slots = engine.slots;
-    let at = record::lowest_free(slots);
+    let at = slots::lowest_free(slots);
     let staged = Staged {
         client: client,
         slot: at,
@@ -110,7 +110,7 @@ fn piece_refusal(
     let own = queue::staged_by(staged, client);
     let left = missing_bytes(staged);
     let no14 = queue::first_refusal(!own | (left < size), 14, 0);
-    let no5 = queue::first_refusal(!record::is_open(engine, client), 5, no14);
+    let no5 = queue::first_refusal(!windows::is_open(engine, client), 5, no14);
     let no10 = queue::first_refusal(!(given == setup.ring), 10, no5);
     queue::first_refusal(!found.valid, 11, no10)
 }
@@ -123,7 +123,7 @@ fn finished(engine: EngineRecord, offset: usize) -> EngineRecord
     let staged = engine.staged;
     let added = Batch {
         client: staged.client,
-        ticket: engine.next,
+        ticket: engine.next_ticket,
         offset: offset,
         length: staged.total,
     };
@@ -145,7 +145,7 @@ pub fn piece(engine: EngineRecord, ring: &mut [u8], client: u32, piece: &[u8]) -
         × (now (ring .exit) ≡ pieceRing engine (now (ring .entry)) client (now (piece .entry))) ⌝ }
 {
     let size = piece.len();
-    let found = record::check(engine);
+    let found = validity::check(engine);
     let number = piece_refusal(engine, found, ring.len(), client, size);
     if number != 0 {
         return Reply {
@@ -156,13 +156,13 @@ pub fn piece(engine: EngineRecord, ring: &mut [u8], client: u32, piece: &[u8]) -
     let setup = engine.setup;
     let staged = engine.staged;
     let offset = enqueue::write_offset(engine, found.bytes);
-    let at = record::wrap_offset(setup.ring, offset + staged.received);
+    let at = engine_record::wrap_offset(setup.ring, offset + staged.received);
     ring::copy_in(ring, at, piece);
     let received = staged.received + size;
     let total = staged.total;
     if received == total {
         return Reply {
-            answer: Answer::Accepted(engine.next),
+            answer: Answer::Accepted(engine.next_ticket),
             engine: finished(engine, offset),
         };
     }
@@ -179,8 +179,8 @@ fn cancel_refusal(engine: EngineRecord, client: u32) -> u32
 {
     let staged = engine.staged;
     let no14 = queue::first_refusal(!queue::staged_by(staged, client), 14, 0);
-    let no5 = queue::first_refusal(!record::is_open(engine, client), 5, no14);
-    queue::first_refusal(!record::is_valid(engine), 11, no5)
+    let no5 = queue::first_refusal(!windows::is_open(engine, client), 5, no14);
+    queue::first_refusal(!validity::is_valid(engine), 11, no5)
 }
 
 // Drops the staged batch. Bytes that were copied stay in the ring.
@@ -196,6 +196,6 @@ pub fn cancel(engine: EngineRecord, client: u32) -> Reply
     }
     Reply {
         answer: Answer::Done,
-        engine: with_staged(engine, record::no_staged()),
+        engine: with_staged(engine, engine_record::no_staged()),
     }
 }

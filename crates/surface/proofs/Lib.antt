@@ -3,7 +3,7 @@
 pub mod Mapi
 -- a part of memory that is lent and comes back
 pub mod Parts
--- rows of bytes, one more at a time, and counted from further down
+-- rows of bytes, one more at a time
 pub mod Rows
 -- bytes a pixel, and the bounds that keep sums in 64 bits
 pub mod Sizes
@@ -11,7 +11,5 @@ pub mod Sizes
 pub mod Pixels
 -- each byte after a drawing, and where the rows lie
 pub mod Outside
--- a drawing in a window of memory
-pub mod Window
 -- a pixel stored, drawn, and loaded again
 pub mod Loaded

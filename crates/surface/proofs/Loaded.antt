@@ -16,7 +16,7 @@ use Rattle.pixel.specs.Colours.{packed, unpacked}
 use Rattle.pixel.specs.declared.colour.Colour.{Colour}
 use Rattle.pixel.specs.declared.format.Format.{Format}
 use Rattle.pixel.specs.declared.format.Format.the-variants.{Argb8888, Rgb888, Rgb565}
-use Rattle.pixel.proofs.Stored.{Bytes, kept, narrow, packed-again, unpacked-packed}
+use Rattle.pixel.proofs.Stored.{packed-again}
 use Rattle.surface.specs.declared.Surface.{Surface}
 use Rattle.surface.specs.Surface.{rowLength, pixelStart, span}
 use Rattle.surface.specs.Memory.{mapi, overwriteRange, littleEndian, pixelAt}
@@ -29,7 +29,7 @@ use Rattle.surface.proofs.Rows.{turn-rows}
 use Rattle.surface.proofs.Pixels.{pixel-same, pixel-shift}
 use Rattle.surface.proofs.Outside.{pixel-in-row, pixel-in-span, inside-row, length-drawnOn}
 
--- ---- what the low bytes of a number spell
+-- ---- the number that the low bytes of a number hold
 
 -- byte k + 1 of a number is byte k of what is left without its lowest
 pub byte-next : (n k : ℕ) → byteOf n (suc k) ≡ byteOf (n / 256) k
@@ -127,10 +127,6 @@ module _ (f : Format) (memory : List ℕ) (i : ℕ) (c : Colour) where
   pub loaded-stored : i + bytesPerPixel f ≤ length memory → loadPixel f (storePixel f memory i c) i ≡ unpacked (layoutOf f) (packed (layoutOf f) c)
   loaded-stored l = loaded-bytes f (storePixel f memory i c) i c (omega (arith, length-stored)) (stored-byte l)
 
-  -- the same, channel by channel
-  pub loaded-kept : Bytes c → i + bytesPerPixel f ≤ length memory → loadPixel f (storePixel f memory i c) i ≡ kept (layoutOf f) c
-  loaded-kept h l = loaded-stored l ∙ unpacked-packed (layoutOf f) (narrow f) c h
-
   -- and other pixels, of any format, are as they were
   pub loaded-else : (g : Format) (k : ℕ) → (k + bytesPerPixel g ≤ i) ⊎ (i + bytesPerPixel f ≤ k) → loadPixel g (storePixel f memory i c) k ≡ loadPixel g memory k
   loaded-else g k o =
@@ -162,5 +158,5 @@ loaded-drawn s p memory w l x y u v =
         let col : j / bytesPerPixel (s .format) ≡ x = digits-div x z in
         let place : j % bytesPerPixel (s .format) ≡ k = digits-mod x z in
         inside-row s p memory w (pixelStart s x y + k) y j (omega (arith, pixel-in-span s x y u v .1))
-        (record { row = v; column = omega (arith, pixel-in-row s x u); is = omega arith })
+        (record { row = v; column = omega (arith, pixel-in-row s x u); address = omega arith })
         ∙ rw (col, place)

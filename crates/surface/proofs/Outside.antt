@@ -30,7 +30,7 @@ module _ (s : Surface) where
   -- so each byte of a row is one of the span's
   pub byte-in-span : (i y j : ℕ) → InRow s i y j → Contains (span s) i
   unfolding span
-  byte-in-span i y j r = (omega (arith, r .is), omega (arith, r .is, r .column, row-in-span y (r .row)))
+  byte-in-span i y j r = (omega (arith, r .address), omega (arith, r .address, r .column, row-in-span y (r .row)))
 
   -- and so is each pixel of the rectangle, whole
   pub pixel-in-row : (x : ℕ) → x < s .width → x * bytesPerPixel (s .format) + bytesPerPixel (s .format) ≤ rowLength s
@@ -53,7 +53,7 @@ module _ (s : Surface) (p : ℕ → ℕ → Colour) (memory : List ℕ) where
   unfolding drawSurface drawRectangle
   outside-rows q i out =
       mapi-stays _ memory i
-      (λ old. rows-else (s .address) (s .stride) (rowLength s) (s .height) _ i old q (λ y j u v l e. out y j (record { row = u; column = v; is = omega arith })))
+      (λ old. rows-else (s .address) (s .stride) (rowLength s) (s .height) _ i old q (λ y j u v l e. out y j (record { row = u; column = v; address = omega arith })))
 
   -- and so is a byte outside the span
   pub outside-span : 0 < s .stride → (i : ℕ) → ¬ (Contains (span s) i) → getD (drawSurface s p memory) i 0 ≡ getD memory i 0
@@ -65,7 +65,7 @@ module _ (s : Surface) (p : ℕ → ℕ → Colour) (memory : List ℕ) where
   unfolding drawSurface drawRectangle rowByte
   inside-row w i y j l r =
       getD-mapi _ memory i l
-      ∙ rows-hit (s .address) (s .stride) (rowLength s) (s .height) _ (getD memory i 0) i y j (omega (arith, r .is)) (omega (arith, r .column)) (r .row) (r .column)
+      ∙ rows-hit (s .address) (s .stride) (rowLength s) (s .height) _ (getD memory i 0) i y j (omega (arith, r .address)) (omega (arith, r .column)) (r .row) (r .column)
 
 -- a drawing goes by the colours of its own pixels alone
 pub drawnOn-ext : (s : Surface) (p q : ℕ → ℕ → Colour) (memory : List ℕ) → 0 < s .stride →

@@ -1,7 +1,7 @@
 -- A part of memory: `overwriteRange` at each byte, and a part that was lent (`midOf`) and came back (`putMid`).
 use mathlib.Core.Path.{_≡_, refl, sym, ap, _∙_}
 use mathlib.Core.List.{List, _++_}
-use mathlib.Core.Logic.{_⊎_, ⊎-elim, _≢_}
+use mathlib.Core.Logic.{⊎-elim, _≢_}
 use Prim.Native.Nat.{ℕ, _+_, _-_, _≤_, _<_}
 use native.Mathlib.Nat.{sub-zero}
 use native.Mathlib.Omega.{arith}
@@ -132,17 +132,6 @@ mid-put r n xs ys f l =
     let z : j < n = omega (arith, length-mid r n (putMid r n xs ys) (omega (arith, length-put r n xs ys f l))) in
     let e : r + j - r ≡ j = omega arith in
     getD-mid r n (putMid r n xs ys) j z ∙ put-in r n xs ys f l (r + j) (omega arith) (omega arith) ∙ ap (λ (k : ℕ). getD ys k 0) e)
-
--- a part apart from the one that changed is as it was
-pub mid-apart : (r n d m : ℕ) (xs ys : List ℕ) → r + n ≤ length xs → length ys ≡ n → d + m ≤ length xs → (d + m ≤ r) ⊎ (r + n ≤ d) →
-    midOf d m (putMid r n xs ys) ≡ midOf d m xs
-mid-apart r n d m xs ys f l k o =
-    ext-getD 0 (midOf d m (putMid r n xs ys)) (midOf d m xs) (length-mid d m _ (omega (arith, length-put r n xs ys f l)) ∙ sym (length-mid d m xs k))
-    (λ j v.
-    let z : j < m = omega (arith, length-mid d m (putMid r n xs ys) (omega (arith, length-put r n xs ys f l))) in
-    getD-mid d m (putMid r n xs ys) j z
-    ∙ ⊎-elim (λ (u : d + m ≤ r). put-before r n xs ys f l (d + j) (omega arith)) (λ (u : r + n ≤ d). put-past r n xs ys f l (d + j) (omega arith)) o
-    ∙ sym (getD-mid d m xs j z))
 
 put-mapi : (g : ℕ → ℕ → ℕ) (xs : List ℕ) (r n : ℕ) → r + n ≤ length xs → putMid r n xs (mapi g (midOf r n xs)) ≡ mapi (overwriteRange r n g) xs
 put-mapi g xs r n h = is-mapi (overwriteRange r n g) xs (putMid r n xs M) (length-put r n xs M h lm) (λ i l. at i l (side r n i))

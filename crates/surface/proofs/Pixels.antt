@@ -1,7 +1,6 @@
--- Laws of stored pixels: the number that bytes spell, pixels that are as they were, pixels of a part, and the bytes of a row.
+-- Laws of stored pixels: the number that bytes hold, pixels that are as they were, pixels of a part, and the bytes of a row.
 use mathlib.Core.Path.{_≡_, sym, ap, _∙_}
 use mathlib.Core.List.{List}
-use mathlib.Core.Logic.{_⊎_, inl, inr}
 use Prim.Native.Nat.{ℕ, zero, suc, _+_, _-_, _*_, _/_, _%_, _≤_, _<_}
 use native.Mathlib.Nat.{add-assoc, div-lt-iff-lt-mul, mod-lt, div-add-mod', not-suc-le-zero}
 use native.Mathlib.Omega.{arith}
@@ -11,11 +10,11 @@ use borrow.Rule.Slice.PartMut.{midOf}
 use Rattle.word.specs.Word.{byteOf}
 use Rattle.surface.specs.Memory.{mapi, overwriteRange, littleEndian, pixelAt}
 use Rattle.surface.specs.Rows.{overwriteRows, rowByte}
-use Rattle.surface.proofs.Mapi.{length-mapi, getD-mapi, mapi-ext}
+use Rattle.surface.proofs.Mapi.{mapi-ext}
 use Rattle.surface.proofs.Parts.{Side, before, inside, past, side, within-before, within-in, within-past, all-within}
-use Rattle.surface.proofs.Rows.{rows-before, rows-hit, rows-later, rows-past}
+use Rattle.surface.proofs.Rows.{rows-before, rows-hit, rows-later}
 
--- ---- the number that bytes spell
+-- ---- the number that bytes hold
 
 -- one byte more, from the highest down
 pub number-step : (xs : List ℕ) (k : ℕ) → 0 < k → k ≤ length xs → littleEndian (drop (k - 1) xs) ≡ getD xs (k - 1) 0 + 256 * littleEndian (drop k xs)
@@ -24,7 +23,7 @@ number-step xs (suc j) z h =
     let e : suc j - 1 ≡ j = omega arith in
     rw e (ap littleEndian (drop-cons xs j 0 h))
 
--- the part that was lent to read a pixel spells that pixel
+-- the part that was lent to read a pixel holds that pixel
 pub pixel-part : (b k i j : ℕ) (xs : List ℕ) → k ≡ b → i ≡ j → littleEndian (midOf i k xs) ≡ pixelAt b xs j
 unfolding pixelAt
 pixel-part b k i j xs e q = rw (e, q)
@@ -56,21 +55,6 @@ pixel-same b i xs ys e h =
     (ext-getD 0 (take b (drop i xs)) (take b (drop i ys))
     (simp (length-take, length-drop, e))
     (λ k l. let z : k < b = omega (arith, length-take b (drop i xs)) in rw (getD-take b (drop i xs) k 0 z, getD-take b (drop i ys) k 0 z, getD-drop, getD-drop) (h k z)))
-
-pub pixel-mapi : (b i : ℕ) (f : ℕ → ℕ → ℕ) (xs : List ℕ) → i + b ≤ length xs →
-    ((k : ℕ) → k < b → f (i + k) (getD xs (i + k) 0) ≡ getD xs (i + k) 0) → pixelAt b (mapi f xs) i ≡ pixelAt b xs i
-pixel-mapi b i f xs l h = pixel-same b i (mapi f xs) xs (length-mapi f xs) (λ k z. getD-mapi f xs (i + k) (omega arith) ∙ h k z)
-
--- a pixel of a row that is still to come
-pub pixel-later : (b i a s n h : ℕ) (f : ℕ → ℕ → ℕ) (xs : List ℕ) → 0 < s → i + b ≤ length xs → a + h * s ≤ i →
-    pixelAt b (mapi (overwriteRows a s n h f) xs) i ≡ pixelAt b xs i
-pixel-later b i a s n h f xs p l u = pixel-mapi b i (overwriteRows a s n h f) xs l (λ k z. rows-later a s n h f (i + k) (getD xs (i + k) 0) p (omega arith))
-
--- a pixel that lies before the rows, or past them
-pub pixel-apart : (b i a s n h : ℕ) (f : ℕ → ℕ → ℕ) (xs : List ℕ) → 0 < s → i + b ≤ length xs → (i + b ≤ a) ⊎ (a + (h - 1) * s + n ≤ i) →
-    pixelAt b (mapi (overwriteRows a s n h f) xs) i ≡ pixelAt b xs i
-pixel-apart b i a s n h f xs p l (inl u) = pixel-mapi b i (overwriteRows a s n h f) xs l (λ k z. rows-before a s n h f (getD xs (i + k) 0) (i + k) (omega arith))
-pixel-apart b i a s n h f xs p l (inr u) = pixel-mapi b i (overwriteRows a s n h f) xs l (λ k z. rows-past a s n h f (i + k) (getD xs (i + k) 0) p (omega arith))
 
 -- ---- a row of pixels
 

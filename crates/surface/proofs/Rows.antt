@@ -1,4 +1,4 @@
--- Laws of `overwriteRows`: each byte of them, one row more, and rows counted from further down. A place i from the first row on is
+-- Laws of `overwriteRows`: each byte of them, and one row more. A place i from the first row on is
 -- spoken of as a + (y * s + j), so that only `rows-at` opens the division.
 use mathlib.Core.Path.{_≡_, refl, sym, ap, _∙_}
 use mathlib.Core.List.{List}
@@ -9,14 +9,13 @@ use native.Mathlib.Nat.{le-refl, suc-mul, mul-le-mul-right, mod-lt, div-add-mod'
 use native.Mathlib.Omega.{arith}
 use lib.Arith.{digits-div, digits-mod}
 use lib.Dec.{ltb}
-use lib.ListN.{length, getD}
-use borrow.Rule.Slice.PartMut.{midOf, putMid}
+use lib.ListN.{getD}
 use borrow.Author.Tests.{le-ltb, lt-ltb, le-leb, lt-leb}
 use Rattle.word.proofs.Tests.{split}
 use Rattle.surface.specs.Memory.{mapi, overwriteRange}
 use Rattle.surface.specs.Rows.{overwriteRows}
-use Rattle.surface.proofs.Mapi.{length-mapi, is-mapi, mapi-ext, mapi-mapi}
-use Rattle.surface.proofs.Parts.{Side, before, inside, past, side, within-before, within-in, within-past, part-mapi}
+use Rattle.surface.proofs.Mapi.{is-mapi, mapi-ext, mapi-mapi}
+use Rattle.surface.proofs.Parts.{within-before, within-in, within-past}
 
 -- ---- bounds
 
@@ -111,10 +110,6 @@ rows-else a s n h f i old p out = ⊎-elim (rows-before a s n h f old i) (λ l. 
 pub rows-later : (a s n h : ℕ) (f : ℕ → ℕ → ℕ) (i old : ℕ) → 0 < s → a + h * s ≤ i → overwriteRows a s n h f i old ≡ old
 rows-later a s n h f i old p u = rows-else a s n h f i old p (λ y j v t l e. let z : y * s + s ≤ h * s = next y h s v in omega arith)
 
--- past the last row's end nothing changes
-pub rows-past : (a s n h : ℕ) (f : ℕ → ℕ → ℕ) (i old : ℕ) → 0 < s → a + (h - 1) * s + n ≤ i → overwriteRows a s n h f i old ≡ old
-rows-past a s n h f i old p u = rows-else a s n h f i old p (λ y j v t l e. omega (arith, row-within a s n h y i v u))
-
 -- ---- a loop over rows that lends each row on: after y turns it is `mapi (rows a s n y f) xs₀`
 
 -- one row more: what the row y gives, over what the rows before it gave
@@ -179,31 +174,3 @@ module _ (a s n : ℕ) (f : ℕ → ℕ → ℕ) (xs₀ : List ℕ) where
       ∙ ap (λ (l : List ℕ). mapi (overwriteRange r n (λ j o. f y j)) l) i
       ∙ mapi-mapi _ _ xs₀
       ∙ mapi-ext _ _ xs₀ (λ i l. rw q (rows-step a s n y f i (getD xs₀ i 0) p w))
-
-  -- a turn that lends the row y on: it came back with f y j at each of its places j
-  pub more-rows : (xs ys : List ℕ) (y r k : ℕ) → 0 < s → n ≤ s → k ≡ n → r ≡ a + y * s → r + n ≤ length xs₀ →
-      xs ≡ mapi (overwriteRows a s n y f) xs₀ → ys ≡ mapi (λ j o. f y j) (midOf r k xs) → putMid r k xs ys ≡ mapi (overwriteRows a s n (y + 1) f) xs₀
-  more-rows xs ys y r k p w e q h i m =
-      let l : r + n ≤ length xs = omega (arith, ap length i, length-mapi (overwriteRows a s n y f) xs₀) in
-      turn-rows xs (putMid r k xs ys) y r p w q i (part-mapi (λ j o. f y j) xs ys r k n e l m)
-
--- ---- a window: rows in a part of memory are rows of memory
-
--- the same rows, counted from d further down
-pub rows-shift : (d a s n h : ℕ) (f : ℕ → ℕ → ℕ) (i old : ℕ) → d ≤ i → overwriteRows a s n h f (i - d) old ≡ overwriteRows (d + a) s n h f i old
-unfolding overwriteRows
-rows-shift d a s n h f i old l =
-    let e : i - d - a ≡ i - (d + a) = omega arith in
-    ⊎-elim
-    (λ (v : i < d + a). let v′ : i - d < a = omega arith in simp lt-leb)
-    (λ (v : d + a ≤ i). let v′ : a ≤ i - d = omega arith in simp (le-leb, e))
-    (split i (d + a))
-
-pub window-rows : (d m a s n h : ℕ) (f : ℕ → ℕ → ℕ) (xs : List ℕ) → 0 < s → a + (h - 1) * s + n ≤ m →
-    mapi (overwriteRange d m (overwriteRows a s n h f)) xs ≡ mapi (overwriteRows (d + a) s n h f) xs
-window-rows d m a s n h f xs p u = mapi-ext _ _ xs (λ i l. at i (getD xs i 0) (side d m i))
-  where
-    at : (i old : ℕ) → Side d m i → overwriteRange d m (overwriteRows a s n h f) i old ≡ overwriteRows (d + a) s n h f i old
-    at i old (before v) = within-before d m (overwriteRows a s n h f) i old v ∙ sym (rows-before (d + a) s n h f old i (omega arith))
-    at i old (inside v t) = within-in d m (overwriteRows a s n h f) i old v t ∙ rows-shift d a s n h f i old v
-    at i old (past t) = within-past d m (overwriteRows a s n h f) i old t ∙ sym (rows-past (d + a) s n h f i old p (omega arith))

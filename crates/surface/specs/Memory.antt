@@ -14,7 +14,7 @@ mapi f (x ∷ xs) = f 0 x ∷ mapi (λ (i : ℕ). f (suc i)) xs
 unfoldable pub overwriteRange : ℕ → ℕ → (ℕ → ℕ → ℕ) → ℕ → ℕ → ℕ
 overwriteRange at n g i old = cond (leb at i && ltb (i - at) n) (g (i - at) old) old
 
--- the number that bytes spell, low byte first
+-- the number that bytes hold, low byte first
 abbrev pub littleEndian : List ℕ → ℕ
 littleEndian [] = 0
 littleEndian (x ∷ xs) = x + 256 * littleEndian xs

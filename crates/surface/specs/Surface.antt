@@ -26,7 +26,7 @@ span s = rangeOf (s .address) ((s .height - 1) * s .stride + rowLength s)
 pub record InRow (s : Surface) (i y j : ℕ) : Type 0 where
   pub row : y < s .height
   pub column : j < rowLength s
-  pub is : i ≡ rowStart s y + j
+  pub address : i ≡ rowStart s y + j
 
 -- no byte lies in rows of both
 abbrev pub DisjointRows : Surface → Surface → Type 0

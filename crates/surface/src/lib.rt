@@ -72,7 +72,7 @@ impl Surface {
     }
 }
 
-// The number that bytes spell, low byte first.
+// The number that bytes hold, low byte first.
 fn number_of(bytes: &[u8]) -> u32
     requires { ⌜ length (now bytes) ≤ 4 ⌝ }
     ensures { λ r. ⌜ r ≡ littleEndian (now (bytes .entry)) ⌝ }

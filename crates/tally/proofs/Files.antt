@@ -14,7 +14,7 @@ use Rattle.records.specs.declared.Found.{Found}
 use Rattle.records.specs.declared.Found.the-variants.{Nothing, Record, BadVersion, BadRecord}
 use Rattle.records.specs.declared.Taken.{Taken}
 use Rattle.records.specs.Records.{Entry, File, records}
-use Rattle.records.specs.Reading.{fileAt, onto, Ready, Takes, takenBy, heldAfter}
+use Rattle.records.specs.Reading.{fileAt, onto, ReaderReady, Takes, takenBy, heldAfter}
 use Rattle.records.proofs.Bytes.{room-between}
 use Rattle.records.proofs.Onward.{ends-here}
 use Rattle.totals.specs.declared.Totals.{Totals}
@@ -25,7 +25,7 @@ use Rattle.tally.specs.declared.Tally.{Tally}
 use Rattle.tally.specs.declared.FeedResult.{FeedResult}
 use Rattle.tally.specs.Counts.{Count, countOver, recordCount, editionOf, fileCount, position}
 use Rattle.tally.specs.Running.{foundPlus}
-use Rattle.tally.specs.Tally.{totalOf, Adds, Over, Keeps, editionFor, restCount, tallyStart, fedIn, fedBy, heldBy, Stands, Feeds}
+use Rattle.tally.specs.Tally.{totalOf, Adds, CountOverflows, Keeps, editionFor, restCount, tallyStart, fedIn, fedBy, heldBy, Stands, TallyFeedContract}
 use Rattle.tally.proofs.Sums.{keeps-as, foundCount, keeps-found}
 
 -- ---- the start
@@ -59,7 +59,7 @@ found-sum c edition BadVersion held file = omega arith
 found-sum c edition BadRecord held file = omega arith
 
 module _ (totals : Totals) (seen held input held′ : List ℕ) (t : Tally) (e : Edition) (u : Taken) (some : 1 ≤ length input) (e-is : e ≡ editionFor t input)
-    (takes : Ready e (t .reader) held → Takes e (t .reader) held input u held′) (same : length held′ ≡ length held) (S : Stands totals seen t held) where
+    (takes : ReaderReady e (t .reader) held → Takes e (t .reader) held input u held′) (same : length held′ ≡ length held) (S : Stands totals seen t held) where
   T : Takes e (t .reader) held input u held′
   T = takes (rw e-is (S .ready input))
 
@@ -74,7 +74,7 @@ module _ (totals : Totals) (seen held input held′ : List ℕ) (t : Tally) (e :
       ∙ found-sum c e (u .found) held′ (fileAt e (u .reader) held′ rest)
 
   pub feeds-by : (fed : FeedResult) (running : Running) → running ≡ foundPlus e (u .found) held′ (t .running)
-      → fed ≡ record { tally = record { before = t .before; edition = e; begun = true; reader = u .reader; running = running }; used = u .used } → Feeds totals seen input fed held′
+      → fed ≡ record { tally = record { before = t .before; edition = e; begun = true; reader = u .reader; running = running }; used = u .used } → TallyFeedContract totals seen input fed held′
   feeds-by fed running running-is fed-is = rw (fed-is, running-is) (record {
     stands = record {
       before = S .before;
@@ -97,7 +97,7 @@ fed-is t held input held′ e u running some e-is u-is held-is running-is =
     (rw (ne-eqb (length input) 0 some, running-is, held-is, u-is, e-is), rw (ne-eqb (length input) 0 some, held-is, e-is))
 
 -- no input
-pub feeds-none : (totals : Totals) (seen input held : List ℕ) (t : Tally) → length input ≡ 0 → Stands totals seen t held → Feeds totals seen input (record { tally = t; used = 0 }) held
+pub feeds-none : (totals : Totals) (seen input held : List ℕ) (t : Tally) → length input ≡ 0 → Stands totals seen t held → TallyFeedContract totals seen input (record { tally = t; used = 0 }) held
 feeds-none totals seen input held t none S = record { stands = rw (append-nil seen) S; some = λ one. absurd (omega arith) }
 
 -- ---- the end
@@ -135,7 +135,7 @@ module _ (totals : Totals) (seen piece : List ℕ) (used : ℕ) (fed : FeedResul
   left-is : left ≡ drop used piece
   left-is = take-all (length piece - used) (drop used piece) (omega (arith, length-drop used piece))
 
-  pub piece-again : Feeds totals (seen ++ take used piece) left fed held′ → Stands totals (seen ++ take (used + fed .used) piece) (fed .tally) held′
+  pub piece-again : TallyFeedContract totals (seen ++ take used piece) left fed held′ → Stands totals (seen ++ take (used + fed .used) piece) (fed .tally) held′
   piece-again F =
       let bytes : (seen ++ take used piece) ++ take (fed .used) left ≡ seen ++ take (used + fed .used) piece =
       append-assoc seen (take used piece) (take (fed .used) left)
@@ -143,7 +143,7 @@ module _ (totals : Totals) (seen piece : List ℕ) (used : ℕ) (fed : FeedResul
       ∙ ap (λ (xs : List ℕ). seen ++ xs) (sym (take-add used (fed .used) piece)) in
       subst (λ (xs : List ℕ). Stands totals xs (fed .tally) held′) bytes (F .stands)
 
-  pub piece-some : used < length piece → Feeds totals (seen ++ take used piece) left fed held′ → fed .used ≡ 0 → ⊥
+  pub piece-some : used < length piece → TallyFeedContract totals (seen ++ take used piece) left fed held′ → fed .used ≡ 0 → ⊥
   piece-some more F none = let some : 1 ≤ fed .used = F .some (rw left-is (omega (arith, length-drop used piece))) in omega arith
 
 pub piece-none : (totals : Totals) (seen piece : List ℕ) (t : Tally) (held : List ℕ) → Stands totals seen t held → Stands totals (seen ++ take 0 piece) t held

@@ -21,9 +21,9 @@ use Rattle.lines.proofs.Answered.{promise as answered}
 use Rattle.totals.specs.declared.Totals.{Totals}
 use Rattle.totals.specs.declared.Answer.{Answer}
 use Rattle.totals.specs.Totals.{largest, Position, Added, AddsTotals}
-use Rattle.totals.specs.Files.{Files, none, more}
+use Rattle.totals.specs.Files.{Files, nil, cons}
 use Rattle.totals.proofs.Adding.{Names, adds-named}
-use Rattle.rules.specs.declared.fault.Fault.the-variants.{ReservedBits, GroupLength, OpenTask, NotWritable, Forbidden, BadSurface, SizeMismatch, OutOfBounds, Overlap}
+use Rattle.task_check.specs.declared.fault.Fault.the-variants.{ReservedBits, GroupLength, OpenTask, NotWritable, Forbidden, BadSurface, SizeMismatch, OutOfBounds, Overlap}
 use Rattle.tally.specs.Counts.{Count, batches, tasks, outputPixels, blendedPixels, faulted, withoutScore, countOver, batchOf, fileCount, position}
 use Rattle.tally.proofs.Sums.{few}
 use Rattle.tally.specs.Tally.{totalOf, Adds}
@@ -39,8 +39,8 @@ small totals file answer A e c = go (split largest (totalOf c totals + fileCount
 
 sums : (totals after : Totals) (files : Files) → Tallied totals files after → (c : Count) → totalOf c after ≡ totalOf c totals + filesCount c files
 unfolding countOver
-sums totals after files none c = omega arith
-sums totals after files (more {file = file} {files = rest} {answer = answer} A e T) c =
+sums totals after files nil c = omega arith
+sums totals after files (cons {file = file} {files = rest} {answer = answer} A e T) c =
     let one : totalOf c (answer .totals) ≡ totalOf c totals + fileCount c file = A .adds (small totals file answer A e) .1 c in
     let rest-is = sums (answer .totals) after rest T c in
     omega (arith, one, rest-is)
@@ -118,11 +118,11 @@ grown-adds totals file fits = record { adds = λ h. (refl, grown-by totals file)
 
 all-tallied : (totals : Totals) (files : Files) → ((c : Count) → totalOf c totals + filesCount c files ≤ largest) → SomeTotals totals files
 unfolding countOver
-all-tallied totals [] fits = record { after = totals; tallied = none }
+all-tallied totals [] fits = record { after = totals; tallied = nil }
 all-tallied totals (file ∷ files) fits =
     let A = grown-adds totals file (λ c. omega (arith, fits c)) in
     let rest = all-tallied (grown totals file) files (accepts totals file files _ A fits .1) in
-    record { after = rest .after; tallied = more A refl (rest .tallied) }
+    record { after = rest .after; tallied = cons A refl (rest .tallied) }
 
 every : (totals : Totals) (files files′ : Files) → Permuted files files′ → ((c : Count) → totalOf c totals + filesCount c files ≤ largest) → SomeTotals totals files′
 every totals files files′ p fits = all-tallied totals files′ (λ c. omega (arith, fits c, permuted files files′ p c))
@@ -187,8 +187,8 @@ lot fresh part totals files answer zeros T A =
 
 -- totals are never too large
 bounded : (totals after : Totals) (files : Files) → Tallied totals files after → ((c : Count) → totalOf c totals ≤ largest) → (c : Count) → totalOf c after ≤ largest
-bounded totals after files none small-before c = small-before c
-bounded totals after files (more {file = file} {files = rest} {answer = answer} A e T) small-before c =
+bounded totals after files nil small-before c = small-before c
+bounded totals after files (cons {file = file} {files = rest} {answer = answer} A e T) small-before c =
     bounded (answer .totals) after rest T (λ d. omega (arith, A .adds (small totals file answer A e) .1 d, small totals file answer A e d)) c
 
 apart : (fresh one two all : Totals) (files files′ : Files) (answer : Answer) → ((c : Count) → totalOf c fresh ≡ 0)

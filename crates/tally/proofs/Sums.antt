@@ -11,8 +11,8 @@ use lib.Dec.{eqb, leb, eqb-refl}
 use borrow.Author.Tests.{le-leb, lt-leb, eqb-true, eqb-false, eq-eqb, ne-eqb}
 use Rattle.word.proofs.Tests.{split}
 use Rattle.register.specs.declared.task.Task.{Task}
-use Rattle.rules.specs.declared.fault.Fault.{Fault}
-use Rattle.rules.specs.Faults.{faultNumber}
+use Rattle.task_check.specs.declared.fault.Fault.{Fault}
+use Rattle.task_check.specs.Faults.{faultNumber}
 use Rattle.batch.specs.Batch.{BatchEnd, finished, faulty, DecodedBatch, tasksDrawn}
 use Rattle.records.specs.declared.Edition.{Edition}
 use Rattle.records.specs.declared.Edition.the-variants.{First, Second}
@@ -26,7 +26,7 @@ use Rattle.totals.specs.Totals.{largest}
 use Rattle.tally.specs.declared.Running.{Running}
 use Rattle.tally.specs.Counts.{Count, batches, tasks, outputPixels, blendedPixels, faulted, withoutScore, batchCount, pixelsOf, taskCount, endCount, countOver, ranCount, batchOf, unscoredCount, isRun, recordCount, position}
 use Rattle.tally.specs.Running.{plus, taskPlus, tasksPlus, endPlus, restPlus, ranPlus, unscoredPlus, submittedPlus, recordPlus, foundPlus}
-use Rattle.tally.specs.Tally.{Over, Keeps}
+use Rattle.tally.specs.Tally.{CountOverflows, Keeps}
 use Rattle.tally.proofs.Adding.{fault-between}
 
 -- ---- positions
@@ -88,11 +88,11 @@ module _ (base : Count → ℕ) (s : Running) (j : Count) (n : ℕ) (K : Keeps b
       omega (arith, there c true e, now)
   small-by h c false e = omega (arith, there c false e, K .small c)
 
-  large-still : Over base → Over grown
+  large-still : CountOverflows base → CountOverflows grown
   large-still o = record { count = o .count; large = omega (arith, o .large) }
 
   -- where it does not fit, the number itself is too large
-  large-here : largest < have + n → (b : Bool) → s .fits ≡ b → Over grown
+  large-here : largest < have + n → (b : Bool) → s .fits ≡ b → CountOverflows grown
   large-here h true e =
       let own : at j n j ≡ n = rw (eq-eqb (position j) (position j) refl) in
       record { count = j; large = omega (arith, h, K .exact e j, own) }

@@ -6,8 +6,8 @@ use Prim.Native.Nat.{ℕ, _+_, _-_, _*_}
 use lib.Dec.{eqb}
 use Rattle.word.specs.Word.{words}
 use Rattle.register.specs.declared.task.Task.{Task}
-use Rattle.rules.specs.declared.fault.Fault.{Fault}
-use Rattle.rules.specs.Faults.{faultNumber}
+use Rattle.task_check.specs.declared.fault.Fault.{Fault}
+use Rattle.task_check.specs.Faults.{faultNumber}
 use Rattle.batch.specs.Batch.{BatchEnd, finished, faulty, DecodedBatch, decodeBatch, tasksDrawn}
 use Rattle.claims.specs.BatchSemantics.{boundsOf}
 use Rattle.records.specs.declared.Edition.{Edition}

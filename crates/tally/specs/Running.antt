@@ -5,7 +5,7 @@ use Prim.Native.Nat.{ℕ, _+_, _-_, _*_}
 use lib.Dec.{eqb, leb}
 use lib.ListN.{getD, set}
 use Rattle.register.specs.declared.task.Task.{Task}
-use Rattle.rules.specs.Faults.{faultNumber}
+use Rattle.task_check.specs.Faults.{faultNumber}
 use Rattle.batch.specs.Batch.{BatchEnd, finished, faulty, DecodedBatch, tasksDrawn}
 use Rattle.records.specs.declared.Edition.{Edition}
 use Rattle.records.specs.declared.Edition.the-variants.{First, Second}

@@ -9,7 +9,7 @@ use Rattle.records.specs.declared.Edition.{Edition}
 use Rattle.records.specs.declared.Edition.the-variants.{First}
 use Rattle.records.specs.declared.Stage.the-variants.{Version}
 use Rattle.records.specs.declared.Taken.{Taken}
-use Rattle.records.specs.Reading.{fileAt, Ready, takenBy, heldAfter}
+use Rattle.records.specs.Reading.{fileAt, ReaderReady, takenBy, heldAfter}
 use Rattle.totals.specs.declared.Totals.{Totals}
 use Rattle.totals.specs.declared.Answer.{Answer}
 use Rattle.totals.specs.Totals.{largest, countAt, Added}
@@ -32,7 +32,7 @@ Adds totals file answer = Added Count position totals (λ count. fileCount count
 -- ---- a piece at a time
 
 -- one of these numbers is too large
-pub record Over (true-counts : Count → ℕ) : Type 0 where
+pub record CountOverflows (true-counts : Count → ℕ) : Type 0 where
   pub count : Count
   pub large : largest < true-counts count
 
@@ -41,7 +41,7 @@ pub record Keeps (true-counts : Count → ℕ) (s : Running) : Type 0 where
   pub size : length (s .counts) ≡ 14
   pub small : (count : Count) → getD (s .counts) (position count) 0 ≤ largest
   pub exact : s .fits ≡ true → (count : Count) → getD (s .counts) (position count) 0 ≡ true-counts count
-  pub over : s .fits ≡ false → Over true-counts
+  pub over : s .fits ≡ false → CountOverflows true-counts
 
 -- the edition: that of the version byte, where none has come yet
 abbrev pub editionFor : Tally → (rest : List ℕ) → Edition
@@ -59,7 +59,7 @@ tallyStart totals = record {
   before = totals;
   edition = First;
   begun = false;
-  reader = record { stage = Version; held = 0 };
+  reader = record { stage = Version; buffered = 0 };
   running = record { fits = true; counts = totals .counts };
 }
 
@@ -96,12 +96,12 @@ tallyAnswer t = cond (t .running .fits) (record { refusal = 0; totals = record {
 pub record Stands (totals : Totals) (seen : List ℕ) (t : Tally) (held : List ℕ) : Type 0 where
   pub before : t .before ≡ totals
   pub room : 32777 ≤ length held
-  pub ready : (rest : List ℕ) → Ready (editionFor t rest) (t .reader) held
+  pub ready : (rest : List ℕ) → ReaderReady (editionFor t rest) (t .reader) held
   pub so-far : Count → ℕ
   pub file : (rest : List ℕ) (count : Count) → fileCount count (seen ++ rest) ≡ so-far count + restCount count t held rest
   pub keeps : Keeps (λ count. totalOf count totals + so-far count) (t .running)
 
 -- after some input more, and it uses a byte of it if there is one
-pub record Feeds (totals : Totals) (seen input : List ℕ) (f : FeedResult) (held : List ℕ) : Type 0 where
+pub record TallyFeedContract (totals : Totals) (seen input : List ℕ) (f : FeedResult) (held : List ℕ) : Type 0 where
   pub stands : Stands totals (seen ++ take (f .used) input) (f .tally) held
   pub some : 1 ≤ length input → 1 ≤ f .used

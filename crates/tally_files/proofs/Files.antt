@@ -11,7 +11,7 @@ use Rattle.totals.specs.declared.Answer.{Answer}
 use Rattle.totals.specs.declared.Outcome.{Outcome}
 use Rattle.totals.specs.declared.FilesOutcome.{FilesOutcome}
 use Rattle.totals.specs.Totals.{unchanged}
-use Rattle.totals.specs.Files.{AddedAll, none, AddsFile, AddsFiles}
+use Rattle.totals.specs.Files.{AddedAll, nil, AddsFile, AddsFiles}
 use Rattle.totals.proofs.Files.{added-last}
 use Rattle.tally_files.specs.Kinds.{AddsOf}
 
@@ -25,7 +25,7 @@ ends false totals file answer A = A .only
 
 module _ (lots : Bool) (totals : Totals) where
   pub files-none : (number : ℕ) → number ≡ 0 → AddsFiles (AddsOf lots) totals number (record { answer = unchanged totals; unread = 0 })
-  files-none number e = record { files = []; added = none; all = λ z. sym e; refused = λ n. absurd (n refl) }
+  files-none number e = record { files = []; added = nil; all = λ z. sym e; refused = λ n. absurd (n refl) }
 
   module _ (number : ℕ) (sum : FilesOutcome) (outcome : Outcome) (none-refused : sum .answer .refusal ≡ 0)
       (F : AddsFiles (AddsOf lots) totals number sum) (A : AddsFile (AddsOf lots) (sum .answer .totals) outcome) where

@@ -12,7 +12,7 @@ use totals::Totals;
 struct Progress {
     tally: Tally,
     more: bool,
-    well: bool,
+    ok: bool,
 }
 
 // ---- reading
@@ -27,14 +27,14 @@ fn read_some(fd: i32, name: &[u8], tally: Tally, held: &mut [u8]) -> Progress
         return Progress {
             tally,
             more: false,
-            well: got.well,
+            ok: got.ok,
         };
     }
     let after = tally_pieces::feed_piece(tally, held, &piece[..got.count]);
     Progress {
         tally: after,
         more: true,
-        well: true,
+        ok: true,
     }
 }
 
@@ -45,7 +45,7 @@ fn read_all(fd: i32, name: &[u8], tally: Tally, held: &mut [u8]) -> Progress
     let mut progress = Progress {
         tally,
         more: true,
-        well: true,
+        ok: true,
     };
     let mut turns = u64::MAX;
     let mut more = true;
@@ -66,7 +66,7 @@ pub fn add_from(fd: i32, name: &[u8], totals: Totals) -> Outcome
     let mut held = [0u8; 32777];
     let begun = tally::start(totals);
     let done = read_all(fd, name, begun, &mut held);
-    if !done.well {
+    if !done.ok {
         return totals::unread(totals);
     }
     let last = done.tally;

@@ -70,12 +70,12 @@ going-all text counts own at k all size O G = sym (take-all k counts (omega arit
 
 module _ (text : List ℕ) (totals : Totals) (F : Finds text (totals .counts)) (C : FourteenCounts (totals .counts)) where
   -- the lines are compared with the text
-  pub reads-by : (line : List ℕ) (well : Bool) → line ≡ totalsText totals → (well ≡ true → line ≡ text) → (line ≡ text → well ≡ true) → Reads text (record { well = well; totals = totals })
-  reads-by line well is then only = record {
+  pub reads-by : (line : List ℕ) (ok : Bool) → line ≡ totalsText totals → (ok ≡ true → line ≡ text) → (line ≡ text → ok ≡ true) → Reads text (record { ok = ok; totals = totals })
+  reads-by line ok is then only = record {
     exact = λ e. sym (then e) ∙ is;
     counts = λ e. C;
     back = λ own O e. let same : totals .counts ≡ own .counts = F (own .counts) O e in (only (is ∙ ap (countLines 0) same ∙ sym e), ap (λ (xs : List ℕ). record { counts = xs }) same);
   }
 
-pub reads-none : (text : List ℕ) (totals : Totals) → ((own : Totals) → FourteenCounts (own .counts) → text ≡ totalsText own → ⊥) → Reads text (record { well = false; totals = totals })
+pub reads-none : (text : List ℕ) (totals : Totals) → ((own : Totals) → FourteenCounts (own .counts) → text ≡ totalsText own → ⊥) → Reads text (record { ok = false; totals = totals })
 reads-none text totals never = record { exact = λ e. absurd (false≢true e); counts = λ e. absurd (false≢true e); back = λ own O e. absurd (never own O e) }

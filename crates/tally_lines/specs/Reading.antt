@@ -16,10 +16,10 @@ pub record FourteenCounts (counts : List ℕ) : Type 0 where
 
 pub record Reads (text : List ℕ) (r : Reading) : Type 0 where
   -- the text is what the totals that were read print, fourteen numbers of 64 bits: any other one is refused
-  pub exact : r .well ≡ true → text ≡ totalsText (r .totals)
-  pub counts : r .well ≡ true → FourteenCounts (r .totals .counts)
+  pub exact : r .ok ≡ true → text ≡ totalsText (r .totals)
+  pub counts : r .ok ≡ true → FourteenCounts (r .totals .counts)
   -- and what totals print reads back as them
-  pub back : (totals : Totals) → FourteenCounts (totals .counts) → text ≡ totalsText totals → (r .well ≡ true) × (r .totals ≡ totals)
+  pub back : (totals : Totals) → FourteenCounts (totals .counts) → text ≡ totalsText totals → (r .ok ≡ true) × (r .totals ≡ totals)
 
 -- Internal: numbers found in a text: those of the counts whose lines it is, if it is that of counts
 abbrev pub Finds : (text counts : List ℕ) → Type 0

@@ -105,7 +105,7 @@ pub fn write_progress(line: &mut [u8], files: usize, of: usize) -> usize
 
 // Whether a text is the lines of totals, and these.
 pub struct Reading {
-    pub well: bool,
+    pub ok: bool,
     pub totals: Totals,
 }
 
@@ -141,13 +141,13 @@ pub fn read(text: &[u8]) -> Reading
 {
     if 672 < text.len() {
         return Reading {
-            well: false,
+            ok: false,
             totals: Totals { counts: [0u64; 14] },
         };
     }
     let totals = find_totals(text);
     let mut line = [0u8; 672];
     let n = write(&mut line, totals);
-    let well = check::same(&line[..n], text);
-    Reading { well, totals }
+    let ok = check::same(&line[..n], text);
+    Reading { ok, totals }
 }

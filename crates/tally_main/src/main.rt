@@ -13,7 +13,7 @@ fn start(from: bool) -> Reading {
         return reading;
     }
     Reading {
-        well: true,
+        ok: true,
         totals: Totals { counts: [0u64; 14] },
     }
 }
@@ -46,7 +46,7 @@ fn main() {
         return;
     }
     let reading = start(from);
-    if !reading.well {
+    if !reading.ok {
         return;
     }
     let totals = reading.totals;

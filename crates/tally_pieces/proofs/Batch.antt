@@ -12,9 +12,9 @@ use Rattle.reset.specs.declared.ResetRule.{ResetRule}
 use Rattle.register.specs.Bank.{resetBank}
 use Rattle.register.specs.declared.bank.Bank.{Bank}
 use Rattle.register.specs.declared.task.Task.{Task}
-use Rattle.rules.specs.declared.fault.Fault.{Fault}
-use Rattle.rules.specs.declared.task.Bounds.{Bounds}
-use Rattle.rules.specs.Faults.{faultNumber}
+use Rattle.task_check.specs.declared.fault.Fault.{Fault}
+use Rattle.task_check.specs.declared.task.Bounds.{Bounds}
+use Rattle.task_check.specs.Faults.{faultNumber}
 use Rattle.batch.specs.declared.walk.WalkStep.{WalkStep}
 use Rattle.batch.specs.declared.walk.WalkStep.the-variants.{Task as Next, Faulty as Stop, End}
 use Rattle.batch.specs.Batch.{DecodedBatch, decodeBatch}
@@ -25,7 +25,7 @@ use Rattle.records.specs.declared.Edition.{Edition}
 use Rattle.records.specs.declared.Edition.the-variants.{First, Second}
 use Rattle.records.specs.Records.{Entry}
 use Rattle.records.specs.Reading.{batchStart, entryIn}
-use Rattle.editions.specs.Editions.{resetOf, scoreHolds, submission, scoreIn}
+use Rattle.editions.specs.Editions.{resetRuleOf, scoreHolds, submission, scoreIn}
 use Rattle.editions.proofs.Records.{score-in, submission-in}
 use Rattle.lines.specs.Answered.{recordRefusal, replayWindow}
 use Rattle.acceptance.specs.declared.Submitted.{Submitted}
@@ -60,7 +60,7 @@ module _ (edition : Edition) (entry : Entry) (s : Running) (r : Submitted) (is :
           absurd (let z : _≡_ {A = ℕ} 0 1 = cc in omega arith)
       go false took = rw took
 
-  pub submitted-within : (bounds : Bounds) → r ≡ Within bounds → (rule : ResetRule) → rule ≡ resetOf edition → (out : Running)
+  pub submitted-within : (bounds : Bounds) → r ≡ Within bounds → (rule : ResetRule) → rule ≡ resetRuleOf edition → (out : Running)
       → out ≡ ranPlus (decodeBatch bounds (resetBank rule) (batchWords (entry .batch) 0 (length (entry .batch)))) s → out ≡ submittedPlus edition entry s
   submitted-within bounds e rule rule-is out out-is = go (eqb (recordRefusal entry) 0) refl
     where

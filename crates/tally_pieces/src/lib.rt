@@ -6,27 +6,27 @@ ghost use Prim.Native.Nat.{ℕ, _-_, _*_, _≤_, _<_};
 ghost use lib.ListN.{length};
 ghost use Rattle.ring.specs.Segment.{batchWords};
 ghost use Rattle.register.specs.Bank.{resetBank};
-ghost use Rattle.rules.specs.Faults.{faultNumber};
+ghost use Rattle.task_check.specs.Faults.{faultNumber};
 ghost use Rattle.batch.specs.Batch.{decodeBatch};
 ghost use Rattle.records.specs.declared.Found.the-variants.{Record as OneRecord};
 ghost use Rattle.records.specs.Reading.{entryIn, Lies};
 ghost use Rattle.totals.specs.declared.Totals.{Totals};
 ghost use Rattle.tally.specs.Counts.{editionOf};
 ghost use Rattle.tally.specs.Running.{plus, taskPlus, ranPlus, unscoredPlus, submittedPlus, recordPlus, foundPlus};
-ghost use Rattle.tally.specs.Tally.{fedBy, heldBy, Stands, Feeds};
+ghost use Rattle.tally.specs.Tally.{fedBy, heldBy, Stands, TallyFeedContract};
 use acceptance::Submitted;
 use batch::WalkStep;
-use batch::next_task;
+use decoder::next_task;
 use records::Edition;
 use records::Found;
 use register::Bank;
 use register::Task;
 use reset::ResetRule;
-use rules::Bounds;
-use rules::Fault;
 use tally::FeedResult;
 use tally::Running;
 use tally::Tally;
+use task_check::Bounds;
+use task_check::Fault;
 
 // ---- counting
 
@@ -115,7 +115,12 @@ fn add_submitted(running: Running, edition: Edition, client: u32, batch: &[u8]) 
     let submitted = acceptance::accept(client, batch);
     match submitted {
         Submitted::Refused => running,
-        Submitted::Within(bounds) => add_batch(running, batch, bounds, editions::reset_of(edition)),
+        Submitted::Within(bounds) => add_batch(
+            running,
+            batch,
+            bounds,
+            editions::reset_rule_of(edition),
+        ),
     }
 }
 
@@ -184,7 +189,7 @@ fn edition_for(begun: bool, edition: Edition, input: &[u8]) -> Edition
 pub fn feed(tally: Tally, held: &mut [u8], input: &[u8]) -> FeedResult
     ensures { λ r. ⌜ (r .used ≤ length (now (input .entry)))
         × (r ≡ fedBy tally (now (held .entry)) (now (input .entry))) × (now (held .exit) ≡ heldBy tally (now (held .entry)) (now (input .entry)))
-        × ((totals : Totals) (seen : List ℕ) → Stands totals seen tally (now (held .entry)) → Feeds totals seen (now (input .entry)) r (now (held .exit))) ⌝ }
+        × ((totals : Totals) (seen : List ℕ) → Stands totals seen tally (now (held .entry)) → TallyFeedContract totals seen (now (input .entry)) r (now (held .exit))) ⌝ }
 {
     if input.len() == 0 {
         return FeedResult {

@@ -18,7 +18,7 @@ use Rattle.pixel.proofs.Kept.{word-colour}
 use Rattle.division.proofs.Products.{scaled-byte}
 use Rattle.gradient.specs.declared.Steps.{Steps}
 use Rattle.register.specs.declared.bank.Bank.{Bank}
-use Rattle.rules.specs.declared.task.Bounds.{Bounds}
+use Rattle.task_check.specs.declared.task.Bounds.{Bounds}
 use Rattle.batch.specs.Batch.{decodeBatch}
 use Rattle.batch.specs.Marks.{taskEndCount}
 use Rattle.encoder.specs.declared.Answer.{Answer}
@@ -33,7 +33,7 @@ use Rattle.score.specs.Coverage.{isScore, coverageOf}
 use Rattle.tint.specs.declared.Tint.{Tint}
 use Rattle.tint.specs.declared.Answer.the-variants.{BadScore, Encoded}
 use Rattle.tint.specs.Tint.{tintColour, tintFields, fieldsOf, answerOf, bufferAfter}
-use Rattle.tint.specs.ReadsBack.{tintTask, Handed, ReadsBack}
+use Rattle.tint.specs.ReadsBack.{tintTask, Handed, TintRoundTrip}
 use Rattle.tint.proofs.Cases.{scored}
 
 coverage-byte : (score : Float) → coverageOf score ≤ 255
@@ -83,18 +83,18 @@ module _ (score : Float) (tint : Tint) (output : SurfaceFields) (h : Handed tint
   after : (buffer : List ℕ) → isScore score ≡ true → bufferAfter score tint output buffer ≡ encoder.bufferAfter (firstForm (fieldsOf score tint output)) buffer
   after buffer e = sym (scored score tint output buffer e .1)
 
-  pub tint-reads-back : (bounds : Bounds) (bank : Bank) → ReadsBack bounds bank score tint output
+  pub tint-reads-back : (bounds : Bounds) (bank : Bank) → TintRoundTrip bounds bank score tint output
   unfolding allBytes
   tint-reads-back bounds bank = record {
-    one = λ buffer e.
+    one-task = λ buffer e.
         let w = written (length buffer) e in
         ap (λ (b : List ℕ). decodeBatch bounds bank (words (take 80 b))) (after buffer (w .0))
-        ∙ reads-back bounds bank .one (firstForm (fieldsOf score tint output)) buffer plain (w .1);
-    marked = λ buffer e.
+        ∙ reads-back bounds bank .one-task (firstForm (fieldsOf score tint output)) buffer plain (w .1);
+    one-task-end = λ buffer e.
         let w = written (length buffer) e in
         let f = firstForm (fieldsOf score tint output) in
         ap (λ (b : List ℕ). taskEndCount (words (take 80 b))) (after buffer (w .0))
         ∙ ap (λ (b : List ℕ). taskEndCount (words b)) (front f buffer (w .1) ∙ sym (append-nil (encoder.taskBytes f)))
-        ∙ reads-back bounds bank .marked (f ∷ []) (accepted f (length buffer) (w .1) .0, tt) (plain, tt);
-    same = same (bank .steps);
+        ∙ reads-back bounds bank .one-task-end-each (f ∷ []) (accepted f (length buffer) (w .1) .0, tt) (plain, tt);
+    same-task = same (bank .steps);
   }

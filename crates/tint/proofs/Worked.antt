@@ -13,7 +13,7 @@ use Rattle.encoder.specs.Words.{taskWords}
 use Rattle.encoder.specs.Forms.{firstForm, formWords}
 use Rattle.encoder.specs.Encoder as encoder
 use Rattle.tint.specs.declared.Tint.{Tint}
-use Rattle.tint.specs.Tint.{tintColour, tintFields, fieldsOf, numberOf, answerOf}
+use Rattle.tint.specs.Tint.{tintColour, tintFields, fieldsOf, tintRefusalOf, answerOf}
 
 abbrev half : Float
 half = ofBits binary32 0x3F000000
@@ -36,7 +36,7 @@ unfolding taskWords bankOf surfaceRegisters sourceControl destinationControl ble
 worked-words = refl
 
 abbrev number : Float → SurfaceFields → ℕ → ℕ
-number score output size = numberOf (answerOf score orange output size)
+number score output size = tintRefusalOf (answerOf score orange output size)
 
 -- 15 before 24, 24 before 12; a side of 0 is written
 pub edges :

@@ -19,7 +19,7 @@ use Rattle.register.specs.declared.task.Alpha.{Alpha}
 use Rattle.register.specs.declared.task.Source.{Source}
 use Rattle.register.specs.declared.task.SourceMode.the-variants.{Colour}
 use Rattle.register.specs.declared.task.Task.{Task}
-use Rattle.rules.specs.declared.task.Bounds.{Bounds}
+use Rattle.task_check.specs.declared.task.Bounds.{Bounds}
 use Rattle.batch.specs.Batch.{decodeBatch}
 use Rattle.batch.specs.Marks.{taskEndCount}
 use Rattle.encoder.specs.declared.Answer.the-variants.{Written}
@@ -63,12 +63,12 @@ pub record Handed (tint : Tint) (output : SurfaceFields) : Type 0 where
   pub blue : tint .blue < 256
   pub address : output .address < 2 ^ 32
 
-pub record ReadsBack (bounds : Bounds) (bank : Bank) (score : Float) (tint : Tint) (output : SurfaceFields) : Type 0 where
+pub record TintRoundTrip (bounds : Bounds) (bank : Bank) (score : Float) (tint : Tint) (output : SurfaceFields) : Type 0 where
   -- what is left in a buffer that was written is read as the one task with these fields, and 25 to 28 are judged of them
-  pub one : (buffer : List ℕ) → answerOf score tint output (length buffer) ≡ Encoded Written →
+  pub one-task : (buffer : List ℕ) → answerOf score tint output (length buffer) ≡ Encoded Written →
       decodeBatch bounds bank (words (take 80 (bufferAfter score tint output buffer))) ≡ expectedDecoding bounds bank 0 (firstForm (fieldsOf score tint output) ∷ [])
   -- it has one task-end mark
-  pub marked : (buffer : List ℕ) → answerOf score tint output (length buffer) ≡ Encoded Written →
+  pub one-task-end : (buffer : List ℕ) → answerOf score tint output (length buffer) ≡ Encoded Written →
       taskEndCount (words (take 80 (bufferAfter score tint output buffer))) ≡ 1
   -- and these fields are those of the tint, no other
-  pub same : taskWith (bank .steps) (fieldsOf score tint output) ≡ tintTask (bank .steps) tint (coverageOf score) output
+  pub same-task : taskWith (bank .steps) (fieldsOf score tint output) ≡ tintTask (bank .steps) tint (coverageOf score) output

@@ -41,10 +41,10 @@ abbrev pub fieldsOf : Float → Tint → SurfaceFields → Fields
 fieldsOf score tint output = tintFields tint (coverageOf score) output
 
 -- the paper's number of each refusal
-abbrev pub numberOf : Answer → ℕ
+abbrev pub tintRefusalOf : Answer → ℕ
 -- NaN or outside 0 to 1
-numberOf BadScore = 15
-numberOf (Encoded answer) = encoder.encodeRefusalOf answer
+tintRefusalOf BadScore = 15
+tintRefusalOf (Encoded answer) = encoder.encodeRefusalOf answer
 
 -- for a buffer of this length: 15, "before 24 and 12"
 unfoldable pub answerOf : Float → Tint → SurfaceFields → ℕ → Answer

@@ -4,7 +4,7 @@ ghost use mathlib.Core.Path.{_≡_};
 ghost use Prim.Native.Nat.{_*_};
 ghost use lib.ListN.{length};
 ghost use Rattle.division.specs.Division.{div255};
-ghost use Rattle.tint.specs.Tint.{tintColour, tintFields, numberOf, answerOf, bufferAfter};
+ghost use Rattle.tint.specs.Tint.{tintColour, tintFields, tintRefusalOf, answerOf, bufferAfter};
 use encoder::AlphaFields;
 use encoder::BlendingFields;
 use encoder::DestinationFields;
@@ -32,7 +32,7 @@ pub enum Answer {
 impl Answer {
     // The papers' number of a refusal, 0 without one.
     pub fn number(self) -> u32
-        ensures { λ r. ⌜ r ≡ numberOf self ⌝ }
+        ensures { λ r. ⌜ r ≡ tintRefusalOf self ⌝ }
     {
         match self {
             Answer::BadScore => 15,

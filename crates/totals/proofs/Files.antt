@@ -7,14 +7,14 @@ use Rattle.totals.specs.declared.Totals.{Totals}
 use Rattle.totals.specs.declared.Answer.{Answer}
 use Rattle.totals.specs.declared.Outcome.{Outcome}
 use Rattle.totals.specs.Totals.{unchanged}
-use Rattle.totals.specs.Files.{Files, AddedAll, none, more, AddsFile}
+use Rattle.totals.specs.Files.{Files, AddedAll, nil, cons, AddsFile}
 
 module _ (Adds : Totals → List ℕ → Answer → Type 0) where
   -- one file after the others
   pub added-last : (totals before : Totals) (files : Files) (file : List ℕ) (answer : Answer)
       → AddedAll Adds totals files before → Adds before file answer → answer .refusal ≡ 0 → AddedAll Adds totals (files ++ (file ∷ [])) (answer .totals)
-  added-last totals before files file answer none A e = more A e none
-  added-last totals before files file answer (more B f T) A e = more B f (added-last _ before _ file answer T A e)
+  added-last totals before files file answer nil A e = cons A e nil
+  added-last totals before files file answer (cons B f T) A e = cons B f (added-last _ before _ file answer T A e)
 
   -- ---- a file that could be read, and one that could not
 

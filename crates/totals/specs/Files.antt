@@ -16,8 +16,8 @@ Files = List (List ℕ)
 
 -- the totals after these files, each added as promised, and none refused
 pub data AddedAll (Adds : Totals → (file : List ℕ) → Answer → Type 0) : Totals → Files → Totals → Type 0 where
-  none : {totals : Totals} → AddedAll Adds totals [] totals
-  more : {totals after : Totals} {file : List ℕ} {files : Files} {answer : Answer}
+  nil : {totals : Totals} → AddedAll Adds totals [] totals
+  cons : {totals after : Totals} {file : List ℕ} {files : Files} {answer : Answer}
       → Adds totals file answer → answer .refusal ≡ 0 → AddedAll Adds (answer .totals) files after → AddedAll Adds totals (file ∷ files) after
 
 -- ---- what the system reads: which bytes of a file, and whether it can read them, no contract can say

@@ -30,10 +30,10 @@ typed-size room bytes bytes′ text n size fits e = ap (λ (l : Line). l .end) (
 -- ---- read and added
 
 module _ (totals : Totals) (text : List ℕ) (reading : Reading) (R : Reads text reading) where
-  pub text-none : reading .well ≡ false → AddsText totals text (unchanged totals)
+  pub text-none : reading .ok ≡ false → AddsText totals text (unchanged totals)
   text-none bad = record { lines = λ other O e. absurd (false≢true (sym bad ∙ R .back other O e .0)); nothing = λ never. refl; only = inl refl }
 
-  pub text-some : (answer : Answer) → reading .well ≡ true → AddsTotals totals (reading .totals) answer → AddsText totals text answer
+  pub text-some : (answer : Answer) → reading .ok ≡ true → AddsTotals totals (reading .totals) answer → AddsText totals text answer
   text-some answer good A = record {
     lines = λ other O e. rw (R .back other O e .1) at A;
     nothing = λ never. absurd (never (reading .totals) (R .counts good) (R .exact good));
@@ -41,15 +41,15 @@ module _ (totals : Totals) (text : List ℕ) (reading : Reading) (R : Reads text
   }
 
 pub lot-of : (totals : Totals) (file : TotalsFile) (answer : Answer) → ReadsFile file
-    → (file .reading .well ≡ true → AddsTotals totals (file .reading .totals) answer) → (file .reading .well ≡ false → answer ≡ unchanged totals)
+    → (file .reading .ok ≡ true → AddsTotals totals (file .reading .totals) answer) → (file .reading .ok ≡ false → answer ≡ unchanged totals)
     → AddsFile AddsText totals (record { read = file .read; answer = answer })
-lot-of totals file answer F some never = record { file = F .text; added = λ e. text-is (F .read e) (file .reading .well) refl; unread = λ e. never (F .unread e) }
+lot-of totals file answer F some never = record { file = F .text; added = λ e. text-is (F .read e) (file .reading .ok) refl; unread = λ e. never (F .unread e) }
   where
-    text-is : Reads (F .text) (file .reading) → (well : Bool) → file .reading .well ≡ well → AddsText totals (F .text) answer
+    text-is : Reads (F .text) (file .reading) → (ok : Bool) → file .reading .ok ≡ ok → AddsText totals (F .text) answer
     text-is R true good = text-some totals (F .text) (file .reading) R answer good (some good)
     text-is R false bad = rw (never bad) (text-none totals (F .text) (file .reading) R bad)
 
-pub no-file : (totals : Totals) → ReadsFile (record { read = false; reading = record { well = false; totals = totals } })
+pub no-file : (totals : Totals) → ReadsFile (record { read = false; reading = record { ok = false; totals = totals } })
 no-file totals = record { text = []; read = λ e. absurd (false≢true e); unread = λ e. refl }
 
 pub some-file : (text : List ℕ) (reading : Reading) → Reads text reading → ReadsFile (record { read = true; reading = reading })

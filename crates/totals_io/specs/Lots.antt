@@ -21,4 +21,4 @@ pub record AddsText (totals : Totals) (text : List ℕ) (answer : Answer) : Type
 pub record ReadsFile (r : TotalsFile) : Type 0 where
   pub text : List ℕ
   pub read : r .read ≡ true → Reads text (r .reading)
-  pub unread : r .read ≡ false → r .reading .well ≡ false
+  pub unread : r .read ≡ false → r .reading .ok ≡ false

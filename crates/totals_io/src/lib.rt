@@ -66,7 +66,7 @@ fn no_file() -> TotalsFile
     TotalsFile {
         read: false,
         reading: Reading {
-            well: false,
+            ok: false,
             totals: Totals { counts: [0u64; 14] },
         },
     }
@@ -82,14 +82,14 @@ fn read_text(fd: i32, name: &[u8], text: &mut [u8]) -> Piece
         if got.count == 0 {
             return Piece {
                 count: end,
-                well: got.well,
+                ok: got.ok,
             };
         }
         end += got.count;
     }
     Piece {
         count: end,
-        well: true,
+        ok: true,
     }
 }
 
@@ -99,11 +99,11 @@ fn read_from(fd: i32, name: &[u8]) -> TotalsFile
 {
     let mut text = [0u8; 1024];
     let got = read_text(fd, name, &mut text);
-    if !got.well {
+    if !got.ok {
         return no_file();
     }
     let reading = tally_lines::read(&text[..got.count]);
-    if !reading.well {
+    if !reading.ok {
         command::complain(name, b" does not hold printed totals\n");
     }
     TotalsFile {
@@ -131,9 +131,9 @@ pub fn read_argument(index: usize) -> TotalsFile
 
 // Adds the totals that were read of a text. Of a text that is not that of totals nothing is added.
 pub fn add_reading(totals: Totals, reading: Reading) -> Answer
-    ensures { λ r. ⌜ (reading .well ≡ true → AddsTotals totals (reading .totals) r) × (reading .well ≡ false → r ≡ unchanged totals) ⌝ }
+    ensures { λ r. ⌜ (reading .ok ≡ true → AddsTotals totals (reading .totals) r) × (reading .ok ≡ false → r ≡ unchanged totals) ⌝ }
 {
-    if !reading.well {
+    if !reading.ok {
         return Answer {
             refusal: 0,
             totals: totals,

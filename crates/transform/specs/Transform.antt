@@ -1,12 +1,17 @@
 -- Where an output pixel comes from (01, "Pixels": flips come before the turn; 000, Flip/Rotation0).
 use Prim.Native.Nat.{ℕ, _-_, _<_}
 use mathlib.Core.Bool.{Bool, cond}
+use lib.Dec.{eqb}
 use Rattle.transform.specs.declared.Rotation.{Rotation}
 use Rattle.transform.specs.declared.Rotation.the-variants.{Rotate0, Rotate90, Rotate180, Rotate270}
 use Rattle.transform.specs.declared.Flip.{Flip}
 use Rattle.transform.specs.declared.Transform.{Transform}
 use Rattle.transform.specs.declared.Size.{Size}
 use Rattle.transform.specs.declared.Point.{Point}
+
+-- quarter turns clockwise (01: the turn), 0 to 3, as bits 5:4 of a source control word have them (01, "Groups and registers")
+abbrev pub rotationOf : ℕ → Rotation
+rotationOf code = cond (eqb code 0) Rotate0 (cond (eqb code 1) Rotate90 (cond (eqb code 2) Rotate180 Rotate270))
 
 -- the size of a picture of this size, rotated
 abbrev pub rotatedSize : Rotation → Size → Size

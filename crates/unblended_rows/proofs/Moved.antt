@@ -33,8 +33,8 @@ use Rattle.register.specs.declared.task.Task.{Task}
 use Rattle.register.specs.Size.{sizeOf}
 use Rattle.kinds.specs.Kinds.{sourceInWindow}
 use Rattle.raster.proofs.Parts.{MovedTask}
-use Rattle.rows.specs.Row.{colourAt, sourcePixelOf}
-use Rattle.rows.proofs.Straight.{upright-x, upright-y, side-by-side}
+use Rattle.row_pixels.specs.Row.{colourAt, sourcePixelOf}
+use Rattle.row_pixels.proofs.Straight.{upright-x, upright-y, side-by-side}
 use Rattle.raster.specs.Task.{sourceModeColour, sourceColour, pixelColour}
 use Rattle.raster.specs.Row.{RowDrawable, rowDrawn}
 use Rattle.raster.proofs.Pixel.{pixel-plain}
@@ -63,8 +63,8 @@ rows-apart s o from to n v y apart lv ly is-from is-to in-s in-o =
     ⊎-elim
     (λ (b : from < to + n).
     ⊎-elim
-    (λ (c : from < to). absurd (apart to v (to - from) y 0 (record { row = lv; column = omega arith; is = omega arith }) (record { row = ly; column = omega arith; is = omega arith })))
-    (λ (c : to ≤ from). absurd (apart from v 0 y (from - to) (record { row = lv; column = omega arith; is = omega arith }) (record { row = ly; column = omega arith; is = omega arith })))
+    (λ (c : from < to). absurd (apart to v (to - from) y 0 (record { row = lv; column = omega arith; address = omega arith }) (record { row = ly; column = omega arith; address = omega arith })))
+    (λ (c : to ≤ from). absurd (apart from v 0 y (from - to) (record { row = lv; column = omega arith; address = omega arith }) (record { row = ly; column = omega arith; address = omega arith })))
     (split from to))
     (λ (b : to + n ≤ from). inr b)
     (split from (to + n)))

@@ -19,7 +19,7 @@ use register::SourceMode;
 use register::Task;
 use row_copy::fetch_bytes;
 use row_copy::store_bytes;
-use rows::identity_row_start;
+use row_pixels::identity_row_start;
 use scanline::fill_row;
 use surface::Surface;
 use transform::mirror;

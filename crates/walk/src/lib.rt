@@ -8,11 +8,11 @@ ghost use Rattle.raster.specs.Batch.{drawBatch};
 ghost use Rattle.raster.specs.Preconditions.{Drawable, BoundsInMemory};
 use batch::Verdict;
 use batch::WalkStep;
-use batch::next_task;
+use decoder::next_task;
 use range::Range;
 use register::Bank;
 use register::Task;
-use rules::Bounds;
+use task_check::Bounds;
 
 // Draws a task: row by row, or by the slow engine each pixel by itself.
 fn draw_task(memory: &mut [u8], window: Range, task: Task, slow: bool)

@@ -403,7 +403,7 @@ uint32_t wenditsal_encode_tint(
  * wenditsal_inverse returns the setting that undoes one: composed with it, on either side, it is 0.
  *
  * Two settings draw every picture alike exactly if they are alike or differ in both flips and by two quarter turns: a ^ 0xE0 draws as a does.
- * (Sixteen settings are eight orientations. A picture of 2 by 2 different pixels tells them apart.)
+ * (Sixteen settings are eight orientations. A picture of 2 by 2 different pixels distinguishes them.)
  */
 uint32_t wenditsal_compose(uint32_t first, uint32_t second);
 uint32_t wenditsal_inverse(uint32_t setting);

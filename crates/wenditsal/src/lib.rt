@@ -6,9 +6,9 @@ ghost use Rattle.reset.specs.Reset.{ruleOf};
 ghost use Rattle.orientation.specs.Compose.{compose, inverse};
 ghost use Rattle.orientation.specs.Bits.{settingOf, bitsOf};
 ghost use Rattle.encoder.specs.Encoder.{encodeRefusalOf, answerOf, bufferAfter};
-ghost use Rattle.session.specs.Played.{ScriptResult};
+ghost use Rattle.script_player.specs.Played.{ScriptResult};
 ghost use Rattle.calls.specs.Calls.{SetsUp, Opens, Submits, Begins, HandsOver, Cancels, Closes, Pends, Runs};
-ghost use Rattle.tint.specs.Tint.{numberOf as tintNumber, answerOf as tintAnswer, bufferAfter as tintBuffer};
+ghost use Rattle.tint.specs.Tint.{tintRefusalOf, answerOf as tintAnswer, bufferAfter as tintBuffer};
 use encoder::Fields;
 use encoder::SurfaceFields;
 use gradient::Steps;
@@ -32,7 +32,7 @@ pub extern "C" fn wenditsal_play(
         (now (ring .entry)) (now (memory .entry)) (now (script .entry)) (now (answers .entry))
         r (now (ring .exit)) (now (memory .exit)) (now (answers .exit)) ⌝ }
 {
-    session::play(
+    script_player::play(
         ring_length,
         memory_length,
         common_length,
@@ -63,15 +63,10 @@ pub extern "C" fn wenditsal_set_up(
 
 // Opens a client with a window; answers its id.
 #[no_mangle]
-pub extern "C" fn wenditsal_open(
-    engine: &mut [u8],
-    start: u32,
-    length: u32,
-    client: &mut u32,
-) -> u32
-    ensures { λ r. ⌜ Opens (now (engine .entry)) (record { start = start; length = length }) r (now (client .exit)) (now (engine .exit)) ⌝ }
+pub extern "C" fn wenditsal_open(engine: &mut [u8], start: u32, size: u32, client: &mut u32) -> u32
+    ensures { λ r. ⌜ Opens (now (engine .entry)) (record { start = start; length = size }) r (now (client .exit)) (now (engine .exit)) ⌝ }
 {
-    client_calls::open(engine, start, length, client)
+    client_calls::open(engine, start, size, client)
 }
 
 // Puts a client's batch into the ring and the queue; answers its ticket.
@@ -198,7 +193,7 @@ pub extern "C" fn wenditsal_encode_tint(
     buffer: &mut [u8],
 ) -> u32
     ensures { λ r. ⌜
-        (r ≡ tintNumber (tintAnswer score (record { red = red; green = green; blue = blue }) output (length (now (buffer .entry)))))
+        (r ≡ tintRefusalOf (tintAnswer score (record { red = red; green = green; blue = blue }) output (length (now (buffer .entry)))))
         × (now (buffer .exit) ≡ tintBuffer score (record { red = red; green = green; blue = blue }) output (now (buffer .entry)))
         ⌝ }
 {

@@ -22,8 +22,8 @@ use Rattle.surface.proofs.Parts.{Side, before, inside, past, side, length-mid, 
 use Rattle.register.specs.declared.task.Alpha.{Alpha}
 use Rattle.register.specs.declared.task.Blending.{Blending}
 use Rattle.register.specs.declared.task.Task.{Task}
-use Rattle.rows.specs.Row.{colourIn, sourcePixelOf}
-use Rattle.rows.specs.Mixed.{composite}
+use Rattle.row_pixels.specs.Row.{colourIn, sourcePixelOf}
+use Rattle.row_pixels.specs.Composite.{composite}
 use Rattle.lanes.specs.Lanes.{Done}
 use Rattle.lanes.proofs.Laws.{under-or}
 use Rattle.lanes.proofs.Passes.{to-end}

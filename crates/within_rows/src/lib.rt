@@ -13,7 +13,7 @@ use plan::Plan;
 use plan::plan_of;
 use range::Range;
 use register::Task;
-use rows::identity_row_start;
+use row_pixels::identity_row_start;
 
 // Draws row y of such a task. No output row meets a row of the source.
 fn within_row(memory: &mut [u8], window: Range, task: Task, plan: Plan, y: u16)

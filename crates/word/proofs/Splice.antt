@@ -1,4 +1,4 @@
--- Laws of `spliced`: its length, each of its elements, its parts, and a run of stores.
+-- Laws of `spliced`: its length, each of its elements, its parts, and stores one after another.
 use mathlib.Core.Path.{_≡_, refl, ap, sym, _∙_}
 use mathlib.Core.List.{List, [], _++_, append-assoc}
 use Prim.Native.Nat.{ℕ, _+_, _-_, _≤_, _<_}

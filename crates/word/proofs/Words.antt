@@ -51,7 +51,7 @@ getD-words (suc k) (a ∷ b ∷ c ∷ d ∷ rest) h =
     let e3 : 4 * suc k + 3 ≡ suc (suc (suc (suc (4 * k + 3)))) = omega arith in
     rw (e3, e2, e1, e0) ih
 
--- what a word's bytes spell
+-- the number that a word's bytes hold
 pub words-leBytes : (word : ℕ) (rest : List ℕ) → word < 2 ^ 32 → words (byteOf word 0 ∷ byteOf word 1 ∷ byteOf word 2 ∷ byteOf word 3 ∷ rest) ≡ word ∷ words rest
 unfolding words
 words-leBytes word rest small = ap (λ (w : ℕ). w ∷ words rest) (le32-bytes word small)

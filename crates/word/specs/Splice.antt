@@ -1,4 +1,4 @@
--- A run of elements put in the place of as many others.
+-- A range of a list's elements, replaced by as many others.
 use Prim.Native.Nat.{ℕ, _+_}
 use mathlib.Core.List.{List, _++_}
 use lib.ListN.{length, take, drop}

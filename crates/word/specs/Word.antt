@@ -1,8 +1,13 @@
 -- 32-bit words in bytes. A batch's words are little-endian (01, "Groups and registers"), the length of a replay record is
 -- big-endian (01, "Writer and replay").
-use Prim.Native.Nat.{ℕ, _+_, _*_, _/_, _%_, _^_}
+use Prim.Native.Nat.{ℕ, _+_, _*_, _/_, _%_, _^_, _<_}
 use mathlib.Core.List.{List, [], _∷_, _++_}
 use lib.ListN.{getD}
+
+-- each of the numbers is a byte: what is lent and what a script holds is bytes (01, "Engine, desks, queue")
+abbrev pub AllBytes : List ℕ → Type 0
+AllBytes [] = Unit {0}
+AllBytes (b ∷ bs) = (b < 2 ^ 8) × AllBytes bs
 
 -- byte k of a number, byte 0 the lowest
 unfoldable pub byteOf : ℕ → ℕ → ℕ

@@ -139,8 +139,8 @@ fn replay_file(trials: &mut Trials, random: &mut Random, round: u64) -> Agreed {
     let mut lines = String::new();
     for record in records {
         let client = record.client.into();
-        let told = trials.call(&Call::Submit { client, batch: record.batch }, &mut buffers)?;
-        lines += &match told.number {
+        let answered = trials.call(&Call::Submit { client, batch: record.batch }, &mut buffers)?;
+        lines += &match answered.number {
             0 => completion_line(trials.call(&Call::Run, &mut buffers)?),
             number => format!("{client} - - {number} 0\n"),
         };

@@ -12,9 +12,9 @@ fn changes(first: &Outcome, second: &Outcome) -> Vec<String> {
     let memory = first.memory.iter().zip(&second.memory).position(|(a, b)| a != b);
     let memory = memory.map(|at| format!("the orders leave another byte {at} of memory"));
     let clients = first.completions.iter().zip(&second.completions).enumerate();
-    let told = clients.filter(|(_, (a, b))| a != b);
-    let told = told.map(|(client, (a, b))| format!("completions of client {client}: {a:X?} and {b:X?}"));
-    memory.into_iter().chain(told).collect()
+    let differing = clients.filter(|(_, (a, b))| a != b);
+    let differing = differing.map(|(client, (a, b))| format!("completions of client {client}: {a:X?} and {b:X?}"));
+    memory.into_iter().chain(differing).collect()
 }
 
 /// Plays both orders. All that differs: from the independent program, or between the two.

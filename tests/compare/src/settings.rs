@@ -69,10 +69,10 @@ fn pairs() -> impl Iterator<Item = (Setting, Setting)> {
 
 /// Whether all settings agree with the pictures.
 pub fn compare() -> bool {
-    let told = |name: &str, holds: bool| println!("{name}: {}", if holds { "as it should be" } else { "WRONG" });
+    let report = |name: &str, holds: bool| println!("{name}: {}", if holds { "as it should be" } else { "WRONG" });
     let (drawn, orientations, laws) = (pairs().all(|(a, b)| pair_agrees(a, b)), orientations_agree(), laws_hold());
-    told("256 pairs of settings, drawn twice and at once, 6 sizes in 3 formats", drawn);
-    told("the 2 by 2 picture is drawn alike by settings of one orientation and by no others", orientations);
-    told("inverses, and 4,096 threes", laws);
+    report("256 pairs of settings, drawn twice and at once, 6 sizes in 3 formats", drawn);
+    report("the 2 by 2 picture is drawn alike by settings of one orientation and by no others", orientations);
+    report("inverses, and 4,096 threes", laws);
     drawn && orientations && laws
 }

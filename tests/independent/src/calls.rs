@@ -34,16 +34,16 @@ pub struct Answer {
 }
 
 impl Answer {
-    fn of(told: Result<[u32; 5], Refusal>) -> Self {
-        match told {
+    fn of(answered: Result<[u32; 5], Refusal>) -> Self {
+        match answered {
             Ok(values) => Answer { number: 0, values },
             Err(number) => Answer { number, values: [0; 5] },
         }
     }
 
     /// Of a call that answers one number.
-    fn of_one(told: Result<u32, Refusal>) -> Self {
-        Answer::of(told.map(|value| [value, 0, 0, 0, 0]))
+    fn of_one(answered: Result<u32, Refusal>) -> Self {
+        Answer::of(answered.map(|value| [value, 0, 0, 0, 0]))
     }
 }
 
@@ -85,9 +85,9 @@ fn on_record(call: &Call, record: &mut Record, buffers: &mut Buffers) -> Answer 
         Call::Cancel { client } => Answer::of_one(record.cancel(client).map(|()| 0)),
         Call::Close { client } => Answer::of_one(record.close(&mut buffers.memory, client).map(|()| 0)),
         Call::Run => {
-            let told = record.run(&buffers.ring, &mut buffers.memory);
+            let answered = record.run(&buffers.ring, &mut buffers.memory);
             Answer::of(
-                told.map(|Completion { client, ticket, status, fault, place }| [client, ticket, status, fault, place]),
+                answered.map(|Completion { client, ticket, status, fault, place }| [client, ticket, status, fault, place]),
             )
         }
     }
@@ -101,14 +101,14 @@ mod tests {
     fn every_call() {
         let mut buffers = Buffers { engine: vec![7; 272], ring: vec![1; 128], memory: vec![2; 256] };
         let numbers = Numbers { ring: 128, memory: 256, common: 64 };
-        let mut told = |asked: &Call| call(asked, &mut buffers);
-        assert_eq!(told(&Call::Pending { client: 0 }).number, 11);
-        assert_eq!(told(&Call::SetUp(numbers, 1)).number, 0);
-        assert_eq!(told(&Call::Open { start: 64, length: 64 }), Answer { number: 0, values: [0; 5] });
-        assert_eq!(told(&Call::Submit { client: 0, batch: &[9; 4] }).number, 0);
-        assert_eq!(told(&Call::Pending { client: 0 }).values, [1, 0, 0, 0, 0]);
-        assert_eq!(told(&Call::Run).values, [0, 0, 2, 20, 0]);
-        assert_eq!(told(&Call::Run), Answer { number: 9, values: [0; 5] });
+        let mut answered = |asked: &Call| call(asked, &mut buffers);
+        assert_eq!(answered(&Call::Pending { client: 0 }).number, 11);
+        assert_eq!(answered(&Call::SetUp(numbers, 1)).number, 0);
+        assert_eq!(answered(&Call::Open { start: 64, length: 64 }), Answer { number: 0, values: [0; 5] });
+        assert_eq!(answered(&Call::Submit { client: 0, batch: &[9; 4] }).number, 0);
+        assert_eq!(answered(&Call::Pending { client: 0 }).values, [1, 0, 0, 0, 0]);
+        assert_eq!(answered(&Call::Run).values, [0, 0, 2, 20, 0]);
+        assert_eq!(answered(&Call::Run), Answer { number: 9, values: [0; 5] });
         assert_eq!(buffers.ring[..5], [9, 9, 9, 9, 1]);
     }
 

@@ -10,7 +10,7 @@ use crate::transform::{moved, turned_size, Setting, Size};
 
 const NUMBERS: Numbers = Numbers { ring: 256, memory: 2048, common: 0 };
 
-/// Width and height of the pictures: one pixel, a row, a column, the square that tells orientations apart, and others.
+/// Width and height of the pictures: one pixel, a row, a column, the square that distinguishes orientations, and others.
 pub const SIDES: [(u64, u64); 6] = [(1, 1), (3, 1), (1, 4), (2, 2), (3, 2), (4, 5)];
 
 /// A setting's bits in the source control word: 7 V flip, 6 H flip, 5:4 quarter turns.

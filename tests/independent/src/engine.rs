@@ -377,11 +377,11 @@ mod tests {
         let off = bytes(&[&WORKED[..6], &WORKED[12..]].concat());
         for (rule, first) in [(UNBLENDED, (0x00010001, 0, 0)), (SRC_OVER, (2, 25, 40)), (7, (2, 25, 40))] {
             let mut book = book(rule);
-            let told = [&silent, &off, &silent].map(|batch| {
+            let answered = [&silent, &off, &silent].map(|batch| {
                 book.submit(0, batch).unwrap();
                 book.run().map(|done| (done.status, done.fault, done.place)).unwrap()
             });
-            assert_eq!(told, [first, (0x00010001, 0, 0), first]);
+            assert_eq!(answered, [first, (0x00010001, 0, 0), first]);
         }
     }
 

@@ -21,7 +21,7 @@ fn span(sides: Sides, stride: u32, format: usize) -> u32 {
     stride * (sides.1 - 1) + sides.0 * FORMATS[format].bytes as u32
 }
 
-/// A place for a surface in a run of bytes, often at one of its ends. Where there is no room it starts at the run's start.
+/// A place for a surface in a range of bytes, often at one of its ends. Where there is no room it starts at the range's start.
 fn placed(random: &mut Random, run: &Run, sides: Sides) -> [u32; 5] {
     let format = random.below(3) as usize;
     let stride = (sides.0 * FORMATS[format].bytes as u32).div_ceil(8) * 8 + 8 * random.pick(&[0, 0, 1, 3]);

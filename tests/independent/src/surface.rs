@@ -1,23 +1,23 @@
-//! Runs of bytes, and rectangles of pixels in memory (01, "Faults of a taken batch" and "Pixels"; 02, request 7).
+//! Ranges of bytes, and rectangles of pixels in memory (01, "Faults of a taken batch" and "Pixels"; 02, request 7).
 use crate::pixel::{Colour, Format};
 use std::ops::Range;
 
-/// A run of bytes, as the first and the one past the last.
+/// A range of bytes, as the first and the one past the last.
 pub type Run = Range<u64>;
 
-/// The run of some bytes from a start on.
+/// The range of some bytes from a start on.
 pub fn run(start: u32, length: u32) -> Run {
     let start = u64::from(start);
     start..start + u64::from(length)
 }
 
-/// Whether a run lies wholly in another: it begins and ends in it. (The papers have no empty runs to judge; one counts as
+/// Whether a range lies wholly in another: it begins and ends in it. (The papers have no empty ranges to judge; one counts as
 /// inside where it stands between the other's ends.)
 pub fn is_inside(run: &Run, other: &Run) -> bool {
     (other.start..=other.end).contains(&run.start) && (other.start..=other.end).contains(&run.end)
 }
 
-/// Whether two runs share a byte: one of them has the other's first byte.
+/// Whether two ranges share a byte: one of them has the other's first byte.
 pub fn shares(run: &Run, other: &Run) -> bool {
     let empty = run.is_empty() || other.is_empty();
     !empty && (run.contains(&other.start) || other.contains(&run.start))
@@ -48,7 +48,7 @@ impl Surface {
         (0..x).fold(self.row_start(y), |at, _| at + self.format.bytes as u64)
     }
 
-    /// The rows as runs of bytes, from the top.
+    /// The rows as ranges of bytes, from the top.
     pub fn rows(&self) -> impl Iterator<Item = Run> {
         let length = self.row_length();
         let starts = (0..self.height).scan(u64::from(self.address), {

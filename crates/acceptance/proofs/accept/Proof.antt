@@ -10,9 +10,6 @@ use Rattle.acceptance.proofs.accept.Lts as lts
 use Rattle.acceptance.proofs.bounds_of.Reads as bounds-of-reads
 use Rattle.acceptance.proofs.is_accepted.Reads as is-accepted-reads
 
-is-accepted-requires : tie.Need-is-accepted-requires
-is-accepted-requires c κs = search needs
-
 returns : tie.Need-returns
 returns c = rw (sym (c .before .is-accepted .ensures) ∙ not-true (c .before .is-accepted .result) (c .if1 .taken))
 
@@ -27,4 +24,8 @@ returns-2 c =
     rw (sym (is .ensures) ∙ not-false (is .result) (c .before .if1 .left)) (ap Within (c .bounds-of .ensures))
 
 pub accept-spec : {M : Type 1} → statement M
-accept-spec = tie.close (tie.spec is-accepted-requires returns bounds-of-requires returns-2)
+accept-spec = tie.close (tie.spec
+    (λ c κs. search needs)
+    returns
+    bounds-of-requires
+    returns-2)

@@ -5,17 +5,12 @@ use Rattle.acceptance.proofs.bounds_of.Reads as reads
 use Rattle.acceptance.proofs.bounds_of.Lts as lts
 use Rattle.range.proofs.Range.new.Reads as new-reads
 
-mul-new : tie.Need-mul-new
-mul-new c = search needs
-
-add-new : tie.Need-add-new
-add-new c = search needs
-
-new-requires : tie.Need-new-requires
-new-requires c κs = search needs
-
 returns : tie.Need-returns
 returns c = rw (c .new .ensures)
 
 pub bounds-of-spec : {M : Type 1} → statement M
-bounds-of-spec = tie.close (tie.spec mul-new add-new new-requires returns)
+bounds-of-spec = tie.close (tie.spec
+    (λ c. search needs)
+    (λ c. search needs)
+    (λ c κs. search needs)
+    returns)

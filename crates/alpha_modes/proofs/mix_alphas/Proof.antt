@@ -18,23 +18,8 @@ Inv-loop row₀ width a g x₀ row x = ((x ≤ width) × (length row ≡ length 
 abbrev μ-loop : tie.MeasureT-loop
 μ-loop row₀ width a g x₀ row x = width - x
 
-wide-requires : tie.Need-wide-requires Inv-loop μ-loop
-wide-requires c κs = search needs
-
 loop-holds : tie.Need-loop-holds Inv-loop μ-loop
 loop-holds c = (search needs, none-done _ _ _)
-
-mul-mix-alpha : tie.Need-mul-mix-alpha Inv-loop μ-loop
-mul-mix-alpha c = search needs
-
-mix-alpha-requires : tie.Need-mix-alpha-requires Inv-loop μ-loop
-mix-alpha-requires c κs = search needs
-
-add-x : tie.Need-add-x Inv-loop μ-loop
-add-x c = search needs
-
-loop-less : tie.Need-loop-less Inv-loop μ-loop
-loop-less c = search needs
 
 loop-again : tie.Need-loop-again Inv-loop μ-loop
 loop-again c =
@@ -42,9 +27,6 @@ loop-again c =
     let l = f .before .before .before .loop in
     let w = f .before .before .before .before .wide in
     (search needs, rw (f .mix-alpha .ensures) (pixel-more Mixed _ _ (l .row) (l .x) _ (omega arith) (ap (λ (n : ℕ). div255 (getD (l .row) (l .x * 4 + 3) 0 * n)) (w .ensures .0)) (l .inv .1)))
-
-same-length : tie.Need-same-length Inv-loop μ-loop
-same-length c = search needs
 
 returns : tie.Need-returns Inv-loop μ-loop
 returns c = to-end _ _ _ _ (c .before .loop .x * 4) _ (omega arith) (c .before .loop .inv .1)
@@ -55,12 +37,12 @@ mix-alphas-spec =
     (tie.spec
     Inv-loop
     μ-loop
-    wide-requires
+    (λ c κs. search needs)
     loop-holds
-    mul-mix-alpha
-    mix-alpha-requires
-    add-x
-    loop-less
+    (λ c. search needs)
+    (λ c κs. search needs)
+    (λ c. search needs)
+    (λ c. search needs)
     loop-again
-    same-length
+    (λ c. search needs)
     returns)

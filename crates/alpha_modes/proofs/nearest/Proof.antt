@@ -4,17 +4,14 @@ use Rattle.alpha_modes.proofs.nearest.Statement.{statement}
 use Rattle.alpha_modes.proofs.nearest.Tie as tie
 
 -- src/alpha.rt:40:13
-add-t : tie.Need-add-t
-add-t c = search needs
-
 -- src/alpha.rt:41:6
-add-result : tie.Need-add-result
-add-result c = search needs
-
 -- src/alpha.rt:36:1
 returns : tie.Need-returns
 unfolding div255
 returns c = search needs
 
 pub nearest-spec : {M : Type 1} → statement M
-nearest-spec = tie.close (tie.spec add-t add-result returns)
+nearest-spec = tie.close (tie.spec
+    (λ c. search needs)
+    (λ c. search needs)
+    returns)

@@ -17,23 +17,8 @@ Inv-loop row₀ width a g x₀ row x = ((x ≤ width) × (length row ≡ length 
 abbrev μ-loop : tie.MeasureT-loop
 μ-loop row₀ width a g x₀ row x = width - x
 
-wide-requires : tie.Need-wide-requires Inv-loop μ-loop
-wide-requires c κs = search needs
-
 loop-holds : tie.Need-loop-holds Inv-loop μ-loop
 loop-holds c = (search needs, none-done _ _ _)
-
-mul-set-alpha : tie.Need-mul-set-alpha Inv-loop μ-loop
-mul-set-alpha c = search needs
-
-set-alpha-requires : tie.Need-set-alpha-requires Inv-loop μ-loop
-set-alpha-requires c κs = search needs
-
-add-x : tie.Need-add-x Inv-loop μ-loop
-add-x c = search needs
-
-loop-less : tie.Need-loop-less Inv-loop μ-loop
-loop-less c = search needs
 
 loop-again : tie.Need-loop-again Inv-loop μ-loop
 loop-again c =
@@ -41,9 +26,6 @@ loop-again c =
     let l = f .before .before .before .loop in
     let w = f .before .before .before .before .wide in
     (search needs, rw (f .set-alpha .ensures) (pixel-more Global _ _ (l .row) (l .x) _ (omega arith) (w .ensures .0) (l .inv .1)))
-
-same-length : tie.Need-same-length Inv-loop μ-loop
-same-length c = search needs
 
 returns : tie.Need-returns Inv-loop μ-loop
 returns c = to-end _ _ _ _ (c .before .loop .x * 4) _ (omega arith) (c .before .loop .inv .1)
@@ -54,12 +36,12 @@ set-alphas-spec =
     (tie.spec
     Inv-loop
     μ-loop
-    wide-requires
+    (λ c κs. search needs)
     loop-holds
-    mul-set-alpha
-    set-alpha-requires
-    add-x
-    loop-less
+    (λ c. search needs)
+    (λ c κs. search needs)
+    (λ c. search needs)
+    (λ c. search needs)
     loop-again
-    same-length
+    (λ c. search needs)
     returns)

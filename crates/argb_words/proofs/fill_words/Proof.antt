@@ -5,7 +5,7 @@ use lib.ListN.{length}
 use denote.Ref.{now}
 use borrow.Author.Needs.{needs}
 use Rattle.pixel.specs.declared.format.Format.the-variants.{Argb8888}
-use Rattle.rows.specs.Row.{wordColour}
+use Rattle.row_pixels.specs.Row.{wordColour}
 use Rattle.argb_words.proofs.RowPrefix.{prefix, none-begun, prefix-step, prefix-all}
 use Rattle.argb_words.proofs.fill_words.Statement.{statement}
 use Rattle.argb_words.proofs.fill_words.Tie as tie
@@ -20,18 +20,6 @@ abbrev μ-loop : tie.MeasureT-loop
 loop-holds : tie.Need-loop-holds Inv-loop μ-loop
 loop-holds c = (search needs, search needs, none-begun _ _ _, refl)
 
-store-word-requires : tie.Need-store-word-requires Inv-loop μ-loop
-store-word-requires c κs = search needs
-
-add-at : tie.Need-add-at Inv-loop μ-loop
-add-at c = search needs
-
-add-x : tie.Need-add-x Inv-loop μ-loop
-add-x c = search needs
-
-loop-less : tie.Need-loop-less Inv-loop μ-loop
-loop-less c = search needs
-
 loop-again : tie.Need-loop-again Inv-loop μ-loop
 loop-again c =
     let t = c .before .before .before .before in
@@ -43,9 +31,6 @@ loop-again c =
       prefix-step Argb8888 (λ x. wordColour (a .word)) (now (a .row)) (l .row) (s .last .0) (l .x) (l .at) _ (l .inv .1) refl (l .inv .2) (s .ensures),
       s .kept .0 ∙ l .inv .3,
     )
-
-same-length : tie.Need-same-length Inv-loop μ-loop
-same-length c = search needs
 
 returns : tie.Need-returns Inv-loop μ-loop
 returns c =
@@ -61,10 +46,10 @@ fill-words-spec =
     Inv-loop
     μ-loop
     loop-holds
-    store-word-requires
-    add-at
-    add-x
-    loop-less
+    (λ c κs. search needs)
+    (λ c. search needs)
+    (λ c. search needs)
+    (λ c. search needs)
     loop-again
-    same-length
+    (λ c. search needs)
     returns)

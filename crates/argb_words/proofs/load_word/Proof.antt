@@ -1,13 +1,10 @@
 use mathlib.Core.Path.{ap, _∙_}
 use denote.Ref.{now}
-use Rattle.rows.specs.Row.{wordColour}
+use Rattle.row_pixels.specs.Row.{wordColour}
 use Rattle.argb_words.proofs.Moved.{word-loaded}
 use borrow.Author.Needs.{needs}
 use Rattle.argb_words.proofs.load_word.Statement.{statement}
 use Rattle.argb_words.proofs.load_word.Tie as tie
-
-read-le32-requires : tie.Need-read-le32-requires
-read-le32-requires c κs = search needs
 
 returns : tie.Need-returns
 returns c =
@@ -15,4 +12,6 @@ returns c =
     ap wordColour (c .read-le32 .ensures) ∙ word-loaded (now (s .args .memory)) (s .args .at) (s .pre)
 
 pub load-word-spec : {M : Type 1} → statement M
-load-word-spec = tie.close (tie.spec read-le32-requires returns)
+load-word-spec = tie.close (tie.spec
+    (λ c κs. search needs)
+    returns)

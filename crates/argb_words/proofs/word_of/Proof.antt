@@ -1,13 +1,10 @@
 use mathlib.Core.Path.{ap, _∙_}
 use native.Mathlib.Omega.{arith}
-use Rattle.rows.specs.Row.{wordColour}
+use Rattle.row_pixels.specs.Row.{wordColour}
 use Rattle.pixel.proofs.Kept.{word-colour}
 use borrow.Author.Needs.{needs}
 use Rattle.argb_words.proofs.word_of.Statement.{statement}
 use Rattle.argb_words.proofs.word_of.Tie as tie
-
-pack-requires : tie.Need-pack-requires
-pack-requires c κs = search needs
 
 returns : tie.Need-returns
 returns c =
@@ -15,4 +12,6 @@ returns c =
     ∙ word-colour (c .before .args .c) (record { alpha = omega arith; red = omega arith; green = omega arith; blue = omega arith })
 
 pub word-of-spec : {M : Type 1} → statement M
-word-of-spec = tie.close (tie.spec pack-requires returns)
+word-of-spec = tie.close (tie.spec
+    (λ c κs. search needs)
+    returns)

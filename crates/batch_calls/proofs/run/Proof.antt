@@ -1,30 +1,24 @@
-use Rattle.calls.proofs.Reporting.{ran-small, run-told}
+use Rattle.calls.proofs.Reporting.{ran-small, run-answered}
 use borrow.Author.Needs.{needs}
 use Rattle.batch_calls.proofs.run.Statement.{statement}
 use Rattle.batch_calls.proofs.run.Tie as tie
 
-decode-requires : tie.Need-decode-requires
-decode-requires c κs = search needs
-
-run-requires : tie.Need-run-requires
-run-requires c κs = search needs
-
 write-completion-requires : tie.Need-write-completion-requires
 write-completion-requires c κs = ran-small _ _ _ _ (c .before .before .before .before .run .ensures .0)
-
-same-length : tie.Need-same-length
-same-length c = search needs
-
-same-length-2 : tie.Need-same-length-2
-same-length-2 c = search needs
 
 returns : tie.Need-returns
 returns c =
     let c₇ = c .before .before .before .before .before .before .before in
     let c₉ = c₇ .before .before in
-    run-told _ _ _ _ _ _ _ _ _ (c₉ .decode .ensures) (c₇ .run .ensures .0) (c₇ .run .ensures .1) (c .before .before .write-completion .ensures)
+    run-answered _ _ _ _ _ _ _ _ _ (c₉ .decode .ensures) (c₇ .run .ensures .0) (c₇ .run .ensures .1) (c .before .before .write-completion .ensures)
 
 pub run-spec : {M : Type 1} → statement M
 run-spec =
     tie.close
-    (tie.spec decode-requires run-requires write-completion-requires same-length same-length-2 returns)
+    (tie.spec
+    (λ c κs. search needs)
+    (λ c κs. search needs)
+    write-completion-requires
+    (λ c. search needs)
+    (λ c. search needs)
+    returns)

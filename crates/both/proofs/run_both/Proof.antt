@@ -7,18 +7,6 @@ use borrow.Author.Needs.{needs}
 use Rattle.both.proofs.run_both.Statement.{statement}
 use Rattle.both.proofs.run_both.Tie as tie
 
-run-by-requires : tie.Need-run-by-requires
-run-by-requires c κs = search needs
-
-run-by-requires-2 : tie.Need-run-by-requires-2
-run-by-requires-2 c κs = search needs
-
-same-length : tie.Need-same-length
-same-length c = search needs
-
-same-length-2 : tie.Need-same-length-2
-same-length-2 c = search needs
-
 returns : tie.Need-returns
 returns c =
     let f = c .before .before .before .before .before .before .run-by in
@@ -31,4 +19,9 @@ returns c =
     }
 
 pub run-both-spec : {M : Type 1} → statement M
-run-both-spec = tie.close (tie.spec run-by-requires run-by-requires-2 same-length same-length-2 returns)
+run-both-spec = tie.close (tie.spec
+    (λ c κs. search needs)
+    (λ c κs. search needs)
+    (λ c. search needs)
+    (λ c. search needs)
+    returns)

@@ -8,30 +8,6 @@ use borrow.Author.Needs.{needs}
 use Rattle.buffered_rows.proofs.blit_at.Statement.{statement}
 use Rattle.buffered_rows.proofs.blit_at.Tie as tie
 
-row-length-requires : tie.Need-row-length-requires
-row-length-requires c κs = search needs
-
-add-end : tie.Need-add-end
-add-end c = search needs
-
-sub-blit-row : tie.Need-sub-blit-row
-sub-blit-row c = search needs
-
-part-blit-row-start : tie.Need-part-blit-row-start
-part-blit-row-start c = search needs
-
-part-blit-row-end : tie.Need-part-blit-row-end
-part-blit-row-end c = search needs
-
-cast-blit-row : tie.Need-cast-blit-row
-cast-blit-row c = search needs
-
-blit-row-requires : tie.Need-blit-row-requires
-blit-row-requires c κs = search needs
-
-same-length : tie.Need-same-length
-same-length c = search needs
-
 returns : tie.Need-returns
 returns c =
     let r = c .before .before .before .before .before in
@@ -44,12 +20,12 @@ pub blit-at-spec : {M : Type 1} → statement M
 blit-at-spec =
     tie.close
     (tie.spec
-    row-length-requires
-    add-end
-    sub-blit-row
-    part-blit-row-start
-    part-blit-row-end
-    cast-blit-row
-    blit-row-requires
-    same-length
+    (λ c κs. search needs)
+    (λ c. search needs)
+    (λ c. search needs)
+    (λ c. search needs)
+    (λ c. search needs)
+    (λ c. search needs)
+    (λ c κs. search needs)
+    (λ c. search needs)
     returns)

@@ -10,12 +10,6 @@ use borrow.Author.Needs.{needs}
 use Rattle.buffered_rows.proofs.buffered_row.Statement.{statement}
 use Rattle.buffered_rows.proofs.buffered_row.Tie as tie
 
-row-start-requires : tie.Need-row-start-requires
-row-start-requires c κs = search needs
-
-sub-at : tie.Need-sub-at
-sub-at c = search needs
-
 read-row-requires : tie.Need-read-row-requires
 read-row-requires c κs =
     let s = c .before .before .before .before .before .before .before .before in
@@ -31,9 +25,6 @@ part-finish-at-start c =
     let r = c .before .before .before .before .before .before .before .before .before .before .before .before .before .pre .0 in
     omega (arith, ordered r, room r)
 
-part-finish-at-end : tie.Need-part-finish-at-end
-part-finish-at-end c = search needs
-
 finish-at-requires : tie.Need-finish-at-requires
 finish-at-requires c κs =
     let f = c .before .before .before .before .before .before .before in
@@ -48,15 +39,6 @@ finish-at-requires c κs =
         plan = p .plan;
       },
     )
-
-same-length : tie.Need-same-length
-same-length c = search needs
-
-same-length-2 : tie.Need-same-length-2
-same-length-2 c = search needs
-
-same-length-3 : tie.Need-same-length-3
-same-length-3 c = search needs
 
 returns : tie.Need-returns
 returns c =
@@ -76,14 +58,14 @@ pub buffered-row-spec : {M : Type 1} → statement M
 buffered-row-spec =
     tie.close
     (tie.spec
-    row-start-requires
-    sub-at
+    (λ c κs. search needs)
+    (λ c. search needs)
     read-row-requires
     sub-finish-at
     part-finish-at-start
-    part-finish-at-end
+    (λ c. search needs)
     finish-at-requires
-    same-length
-    same-length-2
-    same-length-3
+    (λ c. search needs)
+    (λ c. search needs)
+    (λ c. search needs)
     returns)

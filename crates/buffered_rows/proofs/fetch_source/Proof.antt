@@ -2,7 +2,7 @@ use mathlib.Core.Path.{sym, ap, _∙_}
 use denote.Ref.{now}
 use Rattle.register.specs.Task.{isBuffer}
 use Rattle.register.specs.declared.task.SourceMode.{SourceMode}
-use Rattle.rows.specs.Row.{sourcePixelOf}
+use Rattle.row_pixels.specs.Row.{sourcePixelOf}
 use Rattle.raster.specs.Task.{sourceModeColour, sourceColour}
 use Rattle.kinds.specs.Kinds.{isUniform}
 use Rattle.raster.specs.Row.{uniformColour}
@@ -14,13 +14,10 @@ use Rattle.buffered_rows.proofs.fetch_source.Tie as tie
 enum-told : tie.Need-enum-told
 enum-told c = search needs
 
-fetch-along-requires : tie.Need-fetch-along-requires
-fetch-along-requires c κs =
+fetch-transformed-requires : tie.Need-fetch-transformed-requires
+fetch-transformed-requires c κs =
     let p = c .before .before .before .before .before .pre in
     record { inside = p .inside (ap isBuffer (c .before .enum-told .given .1)); across = p .across; down = p .down; room = p .room }
-
-same-length : tie.Need-same-length
-same-length c = search needs
 
 returns : tie.Need-returns
 unfolding sourceColour
@@ -28,17 +25,8 @@ returns c =
     let t = c .before .before .before .before in
     let a = t .before .before .before .before .args in
     λ x z.
-    c .before .before .fetch-along .ensures x z
+    c .before .before .fetch-transformed .ensures x z
     ∙ sym (ap (λ (m : SourceMode). sourceModeColour m (a .source) (now (a .memory)) (sourcePixelOf (a .source .surface) (a .source .transform) x (a .y))) (t .enum-told .given .1))
-
-enum-told-2 : tie.Need-enum-told-2
-enum-told-2 c = search needs
-
-spread-requires : tie.Need-spread-requires
-spread-requires c κs = search needs
-
-same-length-2 : tie.Need-same-length-2
-same-length-2 c = search needs
 
 returns-2 : tie.Need-returns-2
 returns-2 c =
@@ -46,20 +34,14 @@ returns-2 c =
     let s = t .before .before .before .before in
     let a = s .args in
     λ x z.
-    c .before .before .spread .ensures x z
+    c .before .before .fill-buffer .ensures x z
     ∙ (sym (ap (λ (m : SourceMode). uniformColour m (a .source) (a .y)) (t .enum-told2 .given .1))
     ∙ source-uniform (a .source) (now (a .memory)) x (a .y) (ap isUniform (t .enum-told2 .given .1)) (s .pre .upright))
-
-enum-told-3 : tie.Need-enum-told-3
-enum-told-3 c = search needs
 
 fetch-gradient-requires : tie.Need-fetch-gradient-requires
 fetch-gradient-requires c κs =
     let s = c .before .before .before .before .before in
     (s .pre .room, upright-across (s .args .source) (s .pre .upright (ap isBuffer (c .before .enum-told3 .given .1))) (s .args .width) (s .pre .across))
-
-same-length-3 : tie.Need-same-length-3
-same-length-3 c = search needs
 
 returns-3 : tie.Need-returns-3
 returns-3 c =
@@ -71,19 +53,10 @@ returns-3 c =
     c .before .before .fetch-gradient .ensures x z
     ∙ source-across (a .source) (now (a .memory)) x (a .y) is (s .pre .upright (ap isBuffer is))
 
-enum-told-4 : tie.Need-enum-told-4
-enum-told-4 c = search needs
-
 shaded-colour-requires : tie.Need-shaded-colour-requires
 shaded-colour-requires c κs =
     let s = c .before .before .before .before .before in
     upright-down (s .args .source) (s .pre .upright (ap isBuffer (c .before .enum-told4 .given .1))) (s .args .y) (s .pre .down)
-
-spread-requires-2 : tie.Need-spread-requires-2
-spread-requires-2 c κs = search needs
-
-same-length-4 : tie.Need-same-length-4
-same-length-4 c = search needs
 
 returns-4 : tie.Need-returns-4
 returns-4 c =
@@ -91,7 +64,7 @@ returns-4 c =
     let s = t .before .before .before .before in
     let a = s .args in
     λ x z.
-    c .before .before .spread2 .ensures x z
+    c .before .before .fill-buffer2 .ensures x z
     ∙ (c .before .before .before .shaded-colour .ensures
     ∙ (sym (ap (λ (m : SourceMode). uniformColour m (a .source) (a .y)) (t .enum-told4 .given .1))
     ∙ source-uniform (a .source) (now (a .memory)) x (a .y) (ap isUniform (t .enum-told4 .given .1)) (s .pre .upright)))
@@ -101,19 +74,19 @@ fetch-source-spec =
     tie.close
     (tie.spec
     enum-told
-    fetch-along-requires
-    same-length
+    fetch-transformed-requires
+    (λ c. search needs)
     returns
-    enum-told-2
-    spread-requires
-    same-length-2
+    (λ c. search needs)
+    (λ c κs. search needs)
+    (λ c. search needs)
     returns-2
-    enum-told-3
+    (λ c. search needs)
     fetch-gradient-requires
-    same-length-3
+    (λ c. search needs)
     returns-3
-    enum-told-4
+    (λ c. search needs)
     shaded-colour-requires
-    spread-requires-2
-    same-length-4
+    (λ c κs. search needs)
+    (λ c. search needs)
     returns-4)

@@ -10,24 +10,6 @@ use borrow.Author.Needs.{needs}
 use Rattle.buffered_rows.proofs.mix_at.Statement.{statement}
 use Rattle.buffered_rows.proofs.mix_at.Tie as tie
 
-row-length-requires : tie.Need-row-length-requires
-row-length-requires c κs = search needs
-
-add-end : tie.Need-add-end
-add-end c = search needs
-
-cast-width : tie.Need-cast-width
-cast-width c = search needs
-
-sub-mix-row : tie.Need-sub-mix-row
-sub-mix-row c = search needs
-
-part-mix-row-start : tie.Need-part-mix-row-start
-part-mix-row-start c = search needs
-
-part-mix-row-end : tie.Need-part-mix-row-end
-part-mix-row-end c = search needs
-
 mix-row-requires : tie.Need-mix-row-requires
 mix-row-requires c κs =
     let r = c .before .before .before in
@@ -43,12 +25,6 @@ mix-row-requires c κs =
       rule = p .1;
     }
 
-same-length : tie.Need-same-length
-same-length c = search needs
-
-same-length-2 : tie.Need-same-length-2
-same-length-2 c = search needs
-
 returns : tie.Need-returns
 returns c =
     let f = c .before .before .before .before in
@@ -62,13 +38,13 @@ pub mix-at-spec : {M : Type 1} → statement M
 mix-at-spec =
     tie.close
     (tie.spec
-    row-length-requires
-    add-end
-    cast-width
-    sub-mix-row
-    part-mix-row-start
-    part-mix-row-end
+    (λ c κs. search needs)
+    (λ c. search needs)
+    (λ c. search needs)
+    (λ c. search needs)
+    (λ c. search needs)
+    (λ c. search needs)
     mix-row-requires
-    same-length
-    same-length-2
+    (λ c. search needs)
+    (λ c. search needs)
     returns)

@@ -4,8 +4,8 @@ use native.Mathlib.Omega.{arith}
 use denote.Ref.{now}
 use Rattle.pixel.specs.Formats.{bytesPerPixel}
 use Rattle.surface.specs.Drawn.{loadPixel}
-use Rattle.rows.specs.Row.{colourAt}
-use Rattle.rows.specs.Mixed.{composite}
+use Rattle.row_pixels.specs.Row.{colourAt}
+use Rattle.row_pixels.specs.Composite.{composite}
 use Rattle.kinds.specs.declared.Finish.the-variants.{Blended}
 use Rattle.raster.proofs.Parts.{of-finish}
 use Rattle.raster.specs.Task.{destinationColour}
@@ -14,35 +14,11 @@ use borrow.Author.Needs.{needs}
 use Rattle.buffered_rows.proofs.read_row.Statement.{statement}
 use Rattle.buffered_rows.proofs.read_row.Tie as tie
 
-cast-width : tie.Need-cast-width
-cast-width c = search needs
-
-fetch-source-requires : tie.Need-fetch-source-requires
-fetch-source-requires c κs = search needs
-
-enum-told : tie.Need-enum-told
-enum-told c = search needs
-
-same-length : tie.Need-same-length
-same-length c = search needs
-
 returns : tie.Need-returns
 returns c = rw (c .enum-told .given .1) (c .before .before .before .before .fetch-source .ensures)
 
-enum-told-2 : tie.Need-enum-told-2
-enum-told-2 c = search needs
-
-same-length-2 : tie.Need-same-length-2
-same-length-2 c = search needs
-
 returns-2 : tie.Need-returns-2
 returns-2 c = rw (c .enum-told2 .given .1) (c .before .before .before .before .fetch-source .ensures)
-
-enum-told-3 : tie.Need-enum-told-3
-enum-told-3 c = search needs
-
-row-start-requires : tie.Need-row-start-requires
-row-start-requires c κs = search needs
 
 fetch-row-requires : tie.Need-fetch-row-requires
 fetch-row-requires c κs =
@@ -50,15 +26,6 @@ fetch-row-requires c κs =
     let s = t .before .before .before .before .before .before .before .before .before .before .before .before in
     let on = of-finish (s .args .task) Blended (sym (t .enum-told3 .given .1) ∙ s .pre .1 .finish) in
     (omega (arith, c .before .row-start .ensures, s .pre .0 .destination on), omega (arith, s .pre .1 .destination))
-
-blend-row-requires : tie.Need-blend-row-requires
-blend-row-requires c κs = search needs
-
-same-length-3 : tie.Need-same-length-3
-same-length-3 c = search needs
-
-same-length-4 : tie.Need-same-length-4
-same-length-4 c = search needs
 
 returns-3 : tie.Need-returns-3
 unfolding destinationColour colourAt
@@ -71,9 +38,9 @@ returns-3 c =
     let s = f .before .before .before .before .before .before .before .before in
     let a = s .args in
     let d = a .task .destination .surface in
-    let told = t .enum-told3 .given .1 in
-    let on = of-finish (a .task) Blended (sym told ∙ s .pre .1 .finish) in
-    rw told
+    let finish-is = t .enum-told3 .given .1 in
+    let on = of-finish (a .task) Blended (sym finish-is ∙ s .pre .1 .finish) in
+    rw finish-is
     (λ x l.
     b .blend-row .ensures x l
     ∙ (ap₂ (composite (a .task .blending) (a .task .source .alpha) (a .task .destination .alpha))
@@ -85,18 +52,18 @@ pub read-row-spec : {M : Type 1} → statement M
 read-row-spec =
     tie.close
     (tie.spec
-    cast-width
-    fetch-source-requires
-    enum-told
-    same-length
+    (λ c. search needs)
+    (λ c κs. search needs)
+    (λ c. search needs)
+    (λ c. search needs)
     returns
-    enum-told-2
-    same-length-2
+    (λ c. search needs)
+    (λ c. search needs)
     returns-2
-    enum-told-3
-    row-start-requires
+    (λ c. search needs)
+    (λ c κs. search needs)
     fetch-row-requires
-    blend-row-requires
-    same-length-3
-    same-length-4
+    (λ c κs. search needs)
+    (λ c. search needs)
+    (λ c. search needs)
     returns-3)

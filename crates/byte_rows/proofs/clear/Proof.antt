@@ -17,22 +17,10 @@ abbrev μ-loop : tie.MeasureT-loop
 loop-holds : tie.Need-loop-holds Inv-loop μ-loop
 loop-holds c = (search needs, none-done _ _ _)
 
-slice-write-d : tie.Need-slice-write-d Inv-loop μ-loop
-slice-write-d c = search needs
-
-add-j : tie.Need-add-j Inv-loop μ-loop
-add-j c = search needs
-
-loop-less : tie.Need-loop-less Inv-loop μ-loop
-loop-less c = search needs
-
 loop-again : tie.Need-loop-again Inv-loop μ-loop
 loop-again c =
     let b = c .before in
     (search needs, more-done (λ l k. 0) (λ l m k same. refl) _ (b .loop .d) _ _ (b .loop .j) _ (omega arith) (omega arith) (b .loop .inv .1) (one-done _ (b .loop .d) (b .loop .j) _ (omega arith) refl))
-
-same-length : tie.Need-same-length Inv-loop μ-loop
-same-length c = search needs
 
 returns : tie.Need-returns Inv-loop μ-loop
 returns c = to-end _ _ _ _ (c .before .loop .j) _ (omega arith) (c .before .loop .inv .1)
@@ -44,9 +32,9 @@ clear-spec =
     Inv-loop
     μ-loop
     loop-holds
-    slice-write-d
-    add-j
-    loop-less
+    (λ c. search needs)
+    (λ c. search needs)
+    (λ c. search needs)
     loop-again
-    same-length
+    (λ c. search needs)
     returns)

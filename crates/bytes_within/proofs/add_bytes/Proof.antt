@@ -22,33 +22,6 @@ abbrev μ-loop : tie.MeasureT-loop
 loop-holds : tie.Need-loop-holds Inv-loop μ-loop
 loop-holds c = (search needs, refl, none-within _ _ _)
 
-add-held-sum : tie.Need-add-held-sum Inv-loop μ-loop
-add-held-sum c = search needs
-
-slice-read-held-sum : tie.Need-slice-read-held-sum Inv-loop μ-loop
-slice-read-held-sum c = search needs
-
-add-held-sum-2 : tie.Need-add-held-sum-2 Inv-loop μ-loop
-add-held-sum-2 c = search needs
-
-slice-read-held-sum-2 : tie.Need-slice-read-held-sum-2 Inv-loop μ-loop
-slice-read-held-sum-2 c = search needs
-
-held-sum-requires : tie.Need-held-sum-requires Inv-loop μ-loop
-held-sum-requires c κs = search needs
-
-add-m : tie.Need-add-m Inv-loop μ-loop
-add-m c = search needs
-
-slice-write-m : tie.Need-slice-write-m Inv-loop μ-loop
-slice-write-m c = search needs
-
-add-j : tie.Need-add-j Inv-loop μ-loop
-add-j c = search needs
-
-loop-less : tie.Need-loop-less Inv-loop μ-loop
-loop-less c = search needs
-
 loop-again : tie.Need-loop-again Inv-loop μ-loop
 loop-again c =
     let l = c .before .before .before .before in
@@ -59,9 +32,6 @@ loop-again c =
       byte-within (blendModeFactors Add) (now (a .m)) (l .loop .m) (a .to) (a .from) (a .n) (l .loop .j) (a .to) (s .pre .0) (s .pre .1) (omega arith) (omega arith) (omega arith) (l .loop .inv .2) _
           (c .before .before .before .loop-test .taken) (omega (arith, l .loop .inv .1, s .pre .0 .target)) (c .held-sum .ensures ∙ sym (within-reads (blendModeFactors Add) (l .loop .m) (a .to) (a .from) (l .loop .j))),
     )
-
-same-length : tie.Need-same-length Inv-loop μ-loop
-same-length c = search needs
 
 returns : tie.Need-returns Inv-loop μ-loop
 returns c =
@@ -75,15 +45,15 @@ add-bytes-spec =
     Inv-loop
     μ-loop
     loop-holds
-    add-held-sum
-    slice-read-held-sum
-    add-held-sum-2
-    slice-read-held-sum-2
-    held-sum-requires
-    add-m
-    slice-write-m
-    add-j
-    loop-less
+    (λ c. search needs)
+    (λ c. search needs)
+    (λ c. search needs)
+    (λ c. search needs)
+    (λ c κs. search needs)
+    (λ c. search needs)
+    (λ c. search needs)
+    (λ c. search needs)
+    (λ c. search needs)
     loop-again
-    same-length
+    (λ c. search needs)
     returns)

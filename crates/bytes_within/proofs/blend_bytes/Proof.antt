@@ -20,51 +20,6 @@ abbrev μ-loop : tie.MeasureT-loop
 loop-holds : tie.Need-loop-holds Inv-loop μ-loop
 loop-holds c = (search needs, refl, none-done _ _ _)
 
-mul-k : tie.Need-mul-k Inv-loop μ-loop
-mul-k c = search needs
-
-add-k : tie.Need-add-k Inv-loop μ-loop
-add-k c = search needs
-
-add-blend-one : tie.Need-add-blend-one Inv-loop μ-loop
-add-blend-one c = search needs
-
-slice-read-blend-one : tie.Need-slice-read-blend-one Inv-loop μ-loop
-slice-read-blend-one c = search needs
-
-add-blend-one-2 : tie.Need-add-blend-one-2 Inv-loop μ-loop
-add-blend-one-2 c = search needs
-
-slice-read-blend-one-2 : tie.Need-slice-read-blend-one-2 Inv-loop μ-loop
-slice-read-blend-one-2 c = search needs
-
-add-blend-one-3 : tie.Need-add-blend-one-3 Inv-loop μ-loop
-add-blend-one-3 c = search needs
-
-slice-read-blend-one-3 : tie.Need-slice-read-blend-one-3 Inv-loop μ-loop
-slice-read-blend-one-3 c = search needs
-
-add-blend-one-4 : tie.Need-add-blend-one-4 Inv-loop μ-loop
-add-blend-one-4 c = search needs
-
-slice-read-blend-one-4 : tie.Need-slice-read-blend-one-4 Inv-loop μ-loop
-slice-read-blend-one-4 c = search needs
-
-blend-one-requires : tie.Need-blend-one-requires Inv-loop μ-loop
-blend-one-requires c κs = search needs
-
-add-m : tie.Need-add-m Inv-loop μ-loop
-add-m c = search needs
-
-slice-write-m : tie.Need-slice-write-m Inv-loop μ-loop
-slice-write-m c = search needs
-
-add-j : tie.Need-add-j Inv-loop μ-loop
-add-j c = search needs
-
-loop-less : tie.Need-loop-less Inv-loop μ-loop
-loop-less c = search needs
-
 loop-again : tie.Need-loop-again Inv-loop μ-loop
 loop-again c =
     let c₅ = c .before .before .before .before .before in
@@ -76,9 +31,6 @@ loop-again c =
       byte-within (a .p .rule) (now (a .m)) (l .loop .m) (a .to) (a .from) (a .n) (l .loop .j) (a .to + a .a) (s .pre .0 .0) (s .pre .0 .1 .1) (omega arith) (omega arith) (omega arith) (l .loop .inv .2) _
           (c₅ .loop-test .taken) (omega (arith, l .loop .inv .1, s .pre .0 .0 .target)) (c .blend-one .ensures ∙ sym (within-reads (a .p .rule) (l .loop .m) (a .to) (a .from) (l .loop .j))),
     )
-
-same-length : tie.Need-same-length Inv-loop μ-loop
-same-length c = search needs
 
 returns : tie.Need-returns Inv-loop μ-loop
 returns c =
@@ -92,21 +44,21 @@ blend-bytes-spec =
     Inv-loop
     μ-loop
     loop-holds
-    mul-k
-    add-k
-    add-blend-one
-    slice-read-blend-one
-    add-blend-one-2
-    slice-read-blend-one-2
-    add-blend-one-3
-    slice-read-blend-one-3
-    add-blend-one-4
-    slice-read-blend-one-4
-    blend-one-requires
-    add-m
-    slice-write-m
-    add-j
-    loop-less
+    (λ c. search needs)
+    (λ c. search needs)
+    (λ c. search needs)
+    (λ c. search needs)
+    (λ c. search needs)
+    (λ c. search needs)
+    (λ c. search needs)
+    (λ c. search needs)
+    (λ c. search needs)
+    (λ c. search needs)
+    (λ c κs. search needs)
+    (λ c. search needs)
+    (λ c. search needs)
+    (λ c. search needs)
+    (λ c. search needs)
     loop-again
-    same-length
+    (λ c. search needs)
     returns)

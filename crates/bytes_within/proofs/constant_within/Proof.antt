@@ -6,12 +6,6 @@ use borrow.Author.Needs.{needs}
 use Rattle.bytes_within.proofs.constant_within.Statement.{statement}
 use Rattle.bytes_within.proofs.constant_within.Tie as tie
 
-add-bytes-requires : tie.Need-add-bytes-requires
-add-bytes-requires c κs = search needs
-
-same-length : tie.Need-same-length
-same-length c = search needs
-
 returns : tie.Need-returns
 returns c =
     let t = c .before .before .before .before in
@@ -20,12 +14,6 @@ returns c =
     let k = s .pre .1 in
     added-within (a .p .rule) (now (a .m)) _ (a .to) (a .from) (a .n)
     (source-whole (a .p) (k .0) (k .1) (t .before .before .if1 .taken)) (destination-whole (a .p) (k .0) (k .1) (t .if2 .taken)) (c .before .before .add-bytes .ensures)
-
-copy-within-requires : tie.Need-copy-within-requires
-copy-within-requires c κs = search needs
-
-same-length-2 : tie.Need-same-length-2
-same-length-2 c = search needs
 
 returns-2 : tie.Need-returns-2
 returns-2 c =
@@ -46,15 +34,6 @@ returns-3 c =
     left-within (a .p .rule) (now (a .m)) (a .to) (a .from) (a .n) (λ j. omega (arith, m .slice-known .given j))
     (source-nothing (a .p) (k .0) (k .1) (c .before .before .if1 .left)) (destination-whole (a .p) (k .0) (k .1) (c .if3 .taken))
 
-add-clear : tie.Need-add-clear
-add-clear c = search needs
-
-clear-requires : tie.Need-clear-requires
-clear-requires c κs = search needs
-
-same-length-3 : tie.Need-same-length-3
-same-length-3 c = search needs
-
 returns-4 : tie.Need-returns-4
 returns-4 c =
     let t = c .before .before .before .before in
@@ -68,14 +47,14 @@ pub constant-within-spec : {M : Type 1} → statement M
 constant-within-spec =
     tie.close
     (tie.spec
-    add-bytes-requires
-    same-length
+    (λ c κs. search needs)
+    (λ c. search needs)
     returns
-    copy-within-requires
-    same-length-2
+    (λ c κs. search needs)
+    (λ c. search needs)
     returns-2
     returns-3
-    add-clear
-    clear-requires
-    same-length-3
+    (λ c. search needs)
+    (λ c κs. search needs)
+    (λ c. search needs)
     returns-4)

@@ -8,29 +8,11 @@ use Rattle.channels.proofs.blend_one.Statement.{statement}
 use Rattle.channels.proofs.blend_one.Tie as tie
 
 -- src/row.rt:45:9
-wide-requires : tie.Need-wide-requires
-wide-requires c κs = search needs
-
 -- src/row.rt:46:9
-wide-requires-2 : tie.Need-wide-requires-2
-wide-requires-2 c κs = search needs
-
 -- src/row.rt:47:18
-wide-requires-3 : tie.Need-wide-requires-3
-wide-requires-3 c κs = search needs
-
 -- src/row.rt:47:27
-factor-requires : tie.Need-factor-requires
-factor-requires c κs = search needs
-
 -- src/row.rt:47:45
-wide-requires-4 : tie.Need-wide-requires-4
-wide-requires-4 c κs = search needs
-
 -- src/row.rt:47:54
-factor-requires-2 : tie.Need-factor-requires-2
-factor-requires-2 c κs = search needs
-
 -- src/row.rt:47:5
 two-products-requires : tie.Need-two-products-requires
 two-products-requires c κs =
@@ -40,9 +22,6 @@ two-products-requires c κs =
     ((search needs, omega (arith, c .before .before .factor .ensures, source-small (a .args .p) (a .pre) _ _ x y)), (search needs, omega (arith, c .factor2 .ensures, destination-small (a .args .p) (a .pre) _ _ x y)))
 
 -- src/row.rt:47:5
-cast-result : tie.Need-cast-result
-cast-result c = search needs
-
 -- src/row.rt:39:1
 returns : tie.Need-returns
 unfolding blendedChannel div255
@@ -56,12 +35,12 @@ pub blend-one-spec : {M : Type 1} → statement M
 blend-one-spec =
     tie.close
     (tie.spec
-    wide-requires
-    wide-requires-2
-    wide-requires-3
-    factor-requires
-    wide-requires-4
-    factor-requires-2
+    (λ c κs. search needs)
+    (λ c κs. search needs)
+    (λ c κs. search needs)
+    (λ c κs. search needs)
+    (λ c κs. search needs)
+    (λ c κs. search needs)
     two-products-requires
-    cast-result
+    (λ c. search needs)
     returns)

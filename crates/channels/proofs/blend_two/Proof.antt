@@ -6,13 +6,7 @@ use Rattle.channels.proofs.blend_two.Statement.{statement}
 use Rattle.channels.proofs.blend_two.Tie as tie
 
 -- src/lane.rt:42:14
-factor-requires : tie.Need-factor-requires
-factor-requires c κs = search needs
-
 -- src/lane.rt:42:35
-factor-requires-2 : tie.Need-factor-requires-2
-factor-requires-2 c κs = search needs
-
 -- src/lane.rt:42:5
 two-by-factors-requires : tie.Need-two-by-factors-requires
 two-by-factors-requires c κs =
@@ -28,4 +22,8 @@ returns c =
     c .two-by-factors .ensures ∙ cc (c .before .before .factor .ensures, c .before .factor2 .ensures, source-is (a .args .p) (a .pre .0) (a .args .x) (a .args .y) (a .pre .1 .0) (a .pre .1 .1), destination-is (a .args .p) (a .pre .0) (a .args .x) (a .args .y) (a .pre .1 .0) (a .pre .1 .1))
 
 pub blend-two-spec : {M : Type 1} → statement M
-blend-two-spec = tie.close (tie.spec factor-requires factor-requires-2 two-by-factors-requires returns)
+blend-two-spec = tie.close (tie.spec
+    (λ c κs. search needs)
+    (λ c κs. search needs)
+    two-by-factors-requires
+    returns)

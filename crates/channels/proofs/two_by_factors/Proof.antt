@@ -6,21 +6,9 @@ use Rattle.channels.proofs.two_by_factors.Statement.{statement}
 use Rattle.channels.proofs.two_by_factors.Tie as tie
 
 -- src/lane.rt:23:5
-two-products-requires : tie.Need-two-products-requires
-two-products-requires c κs = search needs
-
 -- src/lane.rt:23:46
-two-products-requires-2 : tie.Need-two-products-requires-2
-two-products-requires-2 c κs = search needs
-
 -- src/lane.rt:23:46
-mul-result : tie.Need-mul-result
-mul-result c = search needs
-
 -- src/lane.rt:23:5
-add-result : tie.Need-add-result
-add-result c = search needs
-
 -- src/lane.rt:19:1
 returns : tie.Need-returns
 unfolding duo blendedChannel div255
@@ -29,4 +17,9 @@ returns c = search needs
 pub two-by-factors-spec : {M : Type 1} → statement M
 two-by-factors-spec =
     tie.close
-    (tie.spec two-products-requires two-products-requires-2 mul-result add-result returns)
+    (tie.spec
+    (λ c κs. search needs)
+    (λ c κs. search needs)
+    (λ c. search needs)
+    (λ c. search needs)
+    returns)

@@ -1,4 +1,4 @@
-use Rattle.calls.proofs.Results.{set-up-told, set-up-lent}
+use Rattle.calls.proofs.Results.{set-up-answered, set-up-lent}
 use borrow.Author.Needs.{needs}
 use Rattle.client_calls.proofs.set_up.Statement.{statement}
 use Rattle.client_calls.proofs.set_up.Tie as tie
@@ -6,20 +6,16 @@ use Rattle.client_calls.proofs.set_up.Tie as tie
 returns : tie.Need-returns
 returns c = set-up-lent _ _ _ _ _ (c .if1 .taken)
 
-set-up-requires : tie.Need-set-up-requires
-set-up-requires c κs = search needs
-
-write-value-requires : tie.Need-write-value-requires
-write-value-requires c κs = search needs
-
-same-length : tie.Need-same-length
-same-length c = search needs
-
 returns-2 : tie.Need-returns-2
 returns-2 c =
     let c₅ = c .before .before .before .before .before in
     let c₆ = c₅ .before in
-    set-up-told _ _ _ _ _ _ _ _ _ (c₆ .if1 .left) (c₅ .set-up .ensures) (c .before .before .write-value .ensures)
+    set-up-answered _ _ _ _ _ _ _ _ _ (c₆ .if1 .left) (c₅ .set-up .ensures) (c .before .before .write-value .ensures)
 
 pub set-up-spec : {M : Type 1} → statement M
-set-up-spec = tie.close (tie.spec returns set-up-requires write-value-requires same-length returns-2)
+set-up-spec = tie.close (tie.spec
+    returns
+    (λ c κs. search needs)
+    (λ c κs. search needs)
+    (λ c. search needs)
+    returns-2)

@@ -3,30 +3,6 @@ use borrow.Author.Needs.{needs}
 use Rattle.clients.proofs.close_refusal.Statement.{statement}
 use Rattle.clients.proofs.close_refusal.Tie as tie
 
-count-of-requires : tie.Need-count-of-requires
-count-of-requires c κs = search needs
-
-staged-by-requires : tie.Need-staged-by-requires
-staged-by-requires c κs = search needs
-
-first-refusal-requires : tie.Need-first-refusal-requires
-first-refusal-requires c κs = search needs
-
-is-open-requires : tie.Need-is-open-requires
-is-open-requires c κs = search needs
-
-first-refusal-requires-2 : tie.Need-first-refusal-requires-2
-first-refusal-requires-2 c κs = search needs
-
-first-refusal-requires-3 : tie.Need-first-refusal-requires-3
-first-refusal-requires-3 c κs = search needs
-
-is-valid-requires : tie.Need-is-valid-requires
-is-valid-requires c κs = search needs
-
-first-refusal-requires-4 : tie.Need-first-refusal-requires-4
-first-refusal-requires-4 c κs = search needs
-
 returns : tie.Need-returns
 unfolding firstRefusal
 returns c =
@@ -40,12 +16,12 @@ pub close-refusal-spec : {M : Type 1} → statement M
 close-refusal-spec =
     tie.close
     (tie.spec
-    count-of-requires
-    staged-by-requires
-    first-refusal-requires
-    is-open-requires
-    first-refusal-requires-2
-    first-refusal-requires-3
-    is-valid-requires
-    first-refusal-requires-4
+    (λ c κs. search needs)
+    (λ c κs. search needs)
+    (λ c κs. search needs)
+    (λ c κs. search needs)
+    (λ c κs. search needs)
+    (λ c κs. search needs)
+    (λ c κs. search needs)
+    (λ c κs. search needs)
     returns)

@@ -8,17 +8,11 @@ use borrow.Author.Tests.{leb-false, lt-leb}
 use Rattle.clients.proofs.open.Statement.{statement}
 use Rattle.clients.proofs.open.Tie as tie
 
-allowed : (c : tie.Else1) → OpenAllowed (c .before .before .args .engine) (record { start = c .before .before .args .start; length = c .before .before .args .length })
-allowed c = open-allowed (c .before .before .args .engine) (record { start = c .before .before .args .start; length = c .before .before .args .length }) (sym (c .before .open-refusal .ensures) ∙ c .if1 .left)
-
-open-refusal-requires : tie.Need-open-refusal-requires
-open-refusal-requires c κs = search needs
+allowed : (c : tie.Else1) → OpenAllowed (c .before .before .args .engine) (record { start = c .before .before .args .start; length = c .before .before .args .size })
+allowed c = open-allowed (c .before .before .args .engine) (record { start = c .before .before .args .start; length = c .before .before .args .size }) (sym (c .before .open-refusal .ensures) ∙ c .if1 .left)
 
 returns : tie.Need-returns
-returns c = open-refused (c .before .before .args .engine) (record { start = c .before .before .args .start; length = c .before .before .args .length }) (c .before .open-refusal .result) (c .before .open-refusal .ensures) (c .if1 .taken)
-
-lowest-closed-requires : tie.Need-lowest-closed-requires
-lowest-closed-requires c κs = search needs
+returns c = open-refused (c .before .before .args .engine) (record { start = c .before .before .args .start; length = c .before .before .args .size }) (c .before .open-refusal .result) (c .before .open-refusal .ensures) (c .if1 .taken)
 
 -- the id is one of the four
 id-small : (c : tie.After-lowest-closed) → c .lowest-closed .result < 4
@@ -34,9 +28,15 @@ returns-2 : tie.Need-returns-2
 returns-2 c =
     let c₅ = c .before .before .before .before .before in
     let e = c₅ .args in
-    open-done (e .engine) (record { start = e .start; length = e .length }) (c .before .before .before .before .open-refusal .result) (c .before .before .before .before .open-refusal .ensures) (c .before .before .before .if1 .left)
+    open-done (e .engine) (record { start = e .start; length = e .size }) (c .before .before .before .before .open-refusal .result) (c .before .before .before .before .open-refusal .ensures) (c .before .before .before .if1 .left)
     (c .before .lowest-closed .result) (c .before .lowest-closed .ensures .0) (c .with-client .result) (c .with-client .ensures)
 
 pub open-spec : {M : Type 1} → statement M
 open-spec =
-    tie.close (tie.spec open-refusal-requires returns lowest-closed-requires cast-t10 with-client-requires returns-2)
+    tie.close (tie.spec
+    (λ c κs. search needs)
+    returns
+    (λ c κs. search needs)
+    cast-t10
+    with-client-requires
+    returns-2)

@@ -1,7 +1,7 @@
 use mathlib.Core.Path.{_≡_, sym, _∙_}
 use mathlib.Core.Bool.{true}
 use borrow.Author.Tests.{not-true, not-false}
-use Rattle.record.specs.Rules.{valid}
+use Rattle.engine_record.specs.Rules.{valid}
 use Rattle.queue.proofs.Refusals.{eleven}
 use Rattle.queue.specs.Refusals.{firstRefusal}
 use borrow.Author.Needs.{needs}
@@ -11,23 +11,8 @@ use Rattle.clients.proofs.open_refusal.Tie as tie
 right : (c : tie.Else1) → valid (c .before .before .args .engine) ≡ true
 right c = sym (c .before .is-valid .ensures) ∙ not-false _ (c .if1 .left)
 
-lowest-closed-requires : tie.Need-lowest-closed-requires
-lowest-closed-requires c κs = search needs
-
-is-valid-requires : tie.Need-is-valid-requires
-is-valid-requires c κs = search needs
-
 returns : tie.Need-returns
 returns c = eleven _ (valid (c .before .before .args .engine)) (sym (c .before .is-valid .ensures) ∙ not-true _ (c .if1 .taken))
-
-bad-window-requires : tie.Need-bad-window-requires
-bad-window-requires c κs = search needs
-
-first-refusal-requires : tie.Need-first-refusal-requires
-first-refusal-requires c κs = search needs
-
-first-refusal-requires-2 : tie.Need-first-refusal-requires-2
-first-refusal-requires-2 c κs = search needs
 
 returns-2 : tie.Need-returns-2
 unfolding firstRefusal
@@ -39,10 +24,10 @@ pub open-refusal-spec : {M : Type 1} → statement M
 open-refusal-spec =
     tie.close
     (tie.spec
-    is-valid-requires
+    (λ c κs. search needs)
     returns
-    lowest-closed-requires
-    bad-window-requires
-    first-refusal-requires
-    first-refusal-requires-2
+    (λ c κs. search needs)
+    (λ c κs. search needs)
+    (λ c κs. search needs)
+    (λ c κs. search needs)
     returns-2)

@@ -9,9 +9,6 @@ use Rattle.clients.proofs.pending.Tie as tie
 allowed : (c : tie.Else1) → PendingAllowed (c .before .before .args .engine) (c .before .before .args .client)
 allowed c = pending-allowed (c .before .before .args .engine) (c .before .before .args .client) (sym (c .before .pending-refusal .ensures) ∙ c .if1 .left)
 
-pending-refusal-requires : tie.Need-pending-refusal-requires
-pending-refusal-requires c κs = search needs
-
 returns : tie.Need-returns
 returns c = pending-refused (c .before .before .args .engine) (c .before .before .args .client) (c .before .pending-refusal .result) (c .before .pending-refusal .ensures) (c .if1 .taken)
 
@@ -24,4 +21,8 @@ returns-2 c = let a = allowed (c .before .before) in
     pending-done (c .before .before .before .before .args .engine) (c .before .before .before .before .args .client) (c .before .before .before .pending-refusal .result) (c .before .before .before .pending-refusal .ensures) (c .before .before .if1 .left) (c .pending-at .result) (e .0 ∙ pending-right (c .before .before .before .before .args .engine) (a .ok) (c .before .before .before .before .args .client) (a .owner))
 
 pub pending-spec : {M : Type 1} → statement M
-pending-spec = tie.close (tie.spec pending-refusal-requires returns pending-at-requires returns-2)
+pending-spec = tie.close (tie.spec
+    (λ c κs. search needs)
+    returns
+    pending-at-requires
+    returns-2)

@@ -3,15 +3,12 @@ use borrow.Author.Needs.{needs}
 use Rattle.clients.proofs.with_client.Statement.{statement}
 use Rattle.clients.proofs.with_client.Tie as tie
 
-mul-clients : tie.Need-mul-clients
-mul-clients c = search needs
-
-array-set-from-clients : tie.Need-array-set-from-clients
-array-set-from-clients c = search needs
-
 returns : tie.Need-returns
 unfolding withClient
 returns c = rw (c .before .pre .0)
 
 pub with-client-spec : {M : Type 1} → statement M
-with-client-spec = tie.close (tie.spec mul-clients array-set-from-clients returns)
+with-client-spec = tie.close (tie.spec
+    (λ c. search needs)
+    (λ c. search needs)
+    returns)

@@ -16,13 +16,11 @@ allowed : (c : tie.Else1) → CloseAllowed (c .before .before .before .args .eng
 allowed c = let a = c .before .before .before .args in close-allowed (a .engine) (length (now (a .memory))) (a .client) (sym (c .before .close-refusal .ensures) ∙ c .if1 .left)
 
 -- the window lies in memory
-inside : (c : tie.After-window-of) → (c .window-of .result .start ≤ c .window-of .result .end) × (c .window-of .result .end ≤ length (now (c .before .before .before .before .before .args .memory)))
+inside : (c : tie.After-window-of) → let c₅ = c .before .before .before .before .before in
+    (c .window-of .result .start ≤ c .window-of .result .end) × (c .window-of .result .end ≤ length (now (c₅ .args .memory)))
 inside c =
     let a = c .before .before .before .before .before .args in
     rw (c .window-of .ensures .0) (window-inside (a .engine) (length (now (a .memory))) (a .client) (allowed (c .before .before)))
-
-close-refusal-requires : tie.Need-close-refusal-requires
-close-refusal-requires c κs = search needs
 
 returns : tie.Need-returns
 returns c =
@@ -48,18 +46,12 @@ part-clear-start c = let i = inside c in omega arith
 part-clear-end : tie.Need-part-clear-end
 part-clear-end c = let i = inside c in omega arith
 
-clear-requires : tie.Need-clear-requires
-clear-requires c κs = search needs
-
 without-client-requires : tie.Need-without-client-requires
 without-client-requires c κs =
     let c₆ = c .before .before .before .before .before .before in
     let a = c₆ .before .before .before .args in
     let o = allowed c₆ in
     client-small (a .engine) (o .ok) (a .client) (o .owner)
-
-same-length : tie.Need-same-length
-same-length c = search needs
 
 returns-2 : tie.Need-returns-2
 returns-2 c =
@@ -78,14 +70,14 @@ pub close-spec : {M : Type 1} → statement M
 close-spec =
     tie.close
     (tie.spec
-    close-refusal-requires
+    (λ c κs. search needs)
     returns
     window-of-requires
     sub-size
     sub-clear
     part-clear-start
     part-clear-end
-    clear-requires
+    (λ c κs. search needs)
     without-client-requires
-    same-length
+    (λ c. search needs)
     returns-2)

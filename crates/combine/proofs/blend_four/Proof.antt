@@ -6,25 +6,10 @@ use Rattle.combine.proofs.blend_four.Statement.{statement}
 use Rattle.combine.proofs.blend_four.Tie as tie
 
 -- src/lane.rt:75:13
-load8-requires : tie.Need-load8-requires
-load8-requires c κs = search needs
-
 -- src/lane.rt:76:13
-load8-requires-2 : tie.Need-load8-requires-2
-load8-requires-2 c κs = search needs
-
 -- src/lane.rt:77:13
-blend8-requires : tie.Need-blend8-requires
-blend8-requires c κs = search needs
-
 -- src/lane.rt:78:5
-store8-requires : tie.Need-store8-requires
-store8-requires c κs = search needs
-
 -- src/lane.rt:71:1
-same-length : tie.Need-same-length
-same-length c = search needs
-
 -- src/lane.rt:71:1
 returns : tie.Need-returns
 returns c =
@@ -41,4 +26,10 @@ returns c =
 pub blend-four-spec : {M : Type 1} → statement M
 blend-four-spec =
     tie.close
-    (tie.spec load8-requires load8-requires-2 blend8-requires store8-requires same-length returns)
+    (tie.spec
+    (λ c κs. search needs)
+    (λ c κs. search needs)
+    (λ c κs. search needs)
+    (λ c κs. search needs)
+    (λ c. search needs)
+    returns)

@@ -7,18 +7,6 @@ use lib.ListN.{length}
 use Rattle.combine.proofs.blend_row.Statement.{statement}
 use Rattle.combine.proofs.blend_row.Tie as tie
 
-mul-n : tie.Need-mul-n
-mul-n c = search needs
-
-over-turns-requires : tie.Need-over-turns-requires
-over-turns-requires c κs = search needs
-
-blend-bytes-requires : tie.Need-blend-bytes-requires
-blend-bytes-requires c κs = search needs
-
-same-length : tie.Need-same-length
-same-length c = search needs
-
 returns : tie.Need-returns
 returns c =
     let c₆ = c .before .before .before .before .before .before in
@@ -27,23 +15,8 @@ returns c =
     part-more (a .args .p .rule) (a .args .s .now) (a .args .d .now) (c₆ .over-turns .last .0) _ 0 (length (a .args .d .now) / 16 * 16) (length (a .args .d .now)) (omega arith) (omega arith)
     (by-rule _ _ _ _ _ _ _ (over-is (a .args .p) (a .pre .1) (c₈ .if1 .taken)) (c₆ .over-turns .ensures)) (c .before .before .blend-bytes .ensures)
 
-constant-row-requires : tie.Need-constant-row-requires
-constant-row-requires c κs = search needs
-
-same-length-2 : tie.Need-same-length-2
-same-length-2 c = search needs
-
 returns-2 : tie.Need-returns-2
 returns-2 c = c .before .before .constant-row .ensures
-
-turns-requires : tie.Need-turns-requires
-turns-requires c κs = search needs
-
-blend-bytes-requires-2 : tie.Need-blend-bytes-requires-2
-blend-bytes-requires-2 c κs = search needs
-
-same-length-3 : tie.Need-same-length-3
-same-length-3 c = search needs
 
 returns-3 : tie.Need-returns-3
 returns-3 c =
@@ -55,15 +28,15 @@ pub blend-row-spec : {M : Type 1} → statement M
 blend-row-spec =
     tie.close
     (tie.spec
-    mul-n
-    over-turns-requires
-    blend-bytes-requires
-    same-length
+    (λ c. search needs)
+    (λ c κs. search needs)
+    (λ c κs. search needs)
+    (λ c. search needs)
     returns
-    constant-row-requires
-    same-length-2
+    (λ c κs. search needs)
+    (λ c. search needs)
     returns-2
-    turns-requires
-    blend-bytes-requires-2
-    same-length-3
+    (λ c κs. search needs)
+    (λ c κs. search needs)
+    (λ c. search needs)
     returns-3)

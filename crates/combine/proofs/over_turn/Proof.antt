@@ -11,18 +11,6 @@ use borrow.Author.Needs.{needs}
 use Rattle.combine.proofs.over_turn.Statement.{statement}
 use Rattle.combine.proofs.over_turn.Tie as tie
 
-alphas-requires : tie.Need-alphas-requires
-alphas-requires c κs = search needs
-
-is-opaque-requires : tie.Need-is-opaque-requires
-is-opaque-requires c κs = search needs
-
-copy-requires : tie.Need-copy-requires
-copy-requires c κs = search needs
-
-same-length : tie.Need-same-length
-same-length c = search needs
-
 returns : tie.Need-returns
 returns c =
     let f = c .before .before .before .before in
@@ -35,9 +23,6 @@ returns c =
     copy-done (blendModeFactors SrcOver) (now (a .s)) (now (a .d)) _ (a .o) (s .pre .1) in-s (λ j. omega (arith, k .before .slice-known .given j))
     (λ y. (refl, refl)) (sym (full-sum (now (a .s)) (a .o) _ in-s (q .alphas .ensures)) ∙ (sym (v .is-opaque .ensures) ∙ f .if1 .taken)) (c .before .before .copy .ensures)
 
-words-requires : tie.Need-words-requires
-words-requires c κs = search needs
-
 returns-2 : tie.Need-returns-2
 returns-2 c =
     let f = c .before .before in
@@ -47,15 +32,6 @@ returns-2 c =
     let in-s : Bytes (now (a .s)) = λ j. omega (arith, k .shared-slice-known .given j) in
     clear-done (blendModeFactors SrcOver) (now (a .s)) (now (a .d)) (now (a .d)) (a .o) (s .pre .1) in-s (λ j. omega (arith, k .before .slice-known .given j))
     (c .before .words .ensures (c .if3 .taken))
-
-add-add-bytes : tie.Need-add-add-bytes
-add-add-bytes c = search needs
-
-add-bytes-requires : tie.Need-add-bytes-requires
-add-bytes-requires c κs = search needs
-
-same-length-2 : tie.Need-same-length-2
-same-length-2 c = search needs
 
 returns-3 : tie.Need-returns-3
 returns-3 c =
@@ -68,30 +44,21 @@ returns-3 c =
     add-done (blendModeFactors SrcOver) (now (a .s)) (now (a .d)) _ (a .o) (s .pre .1) in-s (λ j. omega (arith, k .before .slice-known .given j))
     (sym (empty-sum (now (a .s)) (a .o) _ in-s (q .alphas .ensures)) ∙ eq-eqb _ 0 (f .if2 .taken)) (c .before .before .add-bytes .ensures)
 
-over-four-requires : tie.Need-over-four-requires
-over-four-requires c κs = search needs
-
-same-length-3 : tie.Need-same-length-3
-same-length-3 c = search needs
-
-returns-4 : tie.Need-returns-4
-returns-4 c = search needs
-
 pub over-turn-spec : {M : Type 1} → statement M
 over-turn-spec =
     tie.close
     (tie.spec
-    alphas-requires
-    is-opaque-requires
-    copy-requires
-    same-length
+    (λ c κs. search needs)
+    (λ c κs. search needs)
+    (λ c κs. search needs)
+    (λ c. search needs)
     returns
-    words-requires
+    (λ c κs. search needs)
     returns-2
-    add-add-bytes
-    add-bytes-requires
-    same-length-2
+    (λ c. search needs)
+    (λ c κs. search needs)
+    (λ c. search needs)
     returns-3
-    over-four-requires
-    same-length-3
-    returns-4)
+    (λ c κs. search needs)
+    (λ c. search needs)
+    (λ c. search needs))

@@ -23,17 +23,8 @@ loop-holds : tie.Need-loop-holds Inv-loop μ-loop
 loop-holds c = (search needs, none-done _ _ _)
 
 -- src/row.rt:109:9
-over-turn-requires : tie.Need-over-turn-requires Inv-loop μ-loop
-over-turn-requires c κs = search needs
-
 -- src/row.rt:110:9
-add-o : tie.Need-add-o Inv-loop μ-loop
-add-o c = search needs
-
 -- src/row.rt:108:5
-loop-less : tie.Need-loop-less Inv-loop μ-loop
-loop-less c = search needs
-
 -- src/row.rt:108:5
 loop-again : tie.Need-loop-again Inv-loop μ-loop
 loop-again c =
@@ -41,9 +32,6 @@ loop-again c =
     (search needs, part-more (blendModeFactors SrcOver) _ _ (b .loop .d) _ _ (b .loop .o) _ (omega arith) (omega arith) (b .loop .inv .1) (c .before .before .over-turn .ensures))
 
 -- src/row.rt:103:1
-same-length : tie.Need-same-length Inv-loop μ-loop
-same-length c = search needs
-
 -- src/row.rt:103:1
 returns : tie.Need-returns Inv-loop μ-loop
 returns c = to-end _ _ _ _ (c .before .loop .o) _ (omega arith) (c .before .loop .inv .1)
@@ -55,9 +43,9 @@ over-turns-spec =
     Inv-loop
     μ-loop
     loop-holds
-    over-turn-requires
-    add-o
-    loop-less
+    (λ c κs. search needs)
+    (λ c. search needs)
+    (λ c. search needs)
     loop-again
-    same-length
+    (λ c. search needs)
     returns)

@@ -10,18 +10,6 @@ use borrow.Author.Needs.{needs}
 use Rattle.combine.proofs.turn.Statement.{statement}
 use Rattle.combine.proofs.turn.Tie as tie
 
-alphas-requires : tie.Need-alphas-requires
-alphas-requires c κs = search needs
-
-is-opaque-requires : tie.Need-is-opaque-requires
-is-opaque-requires c κs = search needs
-
-copy-requires : tie.Need-copy-requires
-copy-requires c κs = search needs
-
-same-length : tie.Need-same-length
-same-length c = search needs
-
 returns : tie.Need-returns
 returns c =
     let f = c .before .before .before .before in
@@ -46,12 +34,6 @@ returns-2 c =
     leave-done (a .p .rule) (now (a .s)) (now (a .d)) (now (a .d)) (a .o) (s .pre .0 .1) in-s (λ j. omega (arith, k .before .slice-known .given j))
     (leaves-is (a .p) (s .pre .1) (t .1)) (sym (empty-sum (now (a .s)) (a .o) _ in-s (q .alphas .ensures)) ∙ t .0)
 
-blend-four-requires : tie.Need-blend-four-requires
-blend-four-requires c κs = search needs
-
-same-length-2 : tie.Need-same-length-2
-same-length-2 c = search needs
-
 returns-3 : tie.Need-returns-3
 returns-3 c = c .before .before .blend-four .ensures
 
@@ -59,12 +41,12 @@ pub turn-spec : {M : Type 1} → statement M
 turn-spec =
     tie.close
     (tie.spec
-    alphas-requires
-    is-opaque-requires
-    copy-requires
-    same-length
+    (λ c κs. search needs)
+    (λ c κs. search needs)
+    (λ c κs. search needs)
+    (λ c. search needs)
     returns
     returns-2
-    blend-four-requires
-    same-length-2
+    (λ c κs. search needs)
+    (λ c. search needs)
     returns-3)

@@ -21,17 +21,8 @@ loop-holds : tie.Need-loop-holds Inv-loop μ-loop
 loop-holds c = (search needs, none-done _ _ _)
 
 -- src/row.rt:85:9
-turn-requires : tie.Need-turn-requires Inv-loop μ-loop
-turn-requires c κs = search needs
-
 -- src/row.rt:86:9
-add-o : tie.Need-add-o Inv-loop μ-loop
-add-o c = search needs
-
 -- src/row.rt:84:5
-loop-less : tie.Need-loop-less Inv-loop μ-loop
-loop-less c = search needs
-
 -- src/row.rt:84:5
 loop-again : tie.Need-loop-again Inv-loop μ-loop
 loop-again c =
@@ -40,9 +31,6 @@ loop-again c =
     (search needs, part-more (a .args .p .rule) _ _ (b .loop .d) _ _ (b .loop .o) _ (omega arith) (omega arith) (b .loop .inv .1) (c .before .before .turn .ensures))
 
 -- src/row.rt:79:1
-same-length : tie.Need-same-length Inv-loop μ-loop
-same-length c = search needs
-
 -- src/row.rt:79:1
 returns : tie.Need-returns Inv-loop μ-loop
 returns c = to-end _ _ _ _ (c .before .loop .o) _ (omega arith) (c .before .loop .inv .1)
@@ -54,9 +42,9 @@ turns-spec =
     Inv-loop
     μ-loop
     loop-holds
-    turn-requires
-    add-o
-    loop-less
+    (λ c κs. search needs)
+    (λ c. search needs)
+    (λ c. search needs)
     loop-again
-    same-length
+    (λ c. search needs)
     returns)

@@ -21,61 +21,19 @@ loop-holds : tie.Need-loop-holds Inv-loop μ-loop
 loop-holds c = (search needs, (search needs, below-none _))
 
 -- src/lane.rt:52:24
-mul-blend-two : tie.Need-mul-blend-two Inv-loop μ-loop
-mul-blend-two c = search needs
-
 -- src/lane.rt:52:24
-element-copy-out-blend-two : tie.Need-element-copy-out-blend-two Inv-loop μ-loop
-element-copy-out-blend-two c = search needs
-
 -- src/lane.rt:52:30
-mul-blend-two-2 : tie.Need-mul-blend-two-2 Inv-loop μ-loop
-mul-blend-two-2 c = search needs
-
 -- src/lane.rt:52:30
-element-copy-out-blend-two-2 : tie.Need-element-copy-out-blend-two-2 Inv-loop μ-loop
-element-copy-out-blend-two-2 c = search needs
-
 -- src/lane.rt:52:42
-mul-top : tie.Need-mul-top Inv-loop μ-loop
-mul-top c = search needs
-
 -- src/lane.rt:52:42
-add-top : tie.Need-add-top Inv-loop μ-loop
-add-top c = search needs
-
 -- src/lane.rt:52:40
-mul-top-2 : tie.Need-mul-top-2 Inv-loop μ-loop
-mul-top-2 c = search needs
-
 -- src/lane.rt:52:40
-element-copy-out-top : tie.Need-element-copy-out-top Inv-loop μ-loop
-element-copy-out-top c = search needs
-
 -- src/lane.rt:52:36
-top-requires : tie.Need-top-requires Inv-loop μ-loop
-top-requires c κs = search needs
-
 -- src/lane.rt:52:65
-mul-top-3 : tie.Need-mul-top-3 Inv-loop μ-loop
-mul-top-3 c = search needs
-
 -- src/lane.rt:52:65
-add-top-2 : tie.Need-add-top-2 Inv-loop μ-loop
-add-top-2 c = search needs
-
 -- src/lane.rt:52:63
-mul-top-4 : tie.Need-mul-top-4 Inv-loop μ-loop
-mul-top-4 c = search needs
-
 -- src/lane.rt:52:63
-element-copy-out-top-2 : tie.Need-element-copy-out-top-2 Inv-loop μ-loop
-element-copy-out-top-2 c = search needs
-
 -- src/lane.rt:52:59
-top-requires-2 : tie.Need-top-requires-2 Inv-loop μ-loop
-top-requires-2 c κs = search needs
-
 -- src/lane.rt:52:16
 blend-two-requires : tie.Need-blend-two-requires Inv-loop μ-loop
 blend-two-requires c κs =
@@ -83,21 +41,9 @@ blend-two-requires c κs =
     (c₈ .pre, (search needs, search needs))
 
 -- src/lane.rt:52:9
-mul-r : tie.Need-mul-r Inv-loop μ-loop
-mul-r c = search needs
-
 -- src/lane.rt:52:9
-array-write-r : tie.Need-array-write-r Inv-loop μ-loop
-array-write-r c = search needs
-
 -- src/lane.rt:53:9
-add-i : tie.Need-add-i Inv-loop μ-loop
-add-i c = search needs
-
 -- src/lane.rt:51:5
-loop-less : tie.Need-loop-less Inv-loop μ-loop
-loop-less c = search needs
-
 -- src/lane.rt:51:5
 loop-again : tie.Need-loop-again Inv-loop μ-loop
 loop-again c =
@@ -115,24 +61,24 @@ blend8-spec =
     Inv-loop
     μ-loop
     loop-holds
-    mul-blend-two
-    element-copy-out-blend-two
-    mul-blend-two-2
-    element-copy-out-blend-two-2
-    mul-top
-    add-top
-    mul-top-2
-    element-copy-out-top
-    top-requires
-    mul-top-3
-    add-top-2
-    mul-top-4
-    element-copy-out-top-2
-    top-requires-2
+    (λ c. search needs)
+    (λ c. search needs)
+    (λ c. search needs)
+    (λ c. search needs)
+    (λ c. search needs)
+    (λ c. search needs)
+    (λ c. search needs)
+    (λ c. search needs)
+    (λ c κs. search needs)
+    (λ c. search needs)
+    (λ c. search needs)
+    (λ c. search needs)
+    (λ c. search needs)
+    (λ c κs. search needs)
     blend-two-requires
-    mul-r
-    array-write-r
-    add-i
-    loop-less
+    (λ c. search needs)
+    (λ c. search needs)
+    (λ c. search needs)
+    (λ c. search needs)
     loop-again
     returns)

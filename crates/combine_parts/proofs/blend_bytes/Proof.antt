@@ -21,45 +21,15 @@ loop-holds : tie.Need-loop-holds Inv-loop μ-loop
 loop-holds c = (search needs, none-done _ _ _)
 
 -- src/row.rt:57:17
-mul-k : tie.Need-mul-k Inv-loop μ-loop
-mul-k c = search needs
-
 -- src/row.rt:57:17
-add-k : tie.Need-add-k Inv-loop μ-loop
-add-k c = search needs
-
 -- src/row.rt:58:24
-shared-slice-read-blend-one : tie.Need-shared-slice-read-blend-one Inv-loop μ-loop
-shared-slice-read-blend-one c = search needs
-
 -- src/row.rt:58:30
-slice-read-blend-one : tie.Need-slice-read-blend-one Inv-loop μ-loop
-slice-read-blend-one c = search needs
-
 -- src/row.rt:58:36
-shared-slice-read-blend-one-2 : tie.Need-shared-slice-read-blend-one-2 Inv-loop μ-loop
-shared-slice-read-blend-one-2 c = search needs
-
 -- src/row.rt:58:42
-slice-read-blend-one-2 : tie.Need-slice-read-blend-one-2 Inv-loop μ-loop
-slice-read-blend-one-2 c = search needs
-
 -- src/row.rt:58:16
-blend-one-requires : tie.Need-blend-one-requires Inv-loop μ-loop
-blend-one-requires c κs = search needs
-
 -- src/row.rt:58:9
-slice-write-d : tie.Need-slice-write-d Inv-loop μ-loop
-slice-write-d c = search needs
-
 -- src/row.rt:59:9
-add-j : tie.Need-add-j Inv-loop μ-loop
-add-j c = search needs
-
 -- src/row.rt:56:5
-loop-less : tie.Need-loop-less Inv-loop μ-loop
-loop-less c = search needs
-
 -- src/row.rt:56:5
 loop-again : tie.Need-loop-again Inv-loop μ-loop
 unfolding blendAt
@@ -69,9 +39,6 @@ loop-again c =
     (((omega arith, omega arith), simp length-set (b .loop .inv .0 .1)), byte-more (a .args .p .rule) (a .args .s .now) _ (b .loop .d) _ (b .loop .j) _ (b .loop .inv .0 .0 .0) (omega arith) (c .blend-one .ensures) (b .loop .inv .1))
 
 -- src/row.rt:51:1
-same-length : tie.Need-same-length Inv-loop μ-loop
-same-length c = search needs
-
 -- src/row.rt:51:1
 returns : tie.Need-returns Inv-loop μ-loop
 returns c = to-end _ _ _ _ (c .before .loop .j) _ (omega arith) (c .before .loop .inv .1)
@@ -83,16 +50,16 @@ blend-bytes-spec =
     Inv-loop
     μ-loop
     loop-holds
-    mul-k
-    add-k
-    shared-slice-read-blend-one
-    slice-read-blend-one
-    shared-slice-read-blend-one-2
-    slice-read-blend-one-2
-    blend-one-requires
-    slice-write-d
-    add-j
-    loop-less
+    (λ c. search needs)
+    (λ c. search needs)
+    (λ c. search needs)
+    (λ c. search needs)
+    (λ c. search needs)
+    (λ c. search needs)
+    (λ c κs. search needs)
+    (λ c. search needs)
+    (λ c. search needs)
+    (λ c. search needs)
     loop-again
-    same-length
+    (λ c. search needs)
     returns)

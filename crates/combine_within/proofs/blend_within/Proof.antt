@@ -9,9 +9,6 @@ use borrow.Author.Needs.{needs}
 use Rattle.combine_within.proofs.blend_within.Statement.{statement}
 use Rattle.combine_within.proofs.blend_within.Tie as tie
 
-mul-e : tie.Need-mul-e
-mul-e c = search needs
-
 over-turns-requires : tie.Need-over-turns-requires
 over-turns-requires c κs =
     let s = c .before .before .before in
@@ -26,9 +23,6 @@ blend-bytes-requires c κs =
     let m = length (now (a .m)) in
     ((apart-part m _ (a .to) (a .from) (a .n) (a .to) (a .from) 0 (a .n) (s .pre .0 .0) (c .before .before .before .over-turns .kept .0) (omega arith) (omega arith) (omega arith), (omega arith, s .pre .0 .1)), s .pre .1)
 
-same-length : tie.Need-same-length
-same-length c = search needs
-
 returns : tie.Need-returns
 returns c =
     let f = c .before .before .before .before .before .before in
@@ -38,15 +32,6 @@ returns c =
     let e : ℕ = a .n / 16 * 16 in
     rest-within (a .p .rule) m (f .over-turns .last .0) (a .to) (a .from) (a .n) e (a .to) (s .pre .0 .0) (s .pre .0 .1) (omega arith) (omega arith) (omega arith)
     (by-rule _ _ _ _ _ _ e (over-is (a .p) (s .pre .1) (f .before .before .if1 .taken)) (f .over-turns .ensures)) _ (c .before .before .blend-bytes .ensures)
-
-constant-within-requires : tie.Need-constant-within-requires
-constant-within-requires c κs = search needs
-
-same-length-2 : tie.Need-same-length-2
-same-length-2 c = search needs
-
-returns-2 : tie.Need-returns-2
-returns-2 c = search needs
 
 turns-requires : tie.Need-turns-requires
 turns-requires c κs =
@@ -62,9 +47,6 @@ blend-bytes-requires-2 c κs =
     let m = length (now (a .m)) in
     ((apart-part m _ (a .to) (a .from) (a .n) (a .to) (a .from) 0 (a .n) (s .pre .0 .0) (c .before .before .before .turns .kept .0) (omega arith) (omega arith) (omega arith), (omega arith, s .pre .0 .1)), s .pre .1)
 
-same-length-3 : tie.Need-same-length-3
-same-length-3 c = search needs
-
 returns-3 : tie.Need-returns-3
 returns-3 c =
     let f = c .before .before .before .before .before .before in
@@ -79,15 +61,15 @@ pub blend-within-spec : {M : Type 1} → statement M
 blend-within-spec =
     tie.close
     (tie.spec
-    mul-e
+    (λ c. search needs)
     over-turns-requires
     blend-bytes-requires
-    same-length
+    (λ c. search needs)
     returns
-    constant-within-requires
-    same-length-2
-    returns-2
+    (λ c κs. search needs)
+    (λ c. search needs)
+    (λ c. search needs)
     turns-requires
     blend-bytes-requires-2
-    same-length-3
+    (λ c. search needs)
     returns-3)

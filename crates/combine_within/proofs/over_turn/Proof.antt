@@ -11,18 +11,6 @@ use borrow.Author.Needs.{needs}
 use Rattle.combine_within.proofs.over_turn.Statement.{statement}
 use Rattle.combine_within.proofs.over_turn.Tie as tie
 
-alphas-requires : tie.Need-alphas-requires
-alphas-requires c κs = search needs
-
-is-opaque-requires : tie.Need-is-opaque-requires
-is-opaque-requires c κs = search needs
-
-copy-four-requires : tie.Need-copy-four-requires
-copy-four-requires c κs = search needs
-
-same-length : tie.Need-same-length
-same-length c = search needs
-
 returns : tie.Need-returns
 returns c =
     let t = c .before .before .before .before in
@@ -33,24 +21,12 @@ returns c =
     opaque-within (blendModeFactors SrcOver) (now (a .m)) _ (a .to) (a .from) in-m (λ y. (refl, refl))
     (sym (full-sum (now (a .m)) (a .from) _ in-m (f .alphas .ensures)) ∙ (sym (t .before .is-opaque .ensures) ∙ t .if1 .taken)) (c .before .before .copy-four .ensures)
 
-words-requires : tie.Need-words-requires
-words-requires c κs = search needs
-
-same-length-2 : tie.Need-same-length-2
-same-length-2 c = search needs
-
 returns-2 : tie.Need-returns-2
 returns-2 c =
     let f = c .before .before .before .before .before .before in
     let k = f .before .before in
     let a = k .before .args in
     clear-within (blendModeFactors SrcOver) (now (a .m)) (now (a .m)) (a .to) (a .from) (λ j. omega (arith, k .slice-known .given j)) (c .before .words .ensures (c .if3 .taken))
-
-add-bytes-requires : tie.Need-add-bytes-requires
-add-bytes-requires c κs = search needs
-
-same-length-3 : tie.Need-same-length-3
-same-length-3 c = search needs
 
 returns-3 : tie.Need-returns-3
 returns-3 c =
@@ -62,30 +38,21 @@ returns-3 c =
     add-within (blendModeFactors SrcOver) (now (a .m)) _ (a .to) (a .from) in-m
     (sym (empty-sum (now (a .m)) (a .from) _ in-m (f .alphas .ensures)) ∙ eq-eqb _ 0 (t .if2 .taken)) (c .before .before .add-bytes .ensures)
 
-over-four-requires : tie.Need-over-four-requires
-over-four-requires c κs = search needs
-
-same-length-4 : tie.Need-same-length-4
-same-length-4 c = search needs
-
-returns-4 : tie.Need-returns-4
-returns-4 c = search needs
-
 pub over-turn-spec : {M : Type 1} → statement M
 over-turn-spec =
     tie.close
     (tie.spec
-    alphas-requires
-    is-opaque-requires
-    copy-four-requires
-    same-length
+    (λ c κs. search needs)
+    (λ c κs. search needs)
+    (λ c κs. search needs)
+    (λ c. search needs)
     returns
-    words-requires
-    same-length-2
+    (λ c κs. search needs)
+    (λ c. search needs)
     returns-2
-    add-bytes-requires
-    same-length-3
+    (λ c κs. search needs)
+    (λ c. search needs)
     returns-3
-    over-four-requires
-    same-length-4
-    returns-4)
+    (λ c κs. search needs)
+    (λ c. search needs)
+    (λ c. search needs))

@@ -22,12 +22,6 @@ abbrev μ-loop : tie.MeasureT-loop
 loop-holds : tie.Need-loop-holds Inv-loop μ-loop
 loop-holds c = (search needs, refl, none-within _ _ _)
 
-add-over-turn : tie.Need-add-over-turn Inv-loop μ-loop
-add-over-turn c = search needs
-
-add-over-turn-2 : tie.Need-add-over-turn-2 Inv-loop μ-loop
-add-over-turn-2 c = search needs
-
 over-turn-requires : tie.Need-over-turn-requires Inv-loop μ-loop
 over-turn-requires c κs =
     let t = c .before in
@@ -35,12 +29,6 @@ over-turn-requires c κs =
     let s = t .before .before .before in
     let a = s .args in
     apart-part (length (now (a .m))) _ (a .to) (a .from) (a .n) _ _ (l .o) 16 (s .pre .0) (l .inv .1) refl refl (omega (arith, t .loop-test .taken, l .inv .0 .1, s .pre .1))
-
-add-o : tie.Need-add-o Inv-loop μ-loop
-add-o c = search needs
-
-loop-less : tie.Need-loop-less Inv-loop μ-loop
-loop-less c = search needs
 
 loop-again : tie.Need-loop-again Inv-loop μ-loop
 loop-again c =
@@ -55,9 +43,6 @@ loop-again c =
           (omega (arith, l .inv .0 .1)) (omega (arith, t .loop-test .taken, l .inv .0 .1, s .pre .1)) (f .over-turn .ensures),
     )
 
-same-length : tie.Need-same-length Inv-loop μ-loop
-same-length c = search needs
-
 returns : tie.Need-returns Inv-loop μ-loop
 returns c =
     let l = c .before .loop in
@@ -70,11 +55,11 @@ over-turns-spec =
     Inv-loop
     μ-loop
     loop-holds
-    add-over-turn
-    add-over-turn-2
+    (λ c. search needs)
+    (λ c. search needs)
     over-turn-requires
-    add-o
-    loop-less
+    (λ c. search needs)
+    (λ c. search needs)
     loop-again
-    same-length
+    (λ c. search needs)
     returns)

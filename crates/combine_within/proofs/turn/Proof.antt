@@ -10,18 +10,6 @@ use borrow.Author.Needs.{needs}
 use Rattle.combine_within.proofs.turn.Statement.{statement}
 use Rattle.combine_within.proofs.turn.Tie as tie
 
-alphas-requires : tie.Need-alphas-requires
-alphas-requires c κs = search needs
-
-is-opaque-requires : tie.Need-is-opaque-requires
-is-opaque-requires c κs = search needs
-
-copy-four-requires : tie.Need-copy-four-requires
-copy-four-requires c κs = search needs
-
-same-length : tie.Need-same-length
-same-length c = search needs
-
 returns : tie.Need-returns
 returns c =
     let t = c .before .before .before .before in
@@ -34,9 +22,6 @@ returns c =
     opaque-within (s .args .p .rule) (now (s .args .m)) _ (s .args .to) (s .args .from) in-m (copies-is (s .args .p) (s .pre .1) (b .1))
     (sym (full-sum (now (s .args .m)) (s .args .from) _ in-m (f .alphas .ensures)) ∙ (sym (v .is-opaque .ensures) ∙ b .0)) (c .before .before .copy-four .ensures)
 
-same-length-2 : tie.Need-same-length-2
-same-length-2 c = search needs
-
 returns-2 : tie.Need-returns-2
 returns-2 c =
     let f = c .before .before .before .before .before in
@@ -47,26 +32,17 @@ returns-2 c =
     leave-within (s .args .p .rule) (now (s .args .m)) (now (s .args .m)) (s .args .to) (s .args .from) in-m (leaves-is (s .args .p) (s .pre .1) (b .1))
     (sym (empty-sum (now (s .args .m)) (s .args .from) _ in-m (f .alphas .ensures)) ∙ b .0)
 
-blend-four-requires : tie.Need-blend-four-requires
-blend-four-requires c κs = search needs
-
-same-length-3 : tie.Need-same-length-3
-same-length-3 c = search needs
-
-returns-3 : tie.Need-returns-3
-returns-3 c = search needs
-
 pub turn-spec : {M : Type 1} → statement M
 turn-spec =
     tie.close
     (tie.spec
-    alphas-requires
-    is-opaque-requires
-    copy-four-requires
-    same-length
+    (λ c κs. search needs)
+    (λ c κs. search needs)
+    (λ c κs. search needs)
+    (λ c. search needs)
     returns
-    same-length-2
+    (λ c. search needs)
     returns-2
-    blend-four-requires
-    same-length-3
-    returns-3)
+    (λ c κs. search needs)
+    (λ c. search needs)
+    (λ c. search needs))

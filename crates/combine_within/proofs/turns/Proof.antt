@@ -20,12 +20,6 @@ abbrev μ-loop : tie.MeasureT-loop
 loop-holds : tie.Need-loop-holds Inv-loop μ-loop
 loop-holds c = (search needs, refl, none-within _ _ _)
 
-add-turn : tie.Need-add-turn Inv-loop μ-loop
-add-turn c = search needs
-
-add-turn-2 : tie.Need-add-turn-2 Inv-loop μ-loop
-add-turn-2 c = search needs
-
 turn-requires : tie.Need-turn-requires Inv-loop μ-loop
 turn-requires c κs =
     let t = c .before in
@@ -37,12 +31,6 @@ turn-requires c κs =
       ),
       s .pre .1,
     )
-
-add-o : tie.Need-add-o Inv-loop μ-loop
-add-o c = search needs
-
-loop-less : tie.Need-loop-less Inv-loop μ-loop
-loop-less c = search needs
 
 loop-again : tie.Need-loop-again Inv-loop μ-loop
 loop-again c =
@@ -57,9 +45,6 @@ loop-again c =
           (omega (arith, l .inv .0 .1)) (omega (arith, t .loop-test .taken, l .inv .0 .1, s .pre .0 .1)) (f .turn .ensures),
     )
 
-same-length : tie.Need-same-length Inv-loop μ-loop
-same-length c = search needs
-
 returns : tie.Need-returns Inv-loop μ-loop
 returns c =
     let l = c .before .loop in
@@ -72,11 +57,11 @@ turns-spec =
     Inv-loop
     μ-loop
     loop-holds
-    add-turn
-    add-turn-2
+    (λ c. search needs)
+    (λ c. search needs)
     turn-requires
-    add-o
-    loop-less
+    (λ c. search needs)
+    (λ c. search needs)
     loop-again
-    same-length
+    (λ c. search needs)
     returns)

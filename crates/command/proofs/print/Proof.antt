@@ -13,15 +13,6 @@ returns c = (simp (lt-leb _ _ (c .if1 .taken)), λ h. refl)
 slice-aggregate-write-all : tie.Need-slice-aggregate-write-all
 slice-aggregate-write-all c = sym (length-take-le (c .before .before .before .args .n) (now (c .before .before .before .args .out)) (omega arith))
 
-write-all-requires : tie.Need-write-all-requires
-write-all-requires c κs = search needs
-
-slice-aggregate-fail : tie.Need-slice-aggregate-fail
-slice-aggregate-fail c = search needs
-
-fail-requires : tie.Need-fail-requires
-fail-requires c κs = search needs
-
 returns-2 : tie.Need-returns-2
 returns-2 c =
     let c₅ = c .before .before .before .before .before in
@@ -36,8 +27,8 @@ print-spec =
     (tie.spec
     returns
     slice-aggregate-write-all
-    write-all-requires
-    slice-aggregate-fail
-    fail-requires
+    (λ c κs. search needs)
+    (λ c. search needs)
+    (λ c κs. search needs)
     returns-2
     returns-3)

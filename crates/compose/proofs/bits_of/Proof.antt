@@ -5,19 +5,10 @@ use Rattle.compose.proofs.Bits.{weight-most, turns-most}
 use Rattle.compose.proofs.bits_of.Statement.{statement}
 use Rattle.compose.proofs.bits_of.Tie as tie
 
-weight-requires : tie.Need-weight-requires
-weight-requires c κs = search needs
-
-weight-requires-2 : tie.Need-weight-requires-2
-weight-requires-2 c κs = search needs
-
 add-result : tie.Need-add-result
 add-result c =
     let t = c .before .before .before .args .setting in
     rw (c .before .weight .ensures, c .weight2 .ensures) (omega (arith, weight-most (t .flip .vertical) 128, weight-most (t .flip .horizontal) 64))
-
-turns-requires : tie.Need-turns-requires
-turns-requires c κs = search needs
 
 mul-result : tie.Need-mul-result
 mul-result c =
@@ -35,4 +26,11 @@ unfolding bitsOf
 returns c = rw (c .before .before .weight .ensures, c .before .weight2 .ensures, c .turns .ensures)
 
 pub bits-of-spec : {M : Type 1} → statement M
-bits-of-spec = tie.close (tie.spec weight-requires weight-requires-2 add-result turns-requires mul-result add-result-2 returns)
+bits-of-spec = tie.close (tie.spec
+    (λ c κs. search needs)
+    (λ c κs. search needs)
+    add-result
+    (λ c κs. search needs)
+    mul-result
+    add-result-2
+    returns)

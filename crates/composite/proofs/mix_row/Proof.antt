@@ -5,24 +5,6 @@ use borrow.Author.Needs.{needs}
 use Rattle.composite.proofs.mix_row.Statement.{statement}
 use Rattle.composite.proofs.mix_row.Tie as tie
 
-prepare-row-requires : tie.Need-prepare-row-requires
-prepare-row-requires c κs = search needs
-
-alpha-row-requires : tie.Need-alpha-row-requires
-alpha-row-requires c κs = search needs
-
-alpha-row-requires-2 : tie.Need-alpha-row-requires-2
-alpha-row-requires-2 c κs = search needs
-
-blend-row-requires : tie.Need-blend-row-requires
-blend-row-requires c κs = search needs
-
-same-length : tie.Need-same-length
-same-length c = search needs
-
-same-length-2 : tie.Need-same-length-2
-same-length-2 c = search needs
-
 returns : tie.Need-returns
 returns c =
     let v = c .before .before in
@@ -44,10 +26,10 @@ pub mix-row-spec : {M : Type 1} → statement M
 mix-row-spec =
     tie.close
     (tie.spec
-    prepare-row-requires
-    alpha-row-requires
-    alpha-row-requires-2
-    blend-row-requires
-    same-length
-    same-length-2
+    (λ c κs. search needs)
+    (λ c κs. search needs)
+    (λ c κs. search needs)
+    (λ c κs. search needs)
+    (λ c. search needs)
+    (λ c. search needs)
     returns)

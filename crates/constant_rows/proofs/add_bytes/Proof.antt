@@ -21,32 +21,11 @@ abbrev μ-loop : tie.MeasureT-loop
 loop-holds : tie.Need-loop-holds Inv-loop μ-loop
 loop-holds c = (search needs, none-done _ _ _)
 
-shared-slice-read-held-sum : tie.Need-shared-slice-read-held-sum Inv-loop μ-loop
-shared-slice-read-held-sum c = search needs
-
-slice-read-held-sum : tie.Need-slice-read-held-sum Inv-loop μ-loop
-slice-read-held-sum c = search needs
-
-held-sum-requires : tie.Need-held-sum-requires Inv-loop μ-loop
-held-sum-requires c κs = search needs
-
-slice-write-d : tie.Need-slice-write-d Inv-loop μ-loop
-slice-write-d c = search needs
-
-add-j : tie.Need-add-j Inv-loop μ-loop
-add-j c = search needs
-
-loop-less : tie.Need-loop-less Inv-loop μ-loop
-loop-less c = search needs
-
 loop-again : tie.Need-loop-again Inv-loop μ-loop
 unfolding blendAt
 loop-again c =
     let b = c .before .before .before .before in
     (search needs, byte-more (blendModeFactors Add) (b .before .before .before .args .s .now) _ (b .loop .d) _ (b .loop .j) _ (omega arith) (omega arith) (c .held-sum .ensures) (b .loop .inv .1))
-
-same-length : tie.Need-same-length Inv-loop μ-loop
-same-length c = search needs
 
 returns : tie.Need-returns Inv-loop μ-loop
 returns c = to-end _ _ _ _ (c .before .loop .j) _ (omega arith) (c .before .loop .inv .1)
@@ -58,12 +37,12 @@ add-bytes-spec =
     Inv-loop
     μ-loop
     loop-holds
-    shared-slice-read-held-sum
-    slice-read-held-sum
-    held-sum-requires
-    slice-write-d
-    add-j
-    loop-less
+    (λ c. search needs)
+    (λ c. search needs)
+    (λ c κs. search needs)
+    (λ c. search needs)
+    (λ c. search needs)
+    (λ c. search needs)
     loop-again
-    same-length
+    (λ c. search needs)
     returns)

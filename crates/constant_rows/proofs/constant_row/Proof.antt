@@ -5,12 +5,6 @@ use borrow.Author.Needs.{needs}
 use Rattle.constant_rows.proofs.constant_row.Statement.{statement}
 use Rattle.constant_rows.proofs.constant_row.Tie as tie
 
-add-bytes-requires : tie.Need-add-bytes-requires
-add-bytes-requires c κs = search needs
-
-same-length : tie.Need-same-length
-same-length c = search needs
-
 returns : tie.Need-returns
 returns c =
     let t = c .before .before .before .before in
@@ -19,12 +13,6 @@ returns c =
     let k = a .pre .1 in
     added-row (p .rule) (a .args .s .now) (a .args .d .now) _ _
     (source-whole p (k .0) (k .1) (t .before .before .if1 .taken)) (destination-whole p (k .0) (k .1) (t .if2 .taken)) (c .before .before .add-bytes .ensures)
-
-copy-requires : tie.Need-copy-requires
-copy-requires c κs = search needs
-
-same-length-2 : tie.Need-same-length-2
-same-length-2 c = search needs
 
 returns-2 : tie.Need-returns-2
 returns-2 c =
@@ -45,12 +33,6 @@ returns-3 c =
     left-row (p .rule) (a .args .s .now) (a .args .d .now) _ (λ j. omega (arith, d .slice-known .given j))
     (source-nothing p (k .0) (k .1) (c .before .before .if1 .left)) (destination-whole p (k .0) (k .1) (c .if3 .taken))
 
-clear-requires : tie.Need-clear-requires
-clear-requires c κs = search needs
-
-same-length-3 : tie.Need-same-length-3
-same-length-3 c = search needs
-
 returns-4 : tie.Need-returns-4
 returns-4 c =
     let t = c .before .before .before .before in
@@ -64,13 +46,13 @@ pub constant-row-spec : {M : Type 1} → statement M
 constant-row-spec =
     tie.close
     (tie.spec
-    add-bytes-requires
-    same-length
+    (λ c κs. search needs)
+    (λ c. search needs)
     returns
-    copy-requires
-    same-length-2
+    (λ c κs. search needs)
+    (λ c. search needs)
     returns-2
     returns-3
-    clear-requires
-    same-length-3
+    (λ c κs. search needs)
+    (λ c. search needs)
     returns-4)

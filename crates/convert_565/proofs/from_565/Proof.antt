@@ -25,49 +25,16 @@ loop-holds : tie.Need-loop-holds Inv-loop μ-loop
 loop-holds c = (search needs, none-done _ _ _)
 
 -- src/lib.rt:79:25
-mul-get2 : tie.Need-mul-get2 Inv-loop μ-loop
-mul-get2 c = search needs
-
 -- src/lib.rt:79:13
-get2-requires : tie.Need-get2-requires Inv-loop μ-loop
-get2-requires c κs = search needs
-
 -- src/lib.rt:80:17
-mul-put2 : tie.Need-mul-put2 Inv-loop μ-loop
-mul-put2 c = search needs
-
 -- src/lib.rt:80:24
-low-requires : tie.Need-low-requires Inv-loop μ-loop
-low-requires c κs = search needs
-
 -- src/lib.rt:80:9
-put2-requires : tie.Need-put2-requires Inv-loop μ-loop
-put2-requires c κs = search needs
-
 -- src/lib.rt:81:17
-mul-put2-2 : tie.Need-mul-put2-2 Inv-loop μ-loop
-mul-put2-2 c = search needs
-
 -- src/lib.rt:81:17
-add-put2 : tie.Need-add-put2 Inv-loop μ-loop
-add-put2 c = search needs
-
 -- src/lib.rt:81:28
-high-requires : tie.Need-high-requires Inv-loop μ-loop
-high-requires c κs = search needs
-
 -- src/lib.rt:81:9
-put2-requires-2 : tie.Need-put2-requires-2 Inv-loop μ-loop
-put2-requires-2 c κs = search needs
-
 -- src/lib.rt:82:9
-add-x : tie.Need-add-x Inv-loop μ-loop
-add-x c = search needs
-
 -- src/lib.rt:78:5
-loop-less : tie.Need-loop-less Inv-loop μ-loop
-loop-less c = search needs
-
 -- src/lib.rt:78:5
 loop-again : tie.Need-loop-again Inv-loop μ-loop
 loop-again c =
@@ -91,9 +58,6 @@ loop-again c =
     )
 
 -- src/lib.rt:73:1
-same-length : tie.Need-same-length Inv-loop μ-loop
-same-length c = search needs
-
 -- src/lib.rt:73:1
 returns : tie.Need-returns Inv-loop μ-loop
 returns c = row-done _ _ _ _ _ (c .before .loop .inv .0 .1) (omega arith) (c .before .loop .inv .1)
@@ -105,17 +69,17 @@ from-565-spec =
     Inv-loop
     μ-loop
     loop-holds
-    mul-get2
-    get2-requires
-    mul-put2
-    low-requires
-    put2-requires
-    mul-put2-2
-    add-put2
-    high-requires
-    put2-requires-2
-    add-x
-    loop-less
+    (λ c. search needs)
+    (λ c κs. search needs)
+    (λ c. search needs)
+    (λ c κs. search needs)
+    (λ c κs. search needs)
+    (λ c. search needs)
+    (λ c. search needs)
+    (λ c κs. search needs)
+    (λ c κs. search needs)
+    (λ c. search needs)
+    (λ c. search needs)
     loop-again
-    same-length
+    (λ c. search needs)
     returns)

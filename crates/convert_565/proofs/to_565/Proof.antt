@@ -1,7 +1,7 @@
 use Rattle.pixel.specs.declared.format.Format.the-variants.{Rgb565}
 use Rattle.lanes.specs.Lanes.{Done}
 use Rattle.lanes.proofs.Passes.{none-done}
-use Rattle.rows.specs.Row.{colourIn}
+use Rattle.row_pixels.specs.Row.{colourIn}
 use Rattle.row_colours.specs.Line.{pixelByte}
 use Rattle.row_colours.proofs.Colours.{Row}
 use Rattle.row_colours.proofs.Stored.{row-done}

@@ -25,65 +25,20 @@ loop-holds : tie.Need-loop-holds Inv-loop μ-loop
 loop-holds c = (search needs, none-done _ _ _)
 
 -- src/lib.rt:115:22
-mul-put-three : tie.Need-mul-put-three Inv-loop μ-loop
-mul-put-three c = search needs
-
 -- src/lib.rt:115:31
-mul-put-three-2 : tie.Need-mul-put-three-2 Inv-loop μ-loop
-mul-put-three-2 c = search needs
-
 -- src/lib.rt:115:29
-shared-slice-read-put-three : tie.Need-shared-slice-read-put-three Inv-loop μ-loop
-shared-slice-read-put-three c = search needs
-
 -- src/lib.rt:115:41
-mul-put-three-3 : tie.Need-mul-put-three-3 Inv-loop μ-loop
-mul-put-three-3 c = search needs
-
 -- src/lib.rt:115:41
-add-put-three : tie.Need-add-put-three Inv-loop μ-loop
-add-put-three c = search needs
-
 -- src/lib.rt:115:39
-shared-slice-read-put-three-2 : tie.Need-shared-slice-read-put-three-2 Inv-loop μ-loop
-shared-slice-read-put-three-2 c = search needs
-
 -- src/lib.rt:115:55
-mul-put-three-4 : tie.Need-mul-put-three-4 Inv-loop μ-loop
-mul-put-three-4 c = search needs
-
 -- src/lib.rt:115:55
-add-put-three-2 : tie.Need-add-put-three-2 Inv-loop μ-loop
-add-put-three-2 c = search needs
-
 -- src/lib.rt:115:53
-shared-slice-read-put-three-3 : tie.Need-shared-slice-read-put-three-3 Inv-loop μ-loop
-shared-slice-read-put-three-3 c = search needs
-
 -- src/lib.rt:115:9
-put-three-requires : tie.Need-put-three-requires Inv-loop μ-loop
-put-three-requires c κs = search needs
-
 -- src/lib.rt:116:11
-mul-d : tie.Need-mul-d Inv-loop μ-loop
-mul-d c = search needs
-
 -- src/lib.rt:116:11
-add-d : tie.Need-add-d Inv-loop μ-loop
-add-d c = search needs
-
 -- src/lib.rt:116:9
-slice-write-d : tie.Need-slice-write-d Inv-loop μ-loop
-slice-write-d c = search needs
-
 -- src/lib.rt:117:9
-add-x : tie.Need-add-x Inv-loop μ-loop
-add-x c = search needs
-
 -- src/lib.rt:114:5
-loop-less : tie.Need-loop-less Inv-loop μ-loop
-loop-less c = search needs
-
 -- src/lib.rt:114:5
 loop-again : tie.Need-loop-again Inv-loop μ-loop
 loop-again c =
@@ -95,9 +50,6 @@ loop-again c =
     ((omega arith, simp length-set (p .kept .0 ∙ b .loop .inv .0 .1)), opaque-more (a .args .s .now) (a .args .d .now) (b .loop .d) (p .last .0) (b .loop .x) in-s (omega arith) (omega (arith, p .kept .0, b .loop .inv .0 .1)) (p .ensures) (b .loop .inv .1))
 
 -- src/lib.rt:109:1
-same-length : tie.Need-same-length Inv-loop μ-loop
-same-length c = search needs
-
 -- src/lib.rt:109:1
 returns : tie.Need-returns Inv-loop μ-loop
 returns c = row-done _ _ _ _ _ (c .before .loop .inv .0 .1) (omega arith) (c .before .loop .inv .1)
@@ -109,21 +61,21 @@ from-888-spec =
     Inv-loop
     μ-loop
     loop-holds
-    mul-put-three
-    mul-put-three-2
-    shared-slice-read-put-three
-    mul-put-three-3
-    add-put-three
-    shared-slice-read-put-three-2
-    mul-put-three-4
-    add-put-three-2
-    shared-slice-read-put-three-3
-    put-three-requires
-    mul-d
-    add-d
-    slice-write-d
-    add-x
-    loop-less
+    (λ c. search needs)
+    (λ c. search needs)
+    (λ c. search needs)
+    (λ c. search needs)
+    (λ c. search needs)
+    (λ c. search needs)
+    (λ c. search needs)
+    (λ c. search needs)
+    (λ c. search needs)
+    (λ c κs. search needs)
+    (λ c. search needs)
+    (λ c. search needs)
+    (λ c. search needs)
+    (λ c. search needs)
+    (λ c. search needs)
     loop-again
-    same-length
+    (λ c. search needs)
     returns)

@@ -1,7 +1,7 @@
 use Rattle.pixel.specs.declared.format.Format.the-variants.{Rgb888}
 use Rattle.lanes.specs.Lanes.{Done}
 use Rattle.lanes.proofs.Passes.{none-done}
-use Rattle.rows.specs.Row.{colourIn}
+use Rattle.row_pixels.specs.Row.{colourIn}
 use Rattle.row_colours.proofs.Colours.{Row}
 use Rattle.row_colours.specs.Line.{pixelByte}
 use Rattle.row_colours.proofs.Stored.{row-done}
@@ -25,53 +25,17 @@ loop-holds : tie.Need-loop-holds Inv-loop μ-loop
 loop-holds c = (search needs, none-done _ _ _)
 
 -- src/lib.rt:103:22
-mul-put-three : tie.Need-mul-put-three Inv-loop μ-loop
-mul-put-three c = search needs
-
 -- src/lib.rt:103:31
-mul-put-three-2 : tie.Need-mul-put-three-2 Inv-loop μ-loop
-mul-put-three-2 c = search needs
-
 -- src/lib.rt:103:29
-shared-slice-read-put-three : tie.Need-shared-slice-read-put-three Inv-loop μ-loop
-shared-slice-read-put-three c = search needs
-
 -- src/lib.rt:103:41
-mul-put-three-3 : tie.Need-mul-put-three-3 Inv-loop μ-loop
-mul-put-three-3 c = search needs
-
 -- src/lib.rt:103:41
-add-put-three : tie.Need-add-put-three Inv-loop μ-loop
-add-put-three c = search needs
-
 -- src/lib.rt:103:39
-shared-slice-read-put-three-2 : tie.Need-shared-slice-read-put-three-2 Inv-loop μ-loop
-shared-slice-read-put-three-2 c = search needs
-
 -- src/lib.rt:103:55
-mul-put-three-4 : tie.Need-mul-put-three-4 Inv-loop μ-loop
-mul-put-three-4 c = search needs
-
 -- src/lib.rt:103:55
-add-put-three-2 : tie.Need-add-put-three-2 Inv-loop μ-loop
-add-put-three-2 c = search needs
-
 -- src/lib.rt:103:53
-shared-slice-read-put-three-3 : tie.Need-shared-slice-read-put-three-3 Inv-loop μ-loop
-shared-slice-read-put-three-3 c = search needs
-
 -- src/lib.rt:103:9
-put-three-requires : tie.Need-put-three-requires Inv-loop μ-loop
-put-three-requires c κs = search needs
-
 -- src/lib.rt:104:9
-add-x : tie.Need-add-x Inv-loop μ-loop
-add-x c = search needs
-
 -- src/lib.rt:102:5
-loop-less : tie.Need-loop-less Inv-loop μ-loop
-loop-less c = search needs
-
 -- src/lib.rt:102:5
 loop-again : tie.Need-loop-again Inv-loop μ-loop
 loop-again c =
@@ -83,9 +47,6 @@ loop-again c =
     (search needs, three-more (a .args .s .now) (a .args .d .now) (b .loop .d) _ (b .loop .x) in-s (omega arith) (p .ensures) (b .loop .inv .1))
 
 -- src/lib.rt:97:1
-same-length : tie.Need-same-length Inv-loop μ-loop
-same-length c = search needs
-
 -- src/lib.rt:97:1
 returns : tie.Need-returns Inv-loop μ-loop
 returns c = row-done _ _ _ _ _ (c .before .loop .inv .0 .1) (omega arith) (c .before .loop .inv .1)
@@ -97,18 +58,18 @@ to-888-spec =
     Inv-loop
     μ-loop
     loop-holds
-    mul-put-three
-    mul-put-three-2
-    shared-slice-read-put-three
-    mul-put-three-3
-    add-put-three
-    shared-slice-read-put-three-2
-    mul-put-three-4
-    add-put-three-2
-    shared-slice-read-put-three-3
-    put-three-requires
-    add-x
-    loop-less
+    (λ c. search needs)
+    (λ c. search needs)
+    (λ c. search needs)
+    (λ c. search needs)
+    (λ c. search needs)
+    (λ c. search needs)
+    (λ c. search needs)
+    (λ c. search needs)
+    (λ c. search needs)
+    (λ c κs. search needs)
+    (λ c. search needs)
+    (λ c. search needs)
     loop-again
-    same-length
+    (λ c. search needs)
     returns)

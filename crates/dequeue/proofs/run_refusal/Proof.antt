@@ -2,8 +2,8 @@ use mathlib.Core.Path.{_≡_, sym, _∙_}
 use mathlib.Core.Bool.{true}
 use borrow.Author.Needs.{needs}
 use borrow.Author.Tests.{not-true, not-false}
-use Rattle.record.specs.Rules.{valid}
-use Rattle.record.proofs.Checking.{checked-valid, checked-ready}
+use Rattle.engine_record.specs.Rules.{valid}
+use Rattle.engine_record.proofs.Checking.{checked-valid, checked-ready}
 use Rattle.queue.specs.Refusals.{firstRefusal}
 use Rattle.queue.proofs.Refusals.{eleven}
 use Rattle.dequeue.proofs.run_refusal.Statement.{statement}
@@ -19,12 +19,6 @@ right c = sym (tested (c .before .before)) ∙ not-false _ (c .if1 .left)
 returns : tie.Need-returns
 returns c = eleven _ (valid (c .before .before .args .engine)) (sym (tested (c .before .before)) ∙ not-true _ (c .if1 .taken))
 
-first-refusal-requires : tie.Need-first-refusal-requires
-first-refusal-requires c κs = search needs
-
-first-refusal-requires-2 : tie.Need-first-refusal-requires-2
-first-refusal-requires-2 c κs = search needs
-
 returns-2 : tie.Need-returns-2
 unfolding firstRefusal
 returns-2 c =
@@ -38,6 +32,6 @@ run-refusal-spec =
     tie.close
     (tie.spec
     returns
-    first-refusal-requires
-    first-refusal-requires-2
+    (λ c κs. search needs)
+    (λ c κs. search needs)
     returns-2)

@@ -7,13 +7,13 @@ use Rattle.dequeue.proofs.without_oldest.Tie as tie
 facts : (c : tie.Start) → Takes (c .args .engine)
 facts c = takes (c .args .engine) (c .pre .0) (c .pre .1) (c .pre .2) (c .pre .3)
 
-lower-requires : tie.Need-lower-requires
-lower-requires c κs =
+lower-pending-requires : tie.Need-lower-pending-requires
+lower-pending-requires c κs =
     let s = c .before .before .before in
     rw (s .pre .5) (facts s .client, facts s .counted)
 
-freed-requires : tie.Need-freed-requires
-freed-requires c κs =
+with-slot-free-requires : tie.Need-with-slot-free-requires
+with-slot-free-requires c κs =
     let s = c .before .before .before .before in
     omega (arith, facts s .slot, s .pre .4)
 
@@ -22,16 +22,18 @@ add-wrap-offset c =
     let s = c .before .before .before .before .before .before .before in
     rw (s .pre .5) (omega (arith, facts s .offset))
 
-wrap-offset-requires : tie.Need-wrap-offset-requires
-wrap-offset-requires c κs = search needs
-
 returns : tie.Need-returns
 returns c =
     let s = c .before .before .before .before .before .before .before .before in
-    let l = c .before .before .before .before .lower in
-    let f = c .before .before .before .freed in
+    let l = c .before .before .before .before .lower-pending in
+    let f = c .before .before .before .with-slot-free in
     without-made (s .args .engine) (s .args .at) (s .pre .4) (s .args .batch) (s .pre .5) (l .result) (l .ensures) (f .result) (f .ensures) (c .wrap-offset .result) (c .wrap-offset .ensures)
 
 pub without-oldest-spec : {M : Type 1} → statement M
 without-oldest-spec =
-    tie.close (tie.spec lower-requires freed-requires add-wrap-offset wrap-offset-requires returns)
+    tie.close (tie.spec
+    lower-pending-requires
+    with-slot-free-requires
+    add-wrap-offset
+    (λ c κs. search needs)
+    returns)

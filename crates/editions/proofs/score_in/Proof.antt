@@ -26,23 +26,11 @@ there c =
     let both = and-true (leb 9 (a .end)) (leb (a .end) (length (a .held .now))) (not-false (Lies-test (c .before .before .before .before)) (c .if1 .left)) in
     (leb-true 9 (a .end) (both .0), leb-true (a .end) (length (a .held .now)) (both .1))
 
-enum-told : tie.Need-enum-told
-enum-told c = search needs
-
-enum-told-2 : tie.Need-enum-told-2
-enum-told-2 c = search needs
-
 returns : tie.Need-returns
 returns c = rw (c .before .enum-told2 .given .1, not-true (Lies-test (c .before .before .before .before)) (c .if1 .taken))
 
 read-be32-requires : tie.Need-read-be32-requires
 read-be32-requires c κs = omega (arith, there c)
-
-is-score-word-requires : tie.Need-is-score-word-requires
-is-score-word-requires c κs = search needs
-
-returns-2 : tie.Need-returns-2
-returns-2 c = search needs
 
 returns-3 : tie.Need-returns-3
 returns-3 c =
@@ -53,10 +41,10 @@ pub score-in-spec : {M : Type 1} → statement M
 score-in-spec =
     tie.close
     (tie.spec
-    enum-told
-    enum-told-2
+    (λ c. search needs)
+    (λ c. search needs)
     returns
     read-be32-requires
-    is-score-word-requires
-    returns-2
+    (λ c κs. search needs)
+    (λ c. search needs)
     returns-3)

@@ -1,8 +1,8 @@
 use mathlib.Core.Path.{_≡_, sym, _∙_}
 use mathlib.Core.Bool.{true}
 use borrow.Author.Tests.{not-true, not-false}
-use Rattle.record.specs.Rules.{valid}
-use Rattle.record.proofs.Checking.{checked-valid, checked-ready, checked-bytes}
+use Rattle.engine_record.specs.Rules.{valid}
+use Rattle.engine_record.proofs.Checking.{checked-valid, checked-ready, checked-bytes}
 use Rattle.queue.proofs.Refusals.{eleven}
 use Rattle.queue.specs.Refusals.{firstRefusal}
 use borrow.Author.Needs.{needs}
@@ -31,30 +31,6 @@ free-bytes-requires c κs =
     let st = e .before .before in
     (right e, st .pre .1, checked-bytes (st .args .engine) (st .args .found) (st .pre .0) (right e))
 
-first-refusal-requires : tie.Need-first-refusal-requires
-first-refusal-requires c κs = search needs
-
-first-refusal-requires-2 : tie.Need-first-refusal-requires-2
-first-refusal-requires-2 c κs = search needs
-
-bad-length-requires : tie.Need-bad-length-requires
-bad-length-requires c κs = search needs
-
-first-refusal-requires-3 : tie.Need-first-refusal-requires-3
-first-refusal-requires-3 c κs = search needs
-
-is-open-requires : tie.Need-is-open-requires
-is-open-requires c κs = search needs
-
-first-refusal-requires-4 : tie.Need-first-refusal-requires-4
-first-refusal-requires-4 c κs = search needs
-
-first-refusal-requires-5 : tie.Need-first-refusal-requires-5
-first-refusal-requires-5 c κs = search needs
-
-first-refusal-requires-6 : tie.Need-first-refusal-requires-6
-first-refusal-requires-6 c κs = search needs
-
 returns-2 : tie.Need-returns-2
 unfolding firstRefusal
 returns-2 c =
@@ -74,12 +50,12 @@ submit-refusal-spec =
     returns
     taken-slots-requires
     free-bytes-requires
-    first-refusal-requires
-    first-refusal-requires-2
-    bad-length-requires
-    first-refusal-requires-3
-    first-refusal-requires-4
-    is-open-requires
-    first-refusal-requires-5
-    first-refusal-requires-6
+    (λ c κs. search needs)
+    (λ c κs. search needs)
+    (λ c κs. search needs)
+    (λ c κs. search needs)
+    (λ c κs. search needs)
+    (λ c κs. search needs)
+    (λ c κs. search needs)
+    (λ c κs. search needs)
     returns-2)

@@ -3,9 +3,6 @@ use borrow.Author.Needs.{needs}
 use Rattle.enqueue.proofs.taken_slots.Statement.{statement}
 use Rattle.enqueue.proofs.taken_slots.Tie as tie
 
-staged-slots-requires : tie.Need-staged-slots-requires
-staged-slots-requires c κs = search needs
-
 add-result : tie.Need-add-result
 add-result c = omega (arith, c .staged-slots .ensures .1, c .before .before .pre .0, c .before .before .pre .1)
 
@@ -13,4 +10,7 @@ returns : tie.Need-returns
 returns c = rw (c .staged-slots .ensures .0, c .before .before .pre .1)
 
 pub taken-slots-spec : {M : Type 1} → statement M
-taken-slots-spec = tie.close (tie.spec staged-slots-requires add-result returns)
+taken-slots-spec = tie.close (tie.spec
+    (λ c κs. search needs)
+    add-result
+    returns)

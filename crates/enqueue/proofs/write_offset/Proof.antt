@@ -9,11 +9,11 @@ add-wrap-offset c =
     let st = c .before .before in
     omega (arith, st .pre .2, offset-small (st .args .engine) (st .pre .0) (st .pre .1))
 
-wrap-offset-requires : tie.Need-wrap-offset-requires
-wrap-offset-requires c κs = search needs
-
 returns : tie.Need-returns
 returns c = rw (c .wrap-offset .ensures, c .before .before .before .pre .2)
 
 pub write-offset-spec : {M : Type 1} → statement M
-write-offset-spec = tie.close (tie.spec add-wrap-offset wrap-offset-requires returns)
+write-offset-spec = tie.close (tie.spec
+    add-wrap-offset
+    (λ c κs. search needs)
+    returns)

@@ -10,12 +10,6 @@ use borrow.Author.Needs.{needs}
 use Rattle.fetch_rows.proofs.fetch_row.Statement.{statement}
 use Rattle.fetch_rows.proofs.fetch_row.Tie as tie
 
-mul-n : tie.Need-mul-n
-mul-n c = search needs
-
-bytes-requires : tie.Need-bytes-requires
-bytes-requires c κs = search needs
-
 mul-end : tie.Need-mul-end
 mul-end c =
     let s = c .before .before .before in
@@ -25,21 +19,6 @@ add-end : tie.Need-add-end
 add-end c =
     let s = c .before .before .before in
     omega (arith, ap (λ (n : ℕ). s .args .width * n) (c .bytes .ensures), s .pre .0)
-
-sub-widen : tie.Need-sub-widen
-sub-widen c = search needs
-
-part-widen-start : tie.Need-part-widen-start
-part-widen-start c = search needs
-
-part-widen-end : tie.Need-part-widen-end
-part-widen-end c = search needs
-
-sub-widen-2 : tie.Need-sub-widen-2
-sub-widen-2 c = search needs
-
-part-widen-start-2 : tie.Need-part-widen-start-2
-part-widen-start-2 c = search needs
 
 part-widen-end-2 : tie.Need-part-widen-end-2
 part-widen-end-2 c =
@@ -57,9 +36,6 @@ widen-requires c κs =
     let fits : a .start + k ≤ length (now (a .memory)) = omega (arith, e, s .pre .0) in
     (omega (arith, length-mid 0 n (now (a .buffer)) (omega (arith, s .pre .1))), omega (arith, e, length-mid (a .start) k (now (a .memory)) fits))
 
-same-length : tie.Need-same-length
-same-length c = search needs
-
 returns : tie.Need-returns
 returns c =
     let f = c .before .before .widen in
@@ -76,16 +52,16 @@ pub fetch-row-spec : {M : Type 1} → statement M
 fetch-row-spec =
     tie.close
     (tie.spec
-    mul-n
-    bytes-requires
+    (λ c. search needs)
+    (λ c κs. search needs)
     mul-end
     add-end
-    sub-widen
-    part-widen-start
-    part-widen-end
-    sub-widen-2
-    part-widen-start-2
+    (λ c. search needs)
+    (λ c. search needs)
+    (λ c. search needs)
+    (λ c. search needs)
+    (λ c. search needs)
     part-widen-end-2
     widen-requires
-    same-length
+    (λ c. search needs)
     returns)

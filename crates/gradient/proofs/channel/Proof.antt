@@ -12,15 +12,6 @@ use Rattle.gradient.specs.Gradient.{signedStep, roundedDown, held, gradi
 use Rattle.gradient.proofs.channel.Statement.{statement}
 use Rattle.gradient.proofs.channel.Tie as tie
 
-signed-requires : tie.Need-signed-requires
-signed-requires c κs = search needs
-
-cast-n : tie.Need-cast-n
-cast-n c = search needs
-
-cast-v : tie.Need-cast-v
-cast-v c = search needs
-
 abbrev St : tie.After-signed → ℕ
 St c = c .before .args .start
 
@@ -76,12 +67,6 @@ mul-v-2 c = subst (λ (z : ℤ). SFits w64 z) (sym (right-is c)) (right-fits c)
 add-v : tie.Need-add-v
 add-v c = subst (λ (z : ℤ). SFits w64 z) (sym (sum-is c)) (sum-fits c)
 
-floor-requires : tie.Need-floor-requires
-floor-requires c κs = search needs
-
-clamp-requires : tie.Need-clamp-requires
-clamp-requires c κs = search needs
-
 returns : tie.Need-returns
 unfolding gradientChannel
 returns c =
@@ -91,4 +76,13 @@ returns c =
     c .clamp .ensures ∙ ap held (ap back f ∙ toZ-ofZ w64 (roundedDown (Sum e)) (roundedDown-fits (Sum e) (sum-fits e)))
 
 pub channel-spec : {M : Type 1} → statement M
-channel-spec = tie.close (tie.spec signed-requires cast-n cast-v mul-v mul-v-2 add-v floor-requires clamp-requires returns)
+channel-spec = tie.close (tie.spec
+    (λ c κs. search needs)
+    (λ c. search needs)
+    (λ c. search needs)
+    mul-v
+    mul-v-2
+    add-v
+    (λ c κs. search needs)
+    (λ c κs. search needs)
+    returns)

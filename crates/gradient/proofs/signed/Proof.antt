@@ -10,12 +10,6 @@ use Rattle.gradient.proofs.Magnitude.{plain, less-fits}
 use Rattle.gradient.proofs.signed.Statement.{statement}
 use Rattle.gradient.proofs.signed.Tie as tie
 
-cast-result : tie.Need-cast-result
-cast-result c = search needs
-
-cast-result-2 : tie.Need-cast-result-2
-cast-result-2 c = search needs
-
 -- what is subtracted from, as the machine reads it back
 value : (c : tie.Else1) → toZ w64 (c .before .args .word) -ℤ pos 33554432 ≡ pos (c .before .args .word) -ℤ pos 33554432
 value c = ap (λ (z : ℤ). z -ℤ pos 33554432) (plain (c .before .args .word) (omega arith))
@@ -36,4 +30,9 @@ returns-2 c =
     ∙ simp (le-ltb _ _ (c .if1 .left))
 
 pub signed-spec : {M : Type 1} → statement M
-signed-spec = tie.close (tie.spec cast-result cast-result-2 sub-result returns returns-2)
+signed-spec = tie.close (tie.spec
+    (λ c. search needs)
+    (λ c. search needs)
+    sub-result
+    returns
+    returns-2)

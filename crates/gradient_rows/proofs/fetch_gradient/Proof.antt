@@ -7,8 +7,8 @@ use borrow.Author.Needs.{needs}
 use Rattle.transform.specs.Transform.{mirrored}
 use Rattle.transform.proofs.Inside.{mirrored-below}
 use Rattle.gradient.specs.Gradient.{gradientColour}
-use Rattle.rows.specs.Row.{HoldsColours}
-use Rattle.argb_words.proofs.Words.{more-spelt}
+use Rattle.row_pixels.specs.Row.{HoldsColours}
+use Rattle.argb_words.proofs.Words.{holds-step}
 use Rattle.gradient_rows.proofs.fetch_gradient.Statement.{statement}
 use Rattle.gradient_rows.proofs.fetch_gradient.Tie as tie
 
@@ -22,12 +22,6 @@ abbrev μ-loop : tie.MeasureT-loop
 loop-holds : tie.Need-loop-holds Inv-loop μ-loop
 loop-holds c = (search needs, below-none _, refl)
 
-mirror-requires : tie.Need-mirror-requires Inv-loop μ-loop
-mirror-requires c κs = search needs
-
-mul-store-word : tie.Need-mul-store-word Inv-loop μ-loop
-mul-store-word c = search needs
-
 -- the place is one of the row's
 below : (c : tie.After-mirror Inv-loop μ-loop) → c .mirror .result < c .before .before .before .before .args .n
 below c =
@@ -39,21 +33,6 @@ below c =
 cast-colour-at : tie.Need-cast-colour-at Inv-loop μ-loop
 cast-colour-at c = omega (arith, below (c .before))
 
-colour-at-requires : tie.Need-colour-at-requires Inv-loop μ-loop
-colour-at-requires c κs = search needs
-
-word-of-requires : tie.Need-word-of-requires Inv-loop μ-loop
-word-of-requires c κs = search needs
-
-store-word-requires : tie.Need-store-word-requires Inv-loop μ-loop
-store-word-requires c κs = search needs
-
-add-x : tie.Need-add-x Inv-loop μ-loop
-add-x c = search needs
-
-loop-less : tie.Need-loop-less Inv-loop μ-loop
-loop-less c = search needs
-
 loop-again : tie.Need-loop-again Inv-loop μ-loop
 loop-again c =
     let d = c .before .before in
@@ -64,13 +43,10 @@ loop-again c =
     let s = m .before .before .before .before in
     let a = s .args in (
       search needs,
-      more-spelt _ (l .buffer) (d .store-word .last .0) (l .x) (w .word-of .result) (omega (arith, m .before .loop-test .taken, l .inv .2, s .pre .0)) (omega arith) (l .inv .1) (d .store-word .ensures)
+      holds-step _ (l .buffer) (d .store-word .last .0) (l .x) (w .word-of .result) (omega (arith, m .before .loop-test .taken, l .inv .2, s .pre .0)) (omega arith) (l .inv .1) (d .store-word .ensures)
           (w .word-of .ensures ∙ (g .colour-at .ensures ∙ ap (λ (i : ℕ). gradientColour (a .start) (a .steps) i) (m .mirror .ensures))),
       d .store-word .kept .0 ∙ l .inv .2,
     )
-
-same-length : tie.Need-same-length Inv-loop μ-loop
-same-length c = search needs
 
 returns : tie.Need-returns Inv-loop μ-loop
 returns c = λ x z. c .before .loop .inv .1 x (omega arith)
@@ -82,14 +58,14 @@ fetch-gradient-spec =
     Inv-loop
     μ-loop
     loop-holds
-    mirror-requires
-    mul-store-word
+    (λ c κs. search needs)
+    (λ c. search needs)
     cast-colour-at
-    colour-at-requires
-    word-of-requires
-    store-word-requires
-    add-x
-    loop-less
+    (λ c κs. search needs)
+    (λ c κs. search needs)
+    (λ c κs. search needs)
+    (λ c. search needs)
+    (λ c. search needs)
     loop-again
-    same-length
+    (λ c. search needs)
     returns)

@@ -24,21 +24,6 @@ returns c = rw (c .if1 .taken)
 add-records : tie.Need-add-records
 add-records c = omega (arith, few (c .before))
 
-accept-requires : tie.Need-accept-requires
-accept-requires c κs = search needs
-
-enum-told : tie.Need-enum-told
-enum-told c = search needs
-
-enum-known-submitted : tie.Need-enum-known-submitted
-enum-known-submitted c = search needs
-
-after-batch-requires : tie.Need-after-batch-requires
-after-batch-requires c κs = search needs
-
-after-why-requires : tie.Need-after-why-requires
-after-why-requires c κs = search needs
-
 add-t19 : tie.Need-add-t19
 add-t19 c =
     let c₇ = c .before .before .before .before .before .before .before in
@@ -66,11 +51,11 @@ after-record-spec =
     (tie.spec
     returns
     add-records
-    accept-requires
-    enum-told
-    enum-known-submitted
-    after-batch-requires
-    after-why-requires
+    (λ c κs. search needs)
+    (λ c. search needs)
+    (λ c. search needs)
+    (λ c κs. search needs)
+    (λ c κs. search needs)
     add-t19
     returns-2
     returns-3)

@@ -5,7 +5,7 @@ use mathlib.Core.List.{List, _++_}
 use native.Mathlib.Omega.{arith}
 use lib.ListN.{length, take, drop, length-take, length-drop}
 use denote.Ref.{now}
-use Rattle.inquiry.specs.Inquiry.{Stands, Feeds}
+use Rattle.inquiry.specs.Inquiry.{Stands, InquiryFeedContract}
 use Rattle.inquiry.proofs.Answering.{piece-again, piece-some, piece-none, piece-all}
 use Rattle.inquiry.proofs.feed_piece.Statement.{statement}
 use Rattle.inquiry.proofs.feed_piece.Tie as tie
@@ -20,7 +20,8 @@ abbrev μ-loop : tie.MeasureT-loop
 μ-loop question held₀ piece current₀ used₀ held current used = length piece - used
 
 -- what a call used is of what is left
-within : (c : tie.After-feed Inv-loop μ-loop) → c .before .before .before .before .loop .used + c .feed .result .used ≤ length (now (c .before .before .before .before .before .before .before .args .piece))
+within : (c : tie.After-feed Inv-loop μ-loop) → let c₇ = c .before .before .before .before .before .before .before in
+    c .before .before .before .before .loop .used + c .feed .result .used ≤ length (now (c₇ .args .piece))
 within c =
     let c₇ = c .before .before .before .before .before .before .before in
     let l = c .before .before .before .before .loop in

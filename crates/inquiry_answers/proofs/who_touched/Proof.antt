@@ -1,10 +1,10 @@
-use Rattle.inquiry.proofs.Answering.{touched-told}
+use Rattle.inquiry.proofs.Answering.{touched-answered}
 use borrow.Author.Needs.{needs}
 use Rattle.inquiry_answers.proofs.who_touched.Statement.{statement}
 use Rattle.inquiry_answers.proofs.who_touched.Tie as tie
 
 returns : tie.Need-returns
-returns c = λ seen held S. let a = c .before .before .args in rw (c .tell-touched .ensures) (touched-told (a .question) (a .inquiry) seen held S)
+returns c = λ seen held S. let a = c .before .before .args in rw (c .answer-touched .ensures) (touched-answered (a .question) (a .inquiry) seen held S)
 
 pub who-touched-spec : {M : Type 1} → statement M
 who-touched-spec = tie.close (tie.spec

@@ -1,10 +1,10 @@
-use Rattle.inquiry.proofs.Answering.{fault-told}
+use Rattle.inquiry.proofs.Answering.{fault-answered}
 use borrow.Author.Needs.{needs}
 use Rattle.inquiry_answers.proofs.why_faulted.Statement.{statement}
 use Rattle.inquiry_answers.proofs.why_faulted.Tie as tie
 
 returns : tie.Need-returns
-returns c = λ seen held S. let a = c .before .before .args in rw (c .tell-fault .ensures) (fault-told (a .question) (a .inquiry) seen held S)
+returns c = λ seen held S. let a = c .before .before .args in rw (c .answer-fault .ensures) (fault-answered (a .question) (a .inquiry) seen held S)
 
 pub why-faulted-spec : {M : Type 1} → statement M
 why-faulted-spec = tie.close (tie.spec

@@ -3,14 +3,8 @@ use borrow.Author.Needs.{needs}
 use Rattle.kinds.proofs.blended_kind.Statement.{statement}
 use Rattle.kinds.proofs.blended_kind.Tie as tie
 
-is-solid-requires : tie.Need-is-solid-requires
-is-solid-requires c κs = search needs
-
 returns : tie.Need-returns
 returns c = rw (sym (c .before .is-solid .ensures) ∙ c .if1 .taken)
-
-is-blended-within-requires : tie.Need-is-blended-within-requires
-is-blended-within-requires c κs = search needs
 
 returns-2 : tie.Need-returns-2
 returns-2 c =
@@ -24,4 +18,9 @@ returns-3 c =
 
 pub blended-kind-spec : {M : Type 1} → statement M
 blended-kind-spec =
-    tie.close (tie.spec is-solid-requires returns is-blended-within-requires returns-2 returns-3)
+    tie.close (tie.spec
+    (λ c κs. search needs)
+    returns
+    (λ c κs. search needs)
+    returns-2
+    returns-3)

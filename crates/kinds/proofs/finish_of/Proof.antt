@@ -9,9 +9,6 @@ returns : tie.Need-returns
 unfolding finishOf
 returns c = rw (not-true (c .before .before .args .task .blending .on) (c .if1 .taken))
 
-is-in-place-requires : tie.Need-is-in-place-requires
-is-in-place-requires c κs = search needs
-
 returns-2 : tie.Need-returns-2
 unfolding finishOf
 returns-2 c =
@@ -25,4 +22,8 @@ returns-3 c =
     rw (sym (c .before .is-in-place .ensures) ∙ c .if2 .left, not-false (b .before .before .args .task .blending .on) (b .if1 .left))
 
 pub finish-of-spec : {M : Type 1} → statement M
-finish-of-spec = tie.close (tie.spec returns is-in-place-requires returns-2 returns-3)
+finish-of-spec = tie.close (tie.spec
+    returns
+    (λ c κs. search needs)
+    returns-2
+    returns-3)

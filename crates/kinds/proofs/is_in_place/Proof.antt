@@ -3,12 +3,6 @@ use borrow.Author.Needs.{needs}
 use Rattle.kinds.proofs.is_in_place.Statement.{statement}
 use Rattle.kinds.proofs.is_in_place.Tie as tie
 
-same-format-requires : tie.Need-same-format-requires
-same-format-requires c κs = search needs
-
-same-format-requires-2 : tie.Need-same-format-requires-2
-same-format-requires-2 c κs = search needs
-
 returns : tie.Need-returns
 unfolding isInPlace
 returns c =
@@ -16,4 +10,7 @@ returns c =
     rw (g .before .same-format .ensures, g .same-format2 .ensures)
 
 pub is-in-place-spec : {M : Type 1} → statement M
-is-in-place-spec = tie.close (tie.spec same-format-requires same-format-requires-2 returns)
+is-in-place-spec = tie.close (tie.spec
+    (λ c κs. search needs)
+    (λ c κs. search needs)
+    returns)

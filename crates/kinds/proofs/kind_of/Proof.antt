@@ -5,17 +5,11 @@ use borrow.Author.Needs.{needs}
 use Rattle.kinds.proofs.kind_of.Statement.{statement}
 use Rattle.kinds.proofs.kind_of.Tie as tie
 
-blended-kind-requires : tie.Need-blended-kind-requires
-blended-kind-requires c κs = search needs
-
 returns : tie.Need-returns
 unfolding kindOf
 returns c =
     let a = c .before .before .args in
     c .blended-kind .ensures ∙ sym (ap (λ (on : Bool). cond on (blendedKind (a .window) (a .task)) (unblendedKind (a .window) (a .task))) (c .before .if1 .taken))
-
-unblended-kind-requires : tie.Need-unblended-kind-requires
-unblended-kind-requires c κs = search needs
 
 returns-2 : tie.Need-returns-2
 unfolding kindOf
@@ -24,4 +18,8 @@ returns-2 c =
     c .unblended-kind .ensures ∙ sym (ap (λ (on : Bool). cond on (blendedKind (a .window) (a .task)) (unblendedKind (a .window) (a .task))) (c .before .if1 .left))
 
 pub kind-of-spec : {M : Type 1} → statement M
-kind-of-spec = tie.close (tie.spec blended-kind-requires returns unblended-kind-requires returns-2)
+kind-of-spec = tie.close (tie.spec
+    (λ c κs. search needs)
+    returns
+    (λ c κs. search needs)
+    returns-2)

@@ -3,12 +3,6 @@ use borrow.Author.Needs.{needs}
 use Rattle.kinds.proofs.unblended_kind.Statement.{statement}
 use Rattle.kinds.proofs.unblended_kind.Tie as tie
 
-is-moved-requires : tie.Need-is-moved-requires
-is-moved-requires c κs = search needs
-
-is-inside-requires : tie.Need-is-inside-requires
-is-inside-requires c κs = search needs
-
 returns : tie.Need-returns
 returns c =
     let m = c .before .before in
@@ -18,9 +12,6 @@ returns-2 : tie.Need-returns-2
 returns-2 c =
     let m = c .before .before in
     rw (sym (c .before .is-inside .ensures) ∙ c .if2 .left, sym (m .before .is-moved .ensures) ∙ m .if1 .taken)
-
-is-uniform-requires : tie.Need-is-uniform-requires
-is-uniform-requires c κs = search needs
 
 returns-3 : tie.Need-returns-3
 returns-3 c =
@@ -36,10 +27,10 @@ pub unblended-kind-spec : {M : Type 1} → statement M
 unblended-kind-spec =
     tie.close
     (tie.spec
-    is-moved-requires
-    is-inside-requires
+    (λ c κs. search needs)
+    (λ c κs. search needs)
     returns
     returns-2
-    is-uniform-requires
+    (λ c κs. search needs)
     returns-3
     returns-4)

@@ -34,7 +34,7 @@ abbrev Ws : tie.Start Inv-loop μ-loop → List ℕ
 Ws c = batchWords (c .args .ring .now) (c .args .offset) (c .args .size)
 
 -- a task ends past where it began
-onward : (c : tie.After-task Inv-loop μ-loop) → let l = c .before .before .before .loop in let t = c .task .given in (l .at < t .0 .1 .1 .0) × (t .0 .1 .1 .0 ≤ length (Ws (c .before .before .before .before .before .before)))
+onward : (c : tie.After-task Inv-loop μ-loop) → let s = c .before .before .before .before .before .before in let l = c .before .before .before .loop in let t = c .task .given in (l .at < t .0 .1 .1 .0) × (t .0 .1 .1 .0 ≤ length (Ws s))
 onward c =
     let s = c .before .before .before .before .before .before in
     let l = c .before .before .before .loop in

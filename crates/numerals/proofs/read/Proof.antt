@@ -35,8 +35,8 @@ returns c =
     (sym (l .inv .1 ∙ stops), l .inv .0)
 
 -- the number with its digit
-small : (c : tie.Else1 Inv-loop μ-loop)
-    → c .before .before .before .before .before .before .loop .value * 10 + c .before .before .before .digit-value .result ≤ c .before .before .before .before .before .before .before .before .args .largest
+small : (c : tie.Else1 Inv-loop μ-loop) → let c₆ = c .before .before .before .before .before .before in
+    c₆ .loop .value * 10 + c .before .before .before .digit-value .result ≤ c₆ .before .before .args .largest
 small c =
     let good = and-true (c .before .before .is-digit .result) (c .before .fits2 .result) (not-false (c .before .before .is-digit .result && c .before .fits2 .result) (c .if1 .left)) in
     leb-true _ _ (sym (c .before .fits2 .ensures) ∙ good .1)

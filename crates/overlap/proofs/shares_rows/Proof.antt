@@ -5,12 +5,13 @@ use native.Mathlib.Nat.{div-le-self}
 use native.Mathlib.Omega.{arith}
 use borrow.Author.Needs.{needs}
 use Rattle.surface.proofs.Sizes.{pixels-most}
-use Rattle.overlap.proofs.Overlap.{First, near, flat, far-off, first-down, row-tells}
+use Rattle.overlap.proofs.Overlap.{First, near, flat, far-off, first-down, row-decides}
 use Rattle.overlap.proofs.shares_rows.Statement.{statement}
 use Rattle.overlap.proofs.shares_rows.Tie as tie
 
--- y is the row that tells
-first : (c : tie.After-row-known) → First (c .before .before .before .before .before .before .before .args .first) (c .before .before .before .before .before .before .before .args .later) (c .before .before .before .before .before .before .before .pre) (c .before .if1 .y)
+-- y is the row that decides
+first : (c : tie.After-row-known) → let c₇ = c .before .before .before .before .before .before .before in
+    First (c₇ .args .first) (c₇ .args .later) (c₇ .pre) (c .before .if1 .y)
 first c =
     let s = c .before .before .before .before .before .before .before in
     let e = c .before .before .before .before .before .row-length .ensures in
@@ -60,8 +61,9 @@ returns c =
     let k = c .before .before .before in
     let s = k .before .before .before .before .before .before .before in
     let a = s .args in
+    let k₅ = k .before .before .before .before .before in
     rw (c .overlaps .ensures)
-    (row-tells (a .first) (a .later) (s .pre) (k .before .if1 .y) _ _ _ (first k) (omega (arith, k .before .before .before .before .before .row-length .ensures)) refl (ap (λ (n : ℕ). a .later .address + n) (k .before .before .before .row-length2 .ensures)))
+    (row-decides (a .first) (a .later) (s .pre) (k .before .if1 .y) _ _ _ (first k) (omega (arith, k₅ .row-length .ensures)) refl (ap (λ (n : ℕ). a .later .address + n) (k .before .before .before .row-length2 .ensures)))
 
 pub shares-rows-spec : {M : Type 1} → statement M
 shares-rows-spec =

@@ -4,12 +4,9 @@ use borrow.Author.Needs.{needs}
 use Rattle.transform.specs.Transform.{InPicture}
 use Rattle.transform.specs.declared.Point.{Point}
 use Rattle.register.specs.Size.{sizeOf}
-use Rattle.rows.proofs.Straight.{point-within}
+use Rattle.row_pixels.proofs.Straight.{point-within}
 use Rattle.plain.proofs.column_of.Statement.{statement}
 use Rattle.plain.proofs.column_of.Tie as tie
-
-source-point-requires : tie.Need-source-point-requires
-source-point-requires c κs = search needs
 
 -- the source pixel is one of the surface's
 inside : (c : tie.After-source-point) → InPicture (sizeOf (c .before .args .s)) (c .source-point .result)
@@ -24,4 +21,7 @@ returns : tie.Need-returns
 returns c = ap (λ (p : Point). p .x) (c .before .source-point .ensures)
 
 pub column-of-spec : {M : Type 1} → statement M
-column-of-spec = tie.close (tie.spec source-point-requires cast-result returns)
+column-of-spec = tie.close (tie.spec
+    (λ c κs. search needs)
+    cast-result
+    returns)

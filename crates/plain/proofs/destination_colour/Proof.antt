@@ -1,15 +1,12 @@
 use mathlib.Core.Path.{ap, _∙_}
 use denote.Ref.{now}
 use Rattle.surface.specs.Drawn.{loadPixel}
-use Rattle.rows.specs.Row.{colourAt}
+use Rattle.row_pixels.specs.Row.{colourAt}
 use Rattle.raster.specs.Task.{destinationColour}
 use Rattle.plain.proofs.Inside.{destination-read}
 use borrow.Author.Needs.{needs}
 use Rattle.plain.proofs.destination_colour.Statement.{statement}
 use Rattle.plain.proofs.destination_colour.Tie as tie
-
-pixel-start-requires : tie.Need-pixel-start-requires
-pixel-start-requires c κs = search needs
 
 load-requires : tie.Need-load-requires
 load-requires c κs =
@@ -24,4 +21,7 @@ returns c =
     c .load .ensures ∙ ap (loadPixel (a .destination .surface .format) (now (a .memory))) (c .before .pixel-start .ensures)
 
 pub destination-colour-spec : {M : Type 1} → statement M
-destination-colour-spec = tie.close (tie.spec pixel-start-requires load-requires returns)
+destination-colour-spec = tie.close (tie.spec
+    (λ c κs. search needs)
+    load-requires
+    returns)

@@ -27,10 +27,7 @@ draw-pixel-requires c κs =
 add-x : tie.Need-add-x Inv-loop μ-loop
 add-x c =
     let t = c .before .before .before .before in
-    omega (arith, t .loop-test .taken, t .before .before .before .before .pre .whole .clear .output .narrow)
-
-loop-less : tie.Need-loop-less Inv-loop μ-loop
-loop-less c = search needs
+    omega (arith, t .loop-test .taken, t .before .before .before .before .pre .whole .clear .output .width-max)
 
 loop-again : tie.Need-loop-again Inv-loop μ-loop
 loop-again c =
@@ -43,9 +40,6 @@ loop-again c =
       prefix-step (record { start = 0; end = length (now (s .args .memory)) }) _ (s .args .task) (s .pre .whole .clear) (now (s .args .memory)) (l .memory) (f .last .0) (l .x) (s .args .y) (t .loop-test .taken) (s .pre .row) (l .inv .1) (f .ensures),
       f .kept .0 ∙ l .inv .2,
     )
-
-same-length : tie.Need-same-length Inv-loop μ-loop
-same-length c = search needs
 
 returns : tie.Need-returns Inv-loop μ-loop
 returns c =
@@ -63,7 +57,7 @@ draw-row-spec =
     loop-holds
     draw-pixel-requires
     add-x
-    loop-less
+    (λ c. search needs)
     loop-again
-    same-length
+    (λ c. search needs)
     returns)

@@ -27,10 +27,7 @@ draw-row-requires c κs =
 add-y : tie.Need-add-y Inv-loop μ-loop
 add-y c =
     let t = c .before .before .before .before in
-    omega (arith, t .loop-test .taken, t .before .before .before .before .pre .clear .output .low)
-
-loop-less : tie.Need-loop-less Inv-loop μ-loop
-loop-less c = search needs
+    omega (arith, t .loop-test .taken, t .before .before .before .before .pre .clear .output .height-max)
 
 loop-again : tie.Need-loop-again Inv-loop μ-loop
 loop-again c =
@@ -43,9 +40,6 @@ loop-again c =
       prefix-step (record { start = 0; end = length (now (s .args .memory)) }) _ (s .args .task) (s .pre .clear) (now (s .args .memory)) (l .memory) (f .last .0) (l .y) (t .loop-test .taken) (l .inv .1) (f .ensures),
       f .kept .0 ∙ l .inv .2,
     )
-
-same-length : tie.Need-same-length Inv-loop μ-loop
-same-length c = search needs
 
 returns : tie.Need-returns Inv-loop μ-loop
 returns c =
@@ -63,7 +57,7 @@ draw-task-spec =
     loop-holds
     draw-row-requires
     add-y
-    loop-less
+    (λ c. search needs)
     loop-again
-    same-length
+    (λ c. search needs)
     returns)

@@ -1,6 +1,6 @@
 use mathlib.Core.Path.{sym, ap₂, _∙_}
 use denote.Ref.{now}
-use Rattle.rows.specs.Mixed.{composite}
+use Rattle.row_pixels.specs.Composite.{composite}
 use Rattle.raster.proofs.Pixel.{pixel-blended, pixel-plain}
 use Rattle.plain.proofs.Inside.{source-pixel, destination-pixel}
 use borrow.Author.Needs.{needs}
@@ -15,9 +15,6 @@ destination-colour-requires c κs =
     let s = c .before .before .before .before .before in
     let a = s .args in
     destination-pixel (now (a .memory)) (a .task) (a .x) (a .y) (s .pre) (c .if1 .taken)
-
-composite-requires : tie.Need-composite-requires
-composite-requires c κs = search needs
 
 returns : tie.Need-returns
 returns c =
@@ -34,4 +31,9 @@ returns-2 c =
 
 pub pixel-colour-spec : {M : Type 1} → statement M
 pixel-colour-spec =
-    tie.close (tie.spec source-colour-requires destination-colour-requires composite-requires returns returns-2)
+    tie.close (tie.spec
+    source-colour-requires
+    destination-colour-requires
+    (λ c κs. search needs)
+    returns
+    returns-2)

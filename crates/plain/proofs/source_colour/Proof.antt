@@ -5,7 +5,7 @@ use Rattle.gradient.specs.Gradient.{gradientColour}
 use Rattle.surface.specs.Drawn.{loadPixel}
 use Rattle.register.specs.Task.{isBuffer}
 use Rattle.register.specs.declared.task.SourceMode.{SourceMode}
-use Rattle.rows.specs.Row.{colourAt, sourcePixelOf}
+use Rattle.row_pixels.specs.Row.{colourAt, sourcePixelOf}
 use Rattle.raster.specs.Task.{sourceModeColour, sourceColour}
 use Rattle.plain.proofs.Inside.{source-read}
 use borrow.Author.Needs.{needs}
@@ -15,17 +15,11 @@ use Rattle.plain.proofs.source_colour.Tie as tie
 enum-told : tie.Need-enum-told
 enum-told c = search needs
 
-origin-requires : tie.Need-origin-requires
-origin-requires c κs = search needs
-
 load-requires : tie.Need-load-requires
 load-requires c κs =
     let s = c .before .before .before .before .before in
     let a = s .args in
     rw (c .origin .ensures) (source-read (now (a .memory)) (a .source) (a .x) (a .y) (s .pre) (ap isBuffer (c .before .before .enum-told .given .1)))
-
-enum-told-2 : tie.Need-enum-told-2
-enum-told-2 c = search needs
 
 returns : tie.Need-returns
 unfolding sourceColour colourAt
@@ -42,15 +36,6 @@ returns-2 c =
     let a = c .before .before .before .before .args in
     sym (ap (λ (m : SourceMode). sourceModeColour m (a .source) (now (a .memory)) (sourcePixelOf (a .source .surface) (a .source .transform) (a .x) (a .y))) (c .before .enum-told2 .given .1))
 
-enum-told-3 : tie.Need-enum-told-3
-enum-told-3 c = search needs
-
-column-of-requires : tie.Need-column-of-requires
-column-of-requires c κs = search needs
-
-colour-at-requires : tie.Need-colour-at-requires
-colour-at-requires c κs = search needs
-
 returns-3 : tie.Need-returns-3
 unfolding sourceColour
 returns-3 c =
@@ -60,15 +45,6 @@ returns-3 c =
     c .colour-at .ensures
     ∙ (ap (λ (i : ℕ). gradientColour (a .source .colour) (a .source .steps) i) (p .column-of .ensures)
     ∙ sym (ap (λ (m : SourceMode). sourceModeColour m (a .source) (now (a .memory)) (sourcePixelOf (a .source .surface) (a .source .transform) (a .x) (a .y))) (t .enum-told3 .given .1)))
-
-enum-told-4 : tie.Need-enum-told-4
-enum-told-4 c = search needs
-
-row-of-requires : tie.Need-row-of-requires
-row-of-requires c κs = search needs
-
-colour-at-requires-2 : tie.Need-colour-at-requires-2
-colour-at-requires-2 c κs = search needs
 
 returns-4 : tie.Need-returns-4
 unfolding sourceColour
@@ -85,15 +61,15 @@ source-colour-spec =
     tie.close
     (tie.spec
     enum-told
-    origin-requires
+    (λ c κs. search needs)
     load-requires
-    enum-told-2
-    enum-told-3
-    column-of-requires
-    colour-at-requires
-    enum-told-4
-    row-of-requires
-    colour-at-requires-2
+    (λ c. search needs)
+    (λ c. search needs)
+    (λ c κs. search needs)
+    (λ c κs. search needs)
+    (λ c. search needs)
+    (λ c κs. search needs)
+    (λ c κs. search needs)
     returns
     returns-2
     returns-3

@@ -3,12 +3,11 @@ use borrow.Author.Needs.{needs}
 use Rattle.record_decoder.proofs.no_record.Statement.{statement}
 use Rattle.record_decoder.proofs.no_record.Tie as tie
 
-no-staged-requires : tie.Need-no-staged-requires
-no-staged-requires c κs = search needs
-
 returns : tie.Need-returns
 unfolding noRecord
 returns c = rw (c .no-staged .ensures)
 
 pub no-record-spec : {M : Type 1} → statement M
-no-record-spec = tie.close (tie.spec no-staged-requires returns)
+no-record-spec = tie.close (tie.spec
+    (λ c κs. search needs)
+    returns)

@@ -3,24 +3,6 @@ use borrow.Author.Needs.{needs}
 use Rattle.record_decoder.proofs.record_in.Statement.{statement}
 use Rattle.record_decoder.proofs.record_in.Tie as tie
 
-setup-in-requires : tie.Need-setup-in-requires
-setup-in-requires c κs = search needs
-
-clients-in-requires : tie.Need-clients-in-requires
-clients-in-requires c κs = search needs
-
-size-at-requires : tie.Need-size-at-requires
-size-at-requires c κs = search needs
-
-slots-in-requires : tie.Need-slots-in-requires
-slots-in-requires c κs = search needs
-
-word-at-requires : tie.Need-word-at-requires
-word-at-requires c κs = search needs
-
-staged-in-requires : tie.Need-staged-in-requires
-staged-in-requires c κs = search needs
-
 returns : tie.Need-returns
 unfolding recordIn
 returns c =
@@ -31,10 +13,10 @@ pub record-in-spec : {M : Type 1} → statement M
 record-in-spec =
     tie.close
     (tie.spec
-    setup-in-requires
-    clients-in-requires
-    slots-in-requires
-    size-at-requires
-    word-at-requires
-    staged-in-requires
+    (λ c κs. search needs)
+    (λ c κs. search needs)
+    (λ c κs. search needs)
+    (λ c κs. search needs)
+    (λ c κs. search needs)
+    (λ c κs. search needs)
     returns)

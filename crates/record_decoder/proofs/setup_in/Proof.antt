@@ -2,21 +2,6 @@ use borrow.Author.Needs.{needs}
 use Rattle.record_decoder.proofs.setup_in.Statement.{statement}
 use Rattle.record_decoder.proofs.setup_in.Tie as tie
 
-size-at-requires : tie.Need-size-at-requires
-size-at-requires c κs = search needs
-
-size-at-requires-2 : tie.Need-size-at-requires-2
-size-at-requires-2 c κs = search needs
-
-size-at-requires-3 : tie.Need-size-at-requires-3
-size-at-requires-3 c κs = search needs
-
-word-at-requires : tie.Need-word-at-requires
-word-at-requires c κs = search needs
-
-from-number-requires : tie.Need-from-number-requires
-from-number-requires c κs = search needs
-
 returns : tie.Need-returns
 returns c =
     simp (
@@ -28,4 +13,10 @@ returns c =
     )
 
 pub setup-in-spec : {M : Type 1} → statement M
-setup-in-spec = tie.close (tie.spec size-at-requires size-at-requires-2 size-at-requires-3 word-at-requires from-number-requires returns)
+setup-in-spec = tie.close (tie.spec
+    (λ c κs. search needs)
+    (λ c κs. search needs)
+    (λ c κs. search needs)
+    (λ c κs. search needs)
+    (λ c κs. search needs)
+    returns)

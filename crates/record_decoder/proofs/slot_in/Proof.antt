@@ -7,19 +7,17 @@ use borrow.Author.Needs.{needs}
 use Rattle.record_decoder.proofs.slot_in.Statement.{statement}
 use Rattle.record_decoder.proofs.slot_in.Tie as tie
 
-word-at-requires : tie.Need-word-at-requires
-word-at-requires c κs = search needs
-
 returns : tie.Need-returns
 unfolding slotIn
 returns c = let a = c .before .before .before .args in simp (eq-eqb (wordAt (words (a .bytes .now)) (a .k)) 0 (sym (c .before .word-at .ensures) ∙ c .if1 .taken))
-
-batch-in-requires : tie.Need-batch-in-requires
-batch-in-requires c κs = search needs
 
 returns-2 : tie.Need-returns-2
 unfolding slotIn
 returns-2 c = let a = c .before .before .before .before .args in simp (ne-eqb (wordAt (words (a .bytes .now)) (a .k)) 0 (λ q. c .before .if1 .left (c .before .before .word-at .ensures ∙ q)), c .batch-in .ensures)
 
 pub slot-in-spec : {M : Type 1} → statement M
-slot-in-spec = tie.close (tie.spec word-at-requires returns batch-in-requires returns-2)
+slot-in-spec = tie.close (tie.spec
+    (λ c κs. search needs)
+    returns
+    (λ c κs. search needs)
+    returns-2)

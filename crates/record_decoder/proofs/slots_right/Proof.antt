@@ -3,30 +3,6 @@ use borrow.Author.Needs.{needs}
 use Rattle.record_decoder.proofs.slots_right.Statement.{statement}
 use Rattle.record_decoder.proofs.slots_right.Tie as tie
 
-slot-right-requires : tie.Need-slot-right-requires
-slot-right-requires c κs = search needs
-
-slot-right-requires-2 : tie.Need-slot-right-requires-2
-slot-right-requires-2 c κs = search needs
-
-slot-right-requires-3 : tie.Need-slot-right-requires-3
-slot-right-requires-3 c κs = search needs
-
-slot-right-requires-4 : tie.Need-slot-right-requires-4
-slot-right-requires-4 c κs = search needs
-
-slot-right-requires-5 : tie.Need-slot-right-requires-5
-slot-right-requires-5 c κs = search needs
-
-slot-right-requires-6 : tie.Need-slot-right-requires-6
-slot-right-requires-6 c κs = search needs
-
-slot-right-requires-7 : tie.Need-slot-right-requires-7
-slot-right-requires-7 c κs = search needs
-
-slot-right-requires-8 : tie.Need-slot-right-requires-8
-slot-right-requires-8 c κs = search needs
-
 returns : tie.Need-returns
 unfolding slotsRight
 returns c =
@@ -39,12 +15,12 @@ pub slots-right-spec : {M : Type 1} → statement M
 slots-right-spec =
     tie.close
     (tie.spec
-    slot-right-requires
-    slot-right-requires-2
-    slot-right-requires-3
-    slot-right-requires-4
-    slot-right-requires-5
-    slot-right-requires-6
-    slot-right-requires-7
-    slot-right-requires-8
+    (λ c κs. search needs)
+    (λ c κs. search needs)
+    (λ c κs. search needs)
+    (λ c κs. search needs)
+    (λ c κs. search needs)
+    (λ c κs. search needs)
+    (λ c κs. search needs)
+    (λ c κs. search needs)
     returns)

@@ -5,14 +5,11 @@ use borrow.Author.Needs.{needs}
 use Rattle.record_decoder.proofs.word_at.Statement.{statement}
 use Rattle.record_decoder.proofs.word_at.Tie as tie
 
-mul-read-le32 : tie.Need-mul-read-le32
-mul-read-le32 c = search needs
-
-read-le32-requires : tie.Need-read-le32-requires
-read-le32-requires c κs = search needs
-
 returns : tie.Need-returns
 returns c = c .read-le32 .ensures ∙ sym (getD-words (c .before .before .args .k) (c .before .before .args .bytes .now) (omega arith))
 
 pub word-at-spec : {M : Type 1} → statement M
-word-at-spec = tie.close (tie.spec mul-read-le32 read-le32-requires returns)
+word-at-spec = tie.close (tie.spec
+    (λ c. search needs)
+    (λ c κs. search needs)
+    returns)

@@ -3,33 +3,6 @@ use borrow.Author.Needs.{needs}
 use Rattle.record_encoder.proofs.encode.Statement.{statement}
 use Rattle.record_encoder.proofs.encode.Tie as tie
 
-head-words-requires : tie.Need-head-words-requires
-head-words-requires c κs = search needs
-
-staged-words-requires : tie.Need-staged-words-requires
-staged-words-requires c κs = search needs
-
-slice-aggregate-write-le-words : tie.Need-slice-aggregate-write-le-words
-slice-aggregate-write-le-words c = search needs
-
-write-le-words-requires : tie.Need-write-le-words-requires
-write-le-words-requires c κs = search needs
-
-write-clients-requires : tie.Need-write-clients-requires
-write-clients-requires c κs = search needs
-
-write-slots-requires : tie.Need-write-slots-requires
-write-slots-requires c κs = search needs
-
-slice-aggregate-write-le-words-2 : tie.Need-slice-aggregate-write-le-words-2
-slice-aggregate-write-le-words-2 c = search needs
-
-write-le-words-requires-2 : tie.Need-write-le-words-requires-2
-write-le-words-requires-2 c κs = search needs
-
-same-length : tie.Need-same-length
-same-length c = search needs
-
 returns : tie.Need-returns
 returns c =
     let w4 = c .before .before in
@@ -49,14 +22,14 @@ pub encode-spec : {M : Type 1} → statement M
 encode-spec =
     tie.close
     (tie.spec
-    head-words-requires
-    staged-words-requires
-    slice-aggregate-write-le-words
-    write-le-words-requires
-    write-clients-requires
-    write-slots-requires
-    slice-aggregate-write-le-words-2
-    write-le-words-requires-2
-    same-length
+    (λ c κs. search needs)
+    (λ c κs. search needs)
+    (λ c. search needs)
+    (λ c κs. search needs)
+    (λ c κs. search needs)
+    (λ c κs. search needs)
+    (λ c. search needs)
+    (λ c κs. search needs)
+    (λ c. search needs)
     returns
     returns-2)

@@ -2,11 +2,10 @@ use borrow.Author.Needs.{needs}
 use Rattle.record_encoder.proofs.slot_words.Statement.{statement}
 use Rattle.record_encoder.proofs.slot_words.Tie as tie
 
-row-of-requires : tie.Need-row-of-requires
-row-of-requires c κs = search needs
-
 returns : tie.Need-returns
 returns c = simp (c .row-of .ensures)
 
 pub slot-words-spec : {M : Type 1} → statement M
-slot-words-spec = tie.close (tie.spec row-of-requires returns)
+slot-words-spec = tie.close (tie.spec
+    (λ c κs. search needs)
+    returns)

@@ -4,8 +4,8 @@ use Prim.Native.Nat.{ℕ, _+_, _-_, _*_}
 use native.Mathlib.Omega.{arith}
 use lib.ListN.{getD}
 use borrow.Author.Needs.{needs}
-use Rattle.record.specs.declared.Client.{Client}
-use Rattle.record.specs.Clients.{noClient}
+use Rattle.engine_record.specs.declared.Client.{Client}
+use Rattle.engine_record.specs.Clients.{noClient}
 use Rattle.record_bytes.specs.Written.{clientWords}
 use Rattle.record_bytes.proofs.Parts.{joined, PartsWritten, parts-none, parts-turn}
 use Rattle.record_encoder.proofs.write_clients.Statement.{statement}
@@ -29,20 +29,11 @@ mul-client-words c = omega arith
 array-copy-out-client-words : tie.Need-array-copy-out-client-words Inv-loop μ-loop
 array-copy-out-client-words c = omega arith
 
-client-words-requires : tie.Need-client-words-requires Inv-loop μ-loop
-client-words-requires c κs = search needs
-
 mul-write-le-words : tie.Need-mul-write-le-words Inv-loop μ-loop
 mul-write-le-words c = omega arith
 
 add-write-le-words : tie.Need-add-write-le-words Inv-loop μ-loop
 add-write-le-words c = omega arith
-
-slice-aggregate-write-le-words : tie.Need-slice-aggregate-write-le-words Inv-loop μ-loop
-slice-aggregate-write-le-words c = search needs
-
-write-le-words-requires : tie.Need-write-le-words-requires Inv-loop μ-loop
-write-le-words-requires c κs = search needs
 
 add-i : tie.Need-add-i Inv-loop μ-loop
 add-i c = omega arith
@@ -60,9 +51,6 @@ loop-again c =
     parts-turn 32 4 4 (part (s .args .t2)) (λ _. refl) i (32 + 16 * i) (s .args .bytes .now) (l .loop .bytes) _ _ (omega arith) (search needs) (omega arith) (omega (arith, s .pre)) (l .loop .inv)
     (q .client-words .ensures) (w .write-le-words .ensures)
 
-same-length : tie.Need-same-length Inv-loop μ-loop
-same-length c = search needs
-
 returns : tie.Need-returns Inv-loop μ-loop
 unfolding joined
 returns c =
@@ -79,13 +67,13 @@ write-clients-spec =
     loop-holds
     mul-client-words
     array-copy-out-client-words
-    client-words-requires
+    (λ c κs. search needs)
     mul-write-le-words
     add-write-le-words
-    slice-aggregate-write-le-words
-    write-le-words-requires
+    (λ c. search needs)
+    (λ c κs. search needs)
     add-i
     loop-less
     loop-again
-    same-length
+    (λ c. search needs)
     returns)

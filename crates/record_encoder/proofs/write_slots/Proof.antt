@@ -3,7 +3,7 @@ use mathlib.Core.List.{List}
 use Prim.Native.Nat.{ℕ, _+_, _-_, _*_}
 use native.Mathlib.Omega.{arith}
 use borrow.Author.Needs.{needs}
-use Rattle.record.specs.declared.Slot.{Slot}
+use Rattle.engine_record.specs.declared.Slot.{Slot}
 use Rattle.record_bytes.specs.Written.{rowWords, rowAt}
 use Rattle.record_bytes.proofs.Parts.{joined, PartsWritten, parts-none, parts-turn}
 use Rattle.record_encoder.proofs.write_slots.Statement.{statement}
@@ -27,20 +27,11 @@ mul-slot-words c = omega arith
 array-copy-out-slot-words : tie.Need-array-copy-out-slot-words Inv-loop μ-loop
 array-copy-out-slot-words c = omega arith
 
-slot-words-requires : tie.Need-slot-words-requires Inv-loop μ-loop
-slot-words-requires c κs = search needs
-
 mul-write-le-words : tie.Need-mul-write-le-words Inv-loop μ-loop
 mul-write-le-words c = omega arith
 
 add-write-le-words : tie.Need-add-write-le-words Inv-loop μ-loop
 add-write-le-words c = omega arith
-
-slice-aggregate-write-le-words : tie.Need-slice-aggregate-write-le-words Inv-loop μ-loop
-slice-aggregate-write-le-words c = search needs
-
-write-le-words-requires : tie.Need-write-le-words-requires Inv-loop μ-loop
-write-le-words-requires c κs = search needs
 
 add-i : tie.Need-add-i Inv-loop μ-loop
 add-i c = omega arith
@@ -58,9 +49,6 @@ loop-again c =
     parts-turn 96 8 5 (part (s .args .t2)) (λ _. refl) i (96 + 20 * i) (s .args .bytes .now) (l .loop .bytes) _ _ (omega arith) (search needs) (omega arith) (omega (arith, s .pre)) (l .loop .inv)
     (q .slot-words .ensures) (w .write-le-words .ensures)
 
-same-length : tie.Need-same-length Inv-loop μ-loop
-same-length c = search needs
-
 returns : tie.Need-returns Inv-loop μ-loop
 unfolding joined
 returns c =
@@ -77,13 +65,13 @@ write-slots-spec =
     loop-holds
     mul-slot-words
     array-copy-out-slot-words
-    slot-words-requires
+    (λ c κs. search needs)
     mul-write-le-words
     add-write-le-words
-    slice-aggregate-write-le-words
-    write-le-words-requires
+    (λ c. search needs)
+    (λ c κs. search needs)
     add-i
     loop-less
     loop-again
-    same-length
+    (λ c. search needs)
     returns)

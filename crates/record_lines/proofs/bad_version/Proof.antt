@@ -6,15 +6,6 @@ use borrow.Author.Needs.{needs}
 use Rattle.record_lines.proofs.bad_version.Statement.{statement}
 use Rattle.record_lines.proofs.bad_version.Tie as tie
 
-slice-aggregate-copy : tie.Need-slice-aggregate-copy
-slice-aggregate-copy c = search needs
-
-copy-requires : tie.Need-copy-requires
-copy-requires c κs = search needs
-
-same-length : tie.Need-same-length
-same-length c = search needs
-
 returns : tie.Need-returns
 unfolding endingLine
 returns c =
@@ -22,4 +13,8 @@ returns c =
     prints-typed (endingLine badVersion) (s .args .line .now) _ _ (omega arith) (s .pre) (c .before .before .copy .ensures)
 
 pub bad-version-spec : {M : Type 1} → statement M
-bad-version-spec = tie.close (tie.spec slice-aggregate-copy copy-requires same-length returns)
+bad-version-spec = tie.close (tie.spec
+    (λ c. search needs)
+    (λ c κs. search needs)
+    (λ c. search needs)
+    returns)

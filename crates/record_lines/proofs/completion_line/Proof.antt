@@ -6,42 +6,6 @@ use borrow.Author.Needs.{needs}
 use Rattle.record_lines.proofs.completion_line.Statement.{statement}
 use Rattle.record_lines.proofs.completion_line.Tie as tie
 
-decimal-requires : tie.Need-decimal-requires
-decimal-requires c κs = search needs
-
-field-requires : tie.Need-field-requires
-field-requires c κs = search needs
-
-push-requires : tie.Need-push-requires
-push-requires c κs = search needs
-
-status-requires : tie.Need-status-requires
-status-requires c κs = search needs
-
-hex-word-requires : tie.Need-hex-word-requires
-hex-word-requires c κs = search needs
-
-number-requires : tie.Need-number-requires
-number-requires c κs = search needs
-
-cast-field : tie.Need-cast-field
-cast-field c = search needs
-
-field-requires-2 : tie.Need-field-requires-2
-field-requires-2 c κs = search needs
-
-offset-requires : tie.Need-offset-requires
-offset-requires c κs = search needs
-
-field-requires-3 : tie.Need-field-requires-3
-field-requires-3 c κs = search needs
-
-push-requires-2 : tie.Need-push-requires-2
-push-requires-2 c κs = search needs
-
-same-length : tie.Need-same-length
-same-length c = search needs
-
 returns : tie.Need-returns
 returns c =
     let c₇ = c .before .before .before .before .before .before .before in
@@ -63,16 +27,16 @@ pub completion-line-spec : {M : Type 1} → statement M
 completion-line-spec =
     tie.close
     (tie.spec
-    decimal-requires
-    field-requires
-    push-requires
-    status-requires
-    hex-word-requires
-    number-requires
-    cast-field
-    field-requires-2
-    offset-requires
-    field-requires-3
-    push-requires-2
-    same-length
+    (λ c κs. search needs)
+    (λ c κs. search needs)
+    (λ c κs. search needs)
+    (λ c κs. search needs)
+    (λ c κs. search needs)
+    (λ c κs. search needs)
+    (λ c. search needs)
+    (λ c κs. search needs)
+    (λ c κs. search needs)
+    (λ c κs. search needs)
+    (λ c κs. search needs)
+    (λ c. search needs)
     returns)

@@ -4,12 +4,6 @@ use Rattle.records.proofs.bad_size.Tie as tie
 use Rattle.records.proofs.bad_size.Reads as reads
 use Rattle.records.proofs.bad_size.Lts as lts
 
-enum-told : tie.Need-enum-told
-enum-told c = search needs
-
-enum-told-2 : tie.Need-enum-told-2
-enum-told-2 c = search needs
-
 returns : tie.Need-returns
 returns c = rw (c .enum-told .given .1)
 
@@ -17,4 +11,8 @@ returns-2 : tie.Need-returns-2
 returns-2 c = rw (c .enum-told2 .given .1)
 
 pub bad-size-spec : {M : Type 1} → statement M
-bad-size-spec = tie.close (tie.spec enum-told enum-told-2 returns returns-2)
+bad-size-spec = tie.close (tie.spec
+    (λ c. search needs)
+    (λ c. search needs)
+    returns
+    returns-2)

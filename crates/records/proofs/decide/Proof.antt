@@ -8,25 +8,13 @@ use Rattle.records.proofs.decide.Tie as tie
 use Rattle.records.proofs.decide.Reads as reads
 use Rattle.records.proofs.decide.Lts as lts
 use Rattle.records.proofs.bad_size.Reads as bad-size-reads
-use Rattle.records.proofs.partly.Reads as partly-reads
+use Rattle.records.proofs.wait_for_more.Reads as wait-for-more-reads
 use Rattle.word.proofs.read_be32.Reads as read-be32-reads
-
-partly-requires : tie.Need-partly-requires
-partly-requires c κs = search needs
 
 returns : tie.Need-returns
 returns c =
     let s = c .before .before .before in
-    (c .partly .ensures ∙ decides-short (s .args .edition) (s .args .held .now) (s .args .have) (omega arith) (s .args .used) (c .before .if1 .taken), rw (c .partly .ensures) tt, ap (λ (t : Taken). t .used) (c .partly .ensures))
-
-read-be32-requires : tie.Need-read-be32-requires
-read-be32-requires c κs = search needs
-
-cast-size : tie.Need-cast-size
-cast-size c = search needs
-
-bad-size-requires : tie.Need-bad-size-requires
-bad-size-requires c κs = search needs
+    (c .wait-for-more .ensures ∙ decides-short (s .args .edition) (s .args .held .now) (s .args .have) (omega arith) (s .args .used) (c .before .if1 .taken), rw (c .wait-for-more .ensures) tt, ap (λ (t : Taken). t .used) (c .wait-for-more .ensures))
 
 returns-2 : tie.Need-returns-2
 returns-2 c =
@@ -34,18 +22,12 @@ returns-2 c =
     let bad = sym (c .before .bad-size .ensures) ∙ c .if2 .taken in
     (decides-bad (s .args .edition) (s .args .held .now) (s .args .have) (omega arith) _ (c .before .before .read-be32 .ensures) (c .before .before .before .if1 .left) (s .args .used) bad, tt, refl)
 
-add-end : tie.Need-add-end
-add-end c = search needs
-
-partly-requires-2 : tie.Need-partly-requires-2
-partly-requires-2 c κs = search needs
-
 returns-3 : tie.Need-returns-3
 returns-3 c =
     let c₅ = c .before .before .before .before .before in
     let s = c₅ .before .before in
     let good = sym (c .before .before .before .bad-size .ensures) ∙ c .before .before .if2 .left in
-    (c .partly2 .ensures ∙ decides-part (s .args .edition) (s .args .held .now) (s .args .have) (omega arith) _ (c .before .before .before .before .read-be32 .ensures) (c₅ .if1 .left) (s .args .used) good (c .before .if3 .taken), rw (c .partly2 .ensures) tt, ap (λ (t : Taken). t .used) (c .partly2 .ensures))
+    (c .wait-for-more2 .ensures ∙ decides-part (s .args .edition) (s .args .held .now) (s .args .have) (omega arith) _ (c .before .before .before .before .read-be32 .ensures) (c₅ .if1 .left) (s .args .used) good (c .before .if3 .taken), rw (c .wait-for-more2 .ensures) tt, ap (λ (t : Taken). t .used) (c .wait-for-more2 .ensures))
 
 returns-4 : tie.Need-returns-4
 returns-4 c =
@@ -58,13 +40,13 @@ pub decide-spec : {M : Type 1} → statement M
 decide-spec =
     tie.close
     (tie.spec
-    partly-requires
+    (λ c κs. search needs)
     returns
-    read-be32-requires
-    cast-size
-    bad-size-requires
+    (λ c κs. search needs)
+    (λ c. search needs)
+    (λ c κs. search needs)
     returns-2
-    add-end
-    partly-requires-2
+    (λ c. search needs)
+    (λ c κs. search needs)
     returns-3
     returns-4)

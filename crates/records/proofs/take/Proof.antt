@@ -10,22 +10,16 @@ use Rattle.records.proofs.take.Statement.{statement}
 use Rattle.records.proofs.take.Tie as tie
 use Rattle.records.proofs.take.Reads as reads
 use Rattle.records.proofs.take.Lts as lts
-use Rattle.records.proofs.judge_version.Reads as judge-version-reads
-use Rattle.records.proofs.passed.Reads as passed-reads
+use Rattle.records.proofs.check_version.Reads as check-version-reads
+use Rattle.records.proofs.skip_input.Reads as skip-input-reads
 use Rattle.records.proofs.take_record.Reads as take-record-reads
-
-room-requires : tie.Need-room-requires
-room-requires c κs = search needs
-
-passed-requires : tie.Need-passed-requires
-passed-requires c κs = search needs
 
 returns : tie.Need-returns
 returns c =
     let a = c .before .before .before .before .before .args in
-    let exactly = exactly-not (a .edition) (a .reader) (a .held .now) (a .input .now) (c .passed .result) (a .held .now) (suffices-by (a .edition) (a .reader) (a .held .now) _ (c .before .before .room .ensures) _ (not-true _ (c .before .if1 .taken))) (c .passed .ensures) refl in (
-      omega (arith, ap (λ (t : Taken). t .used) (c .passed .ensures)),
-      rw (c .passed .ensures) tt,
+    let exactly = exactly-not (a .edition) (a .reader) (a .held .now) (a .input .now) (c .skip-input .result) (a .held .now) (suffices-by (a .edition) (a .reader) (a .held .now) _ (c .before .before .room .ensures) _ (not-true _ (c .before .if1 .taken))) (c .skip-input .ensures) refl in (
+      omega (arith, ap (λ (t : Taken). t .used) (c .skip-input .ensures)),
+      rw (c .skip-input .ensures) tt,
       λ ready. absurd (false≢true (sym (suffices-by (a .edition) (a .reader) (a .held .now) _ (c .before .before .room .ensures) _ (not-true _ (c .before .if1 .taken))) ∙ ready-enough (a .edition) (a .reader) (a .held .now) ready)),
       exactly .0,
       exactly .1,
@@ -34,40 +28,22 @@ returns c =
 enum-told : tie.Need-enum-told
 enum-told c = search needs
 
-passed-requires-2 : tie.Need-passed-requires-2
-passed-requires-2 c κs = search needs
-
 returns-2 : tie.Need-returns-2
 returns-2 c =
     let c₅ = c .before .before .before .before .before in
     let a = c₅ .before .before .before .args in
-    let exactly = exactly-version (a .edition) (a .reader) (a .held .now) (a .input .now) (c .passed2 .result) (a .held .now) (suffices-by (a .edition) (a .reader) (a .held .now) _ (c₅ .room .ensures) _ (not-false _ (c .before .before .before .before .if1 .left))) (c .before .before .enum-told .given .1) refl (c .passed2 .ensures ∙ sym (version-none (a .edition) (a .reader) (take (a .reader .held) (a .held .now)) (a .input .now) (c .before .if2 .taken))) in (
-      omega (arith, ap (λ (t : Taken). t .used) (c .passed2 .ensures)),
-      rw (c .passed2 .ensures) tt,
-      λ ready. nothing-takes (a .edition) (a .reader) (a .held .now) (a .input .now) (c .passed2 .result) ready (c .before .if2 .taken) (c .passed2 .ensures),
+    let exactly = exactly-version (a .edition) (a .reader) (a .held .now) (a .input .now) (c .skip-input2 .result) (a .held .now) (suffices-by (a .edition) (a .reader) (a .held .now) _ (c₅ .room .ensures) _ (not-false _ (c .before .before .before .before .if1 .left))) (c .before .before .enum-told .given .1) refl (c .skip-input2 .ensures ∙ sym (version-none (a .edition) (a .reader) (take (a .reader .buffered) (a .held .now)) (a .input .now) (c .before .if2 .taken))) in (
+      omega (arith, ap (λ (t : Taken). t .used) (c .skip-input2 .ensures)),
+      rw (c .skip-input2 .ensures) tt,
+      λ ready. nothing-takes (a .edition) (a .reader) (a .held .now) (a .input .now) (c .skip-input2 .result) ready (c .before .if2 .taken) (c .skip-input2 .ensures),
       exactly .0,
       exactly .1,
     )
-
-shared-slice-read-judge-version : tie.Need-shared-slice-read-judge-version
-shared-slice-read-judge-version c = search needs
-
-judge-version-requires : tie.Need-judge-version-requires
-judge-version-requires c κs = search needs
-
-enum-told-2 : tie.Need-enum-told-2
-enum-told-2 c = search needs
 
 take-record-requires : tie.Need-take-record-requires
 take-record-requires c κs =
     let a = c .before .before .before .before .before .before .before .args in
     enough-both (a .edition) (a .reader) (a .held .now) (suffices-by (a .edition) (a .reader) (a .held .now) _ (c .before .before .before .before .room .ensures) _ (not-false _ (c .before .before .before .if1 .left)))
-
-enum-told-3 : tie.Need-enum-told-3
-enum-told-3 c = search needs
-
-passed-requires-3 : tie.Need-passed-requires-3
-passed-requires-3 c κs = search needs
 
 returns-3 : tie.Need-returns-3
 returns-3 c =
@@ -75,16 +51,13 @@ returns-3 c =
     let c₆ = c₅ .before in
     let a = c₆ .before .before .before .args in
     let v = version-used (a .edition) (getD (a .input .now) 0 0) in
-    let exactly = exactly-version (a .edition) (a .reader) (a .held .now) (a .input .now) (c .judge-version .result) (a .held .now) (suffices-by (a .edition) (a .reader) (a .held .now) _ (c₆ .room .ensures) _ (not-false _ (c₅ .if1 .left))) (c .before .before .before .enum-told .given .1) refl (c .judge-version .ensures ∙ sym (version-some (a .edition) (a .reader) (take (a .reader .held) (a .held .now)) (a .input .now) (c .before .before .if2 .left))) in (
-      omega (arith, ap (λ (t : Taken). t .used) (c .judge-version .ensures), v .0, c .before .before .if2 .left),
-      rw (c .judge-version .ensures) (v .1 _),
-      λ ready. version-takes (a .edition) (a .reader) (a .held .now) (a .input .now) (c .judge-version .result) ready (c .before .before .before .enum-told .given .1) (c .before .before .if2 .left) (c .judge-version .ensures),
+    let exactly = exactly-version (a .edition) (a .reader) (a .held .now) (a .input .now) (c .check-version .result) (a .held .now) (suffices-by (a .edition) (a .reader) (a .held .now) _ (c₆ .room .ensures) _ (not-false _ (c₅ .if1 .left))) (c .before .before .before .enum-told .given .1) refl (c .check-version .ensures ∙ sym (version-some (a .edition) (a .reader) (take (a .reader .buffered) (a .held .now)) (a .input .now) (c .before .before .if2 .left))) in (
+      omega (arith, ap (λ (t : Taken). t .used) (c .check-version .ensures), v .0, c .before .before .if2 .left),
+      rw (c .check-version .ensures) (v .1 _),
+      λ ready. version-takes (a .edition) (a .reader) (a .held .now) (a .input .now) (c .check-version .result) ready (c .before .before .before .enum-told .given .1) (c .before .before .if2 .left) (c .check-version .ensures),
       exactly .0,
       exactly .1,
     )
-
-same-length : tie.Need-same-length
-same-length c = search needs
 
 returns-4 : tie.Need-returns-4
 returns-4 c =
@@ -98,10 +71,10 @@ returns-4 c =
 returns-5 : tie.Need-returns-5
 returns-5 c =
     let a = c .before .before .before .before .before .before .before .args in
-    let exactly = exactly-ended (a .edition) (a .reader) (a .held .now) (a .input .now) (c .passed3 .result) (a .held .now) (suffices-by (a .edition) (a .reader) (a .held .now) _ (c .before .before .before .before .room .ensures) _ (not-false _ (c .before .before .before .if1 .left))) (c .before .enum-told3 .given .1) refl (c .passed3 .ensures) in (
-      omega (arith, ap (λ (t : Taken). t .used) (c .passed3 .ensures)),
-      rw (c .passed3 .ensures) tt,
-      λ ready. ended-takes (a .edition) (a .reader) (a .held .now) (a .input .now) (c .passed3 .result) ready (c .before .enum-told3 .given .1) (c .passed3 .ensures),
+    let exactly = exactly-ended (a .edition) (a .reader) (a .held .now) (a .input .now) (c .skip-input3 .result) (a .held .now) (suffices-by (a .edition) (a .reader) (a .held .now) _ (c .before .before .before .before .room .ensures) _ (not-false _ (c .before .before .before .if1 .left))) (c .before .enum-told3 .given .1) refl (c .skip-input3 .ensures) in (
+      omega (arith, ap (λ (t : Taken). t .used) (c .skip-input3 .ensures)),
+      rw (c .skip-input3 .ensures) tt,
+      λ ready. ended-takes (a .edition) (a .reader) (a .held .now) (a .input .now) (c .skip-input3 .result) ready (c .before .enum-told3 .given .1) (c .skip-input3 .ensures),
       exactly .0,
       exactly .1,
     )
@@ -110,19 +83,19 @@ pub take-spec : {M : Type 1} → statement M
 take-spec =
     tie.close
     (tie.spec
-    room-requires
-    passed-requires
+    (λ c κs. search needs)
+    (λ c κs. search needs)
     returns
     enum-told
-    passed-requires-2
+    (λ c κs. search needs)
     returns-2
-    shared-slice-read-judge-version
-    judge-version-requires
-    enum-told-2
+    (λ c. search needs)
+    (λ c κs. search needs)
+    (λ c. search needs)
     take-record-requires
-    enum-told-3
-    passed-requires-3
+    (λ c. search needs)
+    (λ c κs. search needs)
     returns-3
-    same-length
+    (λ c. search needs)
     returns-4
     returns-5)

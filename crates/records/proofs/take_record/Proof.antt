@@ -10,15 +10,9 @@ use Rattle.records.proofs.take_record.Tie as tie
 use Rattle.records.proofs.take_record.Reads as reads
 use Rattle.records.proofs.take_record.Lts as lts
 use Rattle.range.proofs.min_usize.Reads as least-reads
-use Rattle.records.proofs.bytes_missing.Reads as bytes-missing-reads
+use Rattle.records.proofs.bytes_wanted.Reads as bytes-wanted-reads
 use Rattle.records.proofs.decide.Reads as decide-reads
 use Rattle.ring.proofs.copy_in.Reads as copy-in-reads
-
-bytes-missing-requires : tie.Need-bytes-missing-requires
-bytes-missing-requires c κs = search needs
-
-min-usize-requires : tie.Need-min-usize-requires
-min-usize-requires c κs = search needs
 
 slice-aggregate-copy-in : tie.Need-slice-aggregate-copy-in
 slice-aggregate-copy-in c =
@@ -31,21 +25,12 @@ copy-in-requires c κs =
     let size = length-take-le (c .before .before .min-usize .result) (c₇ .args .input .now) (omega arith) in
     record { starts = omega arith; fits = omega arith }
 
-add-decide : tie.Need-add-decide
-add-decide c = search needs
-
-decide-requires : tie.Need-decide-requires
-decide-requires c κs = search needs
-
-same-length : tie.Need-same-length
-same-length c = search needs
-
 returns : tie.Need-returns
 returns c =
     let s = c .before .before .before .before .before .before .before .before .before .before .before .before in
     let d = c .decide .ensures in
     let least = c .before .before .before .before .before .before .before .min-usize .ensures in
-    let want = c .before .before .before .before .before .before .before .before .bytes-missing .ensures in
+    let want = c .before .before .before .before .before .before .before .before .bytes-wanted .ensures in
     let copy = c .before .before .before .before .copy-in in (
       omega (arith, d .2, least),
       subst (λ (n : ℕ). Lies (s .args .edition) (c .decide .result .found) n) (copy .kept .0) (d .1),
@@ -58,11 +43,11 @@ pub take-record-spec : {M : Type 1} → statement M
 take-record-spec =
     tie.close
     (tie.spec
-    bytes-missing-requires
-    min-usize-requires
+    (λ c κs. search needs)
+    (λ c κs. search needs)
     slice-aggregate-copy-in
     copy-in-requires
-    add-decide
-    decide-requires
-    same-length
+    (λ c. search needs)
+    (λ c κs. search needs)
+    (λ c. search needs)
     returns)

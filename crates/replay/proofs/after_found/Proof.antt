@@ -12,40 +12,10 @@ use Rattle.record_lines.proofs.bad_version.Reads as bad-version-reads
 use Rattle.serving.proofs.serve_record.Reads as serve-record-reads
 use Rattle.text.proofs.line.copy.Reads as copy-reads
 
-enum-known-found : tie.Need-enum-known-found
-enum-known-found c = search needs
-
 serve-record-requires : tie.Need-serve-record-requires
 serve-record-requires c κs =
     let c₁₀ = c .before .before .before .before .before .before .before .before .before .before in
     (rw (c .before .before .before .before .found .given .1) at (c₁₀ .pre .0), search needs)
-
-enum-told : tie.Need-enum-told
-enum-told c = search needs
-
-enum-told-2 : tie.Need-enum-told-2
-enum-told-2 c = search needs
-
-bad-version-requires : tie.Need-bad-version-requires
-bad-version-requires c κs = search needs
-
-enum-told-3 : tie.Need-enum-told-3
-enum-told-3 c = search needs
-
-slice-aggregate-copy : tie.Need-slice-aggregate-copy
-slice-aggregate-copy c = search needs
-
-copy-requires : tie.Need-copy-requires
-copy-requires c κs = search needs
-
-same-length : tie.Need-same-length
-same-length c = search needs
-
-same-length-2 : tie.Need-same-length-2
-same-length-2 c = search needs
-
-same-length-3 : tie.Need-same-length-3
-same-length-3 c = search needs
 
 returns : tie.Need-returns
 returns c =
@@ -59,16 +29,10 @@ returns-2 c =
     let a = c .before .before .before .before .before .before .args in
     found-nothing (a .edition) (a .engine) (a .ring .now) (a .memory .now) (a .held .now) (a .line .now) (a .found) (c .enum-told .given .1)
 
-same-length-4 : tie.Need-same-length-4
-same-length-4 c = search needs
-
 returns-3 : tie.Need-returns-3
 returns-3 c =
     let a = c .before .before .before .before .before .before .before .before .before .before .args in
     found-version (a .edition) (a .engine) (a .ring .now) (a .memory .now) (a .held .now) (a .line .now) (a .found) _ _ (c .before .before .before .before .enum-told2 .given .1) (c .before .before .bad-version .ensures)
-
-same-length-5 : tie.Need-same-length-5
-same-length-5 c = search needs
 
 returns-4 : tie.Need-returns-4
 unfolding endingLine
@@ -82,20 +46,20 @@ pub after-found-spec : {M : Type 1} → statement M
 after-found-spec =
     tie.close
     (tie.spec
-    enum-known-found
+    (λ c. search needs)
     serve-record-requires
-    enum-told
-    enum-told-2
-    bad-version-requires
-    enum-told-3
-    slice-aggregate-copy
-    copy-requires
-    same-length
-    same-length-2
-    same-length-3
+    (λ c. search needs)
+    (λ c. search needs)
+    (λ c κs. search needs)
+    (λ c. search needs)
+    (λ c. search needs)
+    (λ c κs. search needs)
+    (λ c. search needs)
+    (λ c. search needs)
+    (λ c. search needs)
     returns
     returns-2
-    same-length-4
+    (λ c. search needs)
     returns-3
-    same-length-5
+    (λ c. search needs)
     returns-4)

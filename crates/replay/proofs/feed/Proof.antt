@@ -11,27 +11,12 @@ returns c =
     let a = c .before .before .before .before .before .before .args in
     feeds-short (a .replay) (a .held .now) (a .ring .now) (a .memory .now) (a .input .now) (a .line .now) (c .if1 .taken)
 
-take-requires : tie.Need-take-requires
-take-requires c κs = search needs
-
 after-found-requires : tie.Need-after-found-requires
 after-found-requires c κs =
     let c₁₁ = c .before .before .before .before .before .before .before .before .before .before .before in
     let c₁₇ = c₁₁ .before .before .before .before .before .before in
     let t = c .before .before .before .before .before .before .before .take in
     (subst (λ (n : ℕ). Lies (c₁₇ .args .replay .edition) (t .result .found) n) (sym (t .kept .1 .1 .0)) (t .ensures .1), c₁₁ .if1 .left)
-
-same-length : tie.Need-same-length
-same-length c = search needs
-
-same-length-2 : tie.Need-same-length-2
-same-length-2 c = search needs
-
-same-length-3 : tie.Need-same-length-3
-same-length-3 c = search needs
-
-same-length-4 : tie.Need-same-length-4
-same-length-4 c = search needs
 
 returns-2 : tie.Need-returns-2
 returns-2 c =
@@ -46,10 +31,10 @@ feed-spec =
     tie.close
     (tie.spec
     returns
-    take-requires
+    (λ c κs. search needs)
     after-found-requires
-    same-length
-    same-length-2
-    same-length-3
-    same-length-4
+    (λ c. search needs)
+    (λ c. search needs)
+    (λ c. search needs)
+    (λ c. search needs)
     returns-2)

@@ -12,40 +12,16 @@ returns c =
     let a = c .before .before .args in
     finishes-short (a .replay) (a .line .now) 0 (a .line .now) (c .if1 .taken)
 
-enum-told : tie.Need-enum-told
-enum-told c = search needs
-
-bad-version-requires : tie.Need-bad-version-requires
-bad-version-requires c κs = search needs
-
-enum-told-2 : tie.Need-enum-told-2
-enum-told-2 c = search needs
-
 returns-2 : tie.Need-returns-2
 returns-2 c =
     let a = c .before .before .before .before .before .before .args in
     finishes-whole (a .replay) (a .line .now) _ _ (c .before .before .before .before .if1 .left) (c .before .enum-told2 .given .1) (c .if2 .taken) (prints-none (a .line .now))
-
-slice-aggregate-copy : tie.Need-slice-aggregate-copy
-slice-aggregate-copy c = search needs
-
-copy-requires : tie.Need-copy-requires
-copy-requires c κs = search needs
-
-enum-told-3 : tie.Need-enum-told-3
-enum-told-3 c = search needs
-
-same-length : tie.Need-same-length
-same-length c = search needs
 
 returns-3 : tie.Need-returns-3
 returns-3 c =
     let c₇ = c .before .before .before .before .before .before .before in
     let a = c₇ .before .before .args in
     finishes-version (a .replay) (a .line .now) _ _ (c₇ .if1 .left) (c .before .before .before .before .enum-told .given .1) (c .before .before .bad-version .ensures)
-
-same-length-2 : tie.Need-same-length-2
-same-length-2 c = search needs
 
 returns-4 : tie.Need-returns-4
 unfolding endingLine
@@ -66,15 +42,15 @@ finish-spec =
     tie.close
     (tie.spec
     returns
-    enum-told
-    bad-version-requires
-    enum-told-2
+    (λ c. search needs)
+    (λ c κs. search needs)
+    (λ c. search needs)
     returns-2
-    slice-aggregate-copy
-    copy-requires
-    enum-told-3
-    same-length
+    (λ c. search needs)
+    (λ c κs. search needs)
+    (λ c. search needs)
+    (λ c. search needs)
     returns-3
-    same-length-2
+    (λ c. search needs)
     returns-4
     returns-5)

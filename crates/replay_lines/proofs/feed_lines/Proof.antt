@@ -35,9 +35,9 @@ room c =
     leb-true 128 (length (l .out) - l .written) (and-true (ltb (l .used) (length input)) (leb 128 (length (l .out) - l .written)) (c .loop-test .taken) .1)
 
 -- what a call used and wrote lies within the input and the lines
-bounds : (c : tie.After-feed Inv-loop μ-loop) →
-    (c .before .before .before .before .before .before .before .loop .used + c .feed .result .used ≤ length (now (c .before .before .before .before .before .before .before .before .before .before .before .before .before .args .input)))
-    × (c .before .before .before .before .before .before .before .loop .written + c .feed .result .written ≤ length (now (c .before .before .before .before .before .before .before .before .before .before .before .before .before .args .out)))
+bounds : (c : tie.After-feed Inv-loop μ-loop) → let c₇ = c .before .before .before .before .before .before .before in let c₁₃ = c₇ .before .before .before .before .before .before in
+    (c₇ .loop .used + c .feed .result .used ≤ length (now (c₁₃ .args .input)))
+    × (c₇ .loop .written + c .feed .result .written ≤ length (now (c₁₃ .args .out)))
 bounds c =
     let c₁₃ = c .before .before .before .before .before .before .before .before .before .before .before .before .before in
     let l = c .before .before .before .before .before .before .before .loop in
@@ -51,30 +51,6 @@ loop-holds : tie.Need-loop-holds Inv-loop μ-loop
 loop-holds c =
     let a = c .before .before .before .before .before .args in
     (going-none (a .replay) (a .held .now) (a .ring .now) (a .memory .now) (a .input .now) (a .out .now), search needs, search needs, search needs, search needs, search needs, search needs)
-
-sub-loop : tie.Need-sub-loop Inv-loop μ-loop
-sub-loop c = search needs
-
-sub-feed : tie.Need-sub-feed Inv-loop μ-loop
-sub-feed c = search needs
-
-part-feed-start : tie.Need-part-feed-start Inv-loop μ-loop
-part-feed-start c = search needs
-
-part-feed-end : tie.Need-part-feed-end Inv-loop μ-loop
-part-feed-end c = search needs
-
-sub-feed-2 : tie.Need-sub-feed-2 Inv-loop μ-loop
-sub-feed-2 c = search needs
-
-part-feed-start-2 : tie.Need-part-feed-start-2 Inv-loop μ-loop
-part-feed-start-2 c = search needs
-
-part-feed-end-2 : tie.Need-part-feed-end-2 Inv-loop μ-loop
-part-feed-end-2 c = search needs
-
-feed-requires : tie.Need-feed-requires Inv-loop μ-loop
-feed-requires c κs = search needs
 
 add-written : tie.Need-add-written Inv-loop μ-loop
 add-written c =
@@ -97,8 +73,9 @@ loop-again : tie.Need-loop-again Inv-loop μ-loop
 loop-again c =
     let d = c .before .before .before .before .before .before .before .before .before .before .before in
     let l = d .before .before .before .before .before .before .before .loop in
+    let d₆ = d .before .before .before .before .before .before in
     let k = bounds d in (
-      going-more _ _ _ _ _ (l .used) (l .written) (l .now) _ _ _ (l .out) (l .inv .0) _ (length (l .out) - l .written) (d .feed .result) _ _ _ _ refl (omega (arith, room (d .before .before .before .before .before .before), length-mid (l .written) (length (l .out) - l .written) (l .out) (omega arith))) (omega arith) (omega (arith, prints-within _ _ _ _ (d .feed .ensures .prints) (d .feed .kept .1 .1 .1 .1 .1 .0), d .feed .kept .1 .1 .1 .1 .1 .0)) (d .feed .ensures),
+      going-more _ _ _ _ _ (l .used) (l .written) (l .now) _ _ _ (l .out) (l .inv .0) _ (length (l .out) - l .written) (d .feed .result) _ _ _ _ refl (omega (arith, room d₆, length-mid (l .written) (length (l .out) - l .written) (l .out) (omega arith))) (omega arith) (omega (arith, prints-within _ _ _ _ (d .feed .ensures .prints) (d .feed .kept .1 .1 .1 .1 .1 .0), d .feed .kept .1 .1 .1 .1 .1 .0)) (d .feed .ensures),
       k .0,
       k .1,
       search needs,
@@ -106,18 +83,6 @@ loop-again c =
       search needs,
       search needs,
     )
-
-same-length : tie.Need-same-length Inv-loop μ-loop
-same-length c = search needs
-
-same-length-2 : tie.Need-same-length-2 Inv-loop μ-loop
-same-length-2 c = search needs
-
-same-length-3 : tie.Need-same-length-3 Inv-loop μ-loop
-same-length-3 c = search needs
-
-same-length-4 : tie.Need-same-length-4 Inv-loop μ-loop
-same-length-4 c = search needs
 
 returns : tie.Need-returns Inv-loop μ-loop
 returns c =
@@ -160,8 +125,9 @@ returns-2 : tie.Need-returns-2 Inv-loop μ-loop
 returns-2 c =
     let d = c .before .before .before .before .before .before .before .before .before .before .before in
     let l = d .before .before .before .before .before .before .before .loop in
+    let d₆ = d .before .before .before .before .before .before in
     let k = bounds d in
-    let g = going-more _ _ _ _ _ (l .used) (l .written) (l .now) _ _ _ (l .out) (l .inv .0) _ (length (l .out) - l .written) (d .feed .result) _ _ _ _ refl (omega (arith, room (d .before .before .before .before .before .before), length-mid (l .written) (length (l .out) - l .written) (l .out) (omega arith))) (omega arith) (omega (arith, prints-within _ _ _ _ (d .feed .ensures .prints) (d .feed .kept .1 .1 .1 .1 .1 .0), d .feed .kept .1 .1 .1 .1 .1 .0)) (d .feed .ensures) in
+    let g = going-more _ _ _ _ _ (l .used) (l .written) (l .now) _ _ _ (l .out) (l .inv .0) _ (length (l .out) - l .written) (d .feed .result) _ _ _ _ refl (omega (arith, room d₆, length-mid (l .written) (length (l .out) - l .written) (l .out) (omega arith))) (omega arith) (omega (arith, prints-within _ _ _ _ (d .feed .ensures .prints) (d .feed .kept .1 .1 .1 .1 .1 .0), d .feed .kept .1 .1 .1 .1 .1 .0)) (d .feed .ensures) in
     record { within = k .0; room = k .1; same = g .0; onward = g .1 }
 
 pub feed-lines-spec : {M : Type 1} → statement M
@@ -171,22 +137,22 @@ feed-lines-spec =
     Inv-loop
     μ-loop
     loop-holds
-    sub-loop
-    sub-feed
-    part-feed-start
-    part-feed-end
-    sub-feed-2
-    part-feed-start-2
-    part-feed-end-2
-    feed-requires
+    (λ c. search needs)
+    (λ c. search needs)
+    (λ c. search needs)
+    (λ c. search needs)
+    (λ c. search needs)
+    (λ c. search needs)
+    (λ c. search needs)
+    (λ c κs. search needs)
     add-written
     add-used
     loop-less
     loop-again
-    same-length
-    same-length-2
-    same-length-3
-    same-length-4
+    (λ c. search needs)
+    (λ c. search needs)
+    (λ c. search needs)
+    (λ c. search needs)
     returns
     same-length-5
     same-length-6

@@ -14,33 +14,15 @@ use Rattle.replay_pieces.proofs.feed_piece.Statement.{statement}
 use Rattle.replay_pieces.proofs.feed_piece.Tie as tie
 
 abbrev Inv-loop : tie.InvT-loop
-Inv-loop held₀ ring₀ memory₀ piece handed shows slow out₀ now₀ used₀ sum₀ well₀ held ring memory out now used sum well =
+Inv-loop held₀ ring₀ memory₀ piece handed shows slow out₀ now₀ used₀ sum₀ ok₀ held ring memory out now used sum ok =
     (used ≤ length piece) × (65536 ≡ length out) × (length held ≡ length held₀) × (length ring ≡ length ring₀) × (length memory ≡ length memory₀)
     × ((engine : State) (seen text : List ℕ) → Stands engine seen text now₀ held₀ ring₀ memory₀ → handed ≡ handedOf shows text → Feeding (now₀ .edition) engine seen text piece shows used now sum held ring memory)
 
 abbrev μ-loop : tie.MeasureT-loop
-μ-loop held₀ ring₀ memory₀ piece handed shows slow out₀ now₀ used₀ sum₀ well₀ held ring memory out now used sum well = length piece - used
-
-large-buffer-requires : tie.Need-large-buffer-requires Inv-loop μ-loop
-large-buffer-requires c κs = search needs
+μ-loop held₀ ring₀ memory₀ piece handed shows slow out₀ now₀ used₀ sum₀ ok₀ held ring memory out now used sum ok = length piece - used
 
 loop-holds : tie.Need-loop-holds Inv-loop μ-loop
 loop-holds c = (search needs, search needs, search needs, search needs, search needs, λ engine seen text S e. feeding-none engine seen text _ _ _ _ _ _ _ S e)
-
-sub-feed-lines : tie.Need-sub-feed-lines Inv-loop μ-loop
-sub-feed-lines c = search needs
-
-part-feed-lines-start : tie.Need-part-feed-lines-start Inv-loop μ-loop
-part-feed-lines-start c = search needs
-
-part-feed-lines-end : tie.Need-part-feed-lines-end Inv-loop μ-loop
-part-feed-lines-end c = search needs
-
-slice-aggregate-feed-lines : tie.Need-slice-aggregate-feed-lines Inv-loop μ-loop
-slice-aggregate-feed-lines c = search needs
-
-feed-lines-requires : tie.Need-feed-lines-requires Inv-loop μ-loop
-feed-lines-requires c κs = search needs
 
 add-used : tie.Need-add-used Inv-loop μ-loop
 add-used c =
@@ -49,18 +31,6 @@ add-used c =
     let s = c₈ .before .before .before .before .before .before .before .before .before .before .before .before .before in
     let piece = now (s .args .piece) in
     omega (arith, c₈ .feed-lines .ensures .within, length-mid (l .used) (length piece - l .used) piece (omega arith), s .good .1 .1 .1 .1 .0 .0)
-
-slice-aggregate-show : tie.Need-slice-aggregate-show Inv-loop μ-loop
-slice-aggregate-show c = search needs
-
-show-requires : tie.Need-show-requires Inv-loop μ-loop
-show-requires c κs = search needs
-
-wrapping-add-u64-requires : tie.Need-wrapping-add-u64-requires Inv-loop μ-loop
-wrapping-add-u64-requires c κs = search needs
-
-loop-less : tie.Need-loop-less Inv-loop μ-loop
-loop-less c = search needs
 
 loop-again : tie.Need-loop-again Inv-loop μ-loop
 loop-again c =
@@ -71,30 +41,12 @@ loop-again c =
     let rest = length-mid (l .used) (length piece - l .used) piece (omega (arith, l .inv .0)) in
     (omega (arith, f .ensures .within, rest, l .inv .0), search needs, search needs, search needs, search needs, λ engine seen text S e. rw (c .before .wrapping-add-u64 .ensures) (feeding-more _ engine seen text piece _ (l .used) (l .now) (l .sum) _ _ _ (l .inv .5 engine seen text S e) (length piece - l .used) _ (f .result) _ _ _ _ _ refl (f .kept .1 .1 .1 .1 .1 .0) (f .ensures) (c .before .before .show .ensures)))
 
-same-length : tie.Need-same-length Inv-loop μ-loop
-same-length c = search needs
-
-same-length-2 : tie.Need-same-length-2 Inv-loop μ-loop
-same-length-2 c = search needs
-
-same-length-3 : tie.Need-same-length-3 Inv-loop μ-loop
-same-length-3 c = search needs
-
 returns : tie.Need-returns Inv-loop μ-loop
 returns c =
     let l = c .before .loop in
     λ engine seen text S e.
     let G = l .inv .5 engine seen text S e in
-    record { used = l .used; more = G .more; of = G .of; stands = G .stands; counts = G .counts; whole = λ well. all-used (l .used) _ (l .well) (c .loop-test .left) (l .inv .0) well }
-
-same-length-4 : tie.Need-same-length-4 Inv-loop μ-loop
-same-length-4 c = search needs
-
-same-length-5 : tie.Need-same-length-5 Inv-loop μ-loop
-same-length-5 c = search needs
-
-same-length-6 : tie.Need-same-length-6 Inv-loop μ-loop
-same-length-6 c = search needs
+    record { used = l .used; more = G .more; of = G .of; stands = G .stands; counts = G .counts; whole = λ ok. all-used (l .used) _ (l .ok) (c .loop-test .left) (l .inv .0) ok }
 
 returns-2 : tie.Need-returns-2 Inv-loop μ-loop
 returns-2 c =
@@ -110,24 +62,24 @@ feed-piece-spec =
     (tie.spec
     Inv-loop
     μ-loop
-    large-buffer-requires
+    (λ c κs. search needs)
     loop-holds
-    sub-feed-lines
-    part-feed-lines-start
-    part-feed-lines-end
-    slice-aggregate-feed-lines
-    feed-lines-requires
+    (λ c. search needs)
+    (λ c. search needs)
+    (λ c. search needs)
+    (λ c. search needs)
+    (λ c κs. search needs)
     add-used
-    slice-aggregate-show
-    show-requires
-    wrapping-add-u64-requires
-    loop-less
+    (λ c. search needs)
+    (λ c κs. search needs)
+    (λ c κs. search needs)
+    (λ c. search needs)
     loop-again
-    same-length
-    same-length-2
-    same-length-3
+    (λ c. search needs)
+    (λ c. search needs)
+    (λ c. search needs)
     returns
-    same-length-4
-    same-length-5
-    same-length-6
+    (λ c. search needs)
+    (λ c. search needs)
+    (λ c. search needs)
     returns-2)

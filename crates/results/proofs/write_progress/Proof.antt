@@ -3,24 +3,6 @@ use borrow.Author.Needs.{needs}
 use Rattle.results.proofs.write_progress.Statement.{statement}
 use Rattle.results.proofs.write_progress.Tie as tie
 
-piece-words-requires : tie.Need-piece-words-requires
-piece-words-requires c κs = search needs
-
-array-read-number : tie.Need-array-read-number
-array-read-number c = search needs
-
-array-read-t11 : tie.Need-array-read-t11
-array-read-t11 c = search needs
-
-array-read-t16 : tie.Need-array-read-t16
-array-read-t16 c = search needs
-
-encode-requires : tie.Need-encode-requires
-encode-requires c κs = search needs
-
-same-length : tie.Need-same-length
-same-length c = search needs
-
 returns : tie.Need-returns
 returns c =
     let c₆ = c .before .before .before .before .before .before in
@@ -33,11 +15,11 @@ pub write-progress-spec : {M : Type 1} → statement M
 write-progress-spec =
     tie.close
     (tie.spec
-    piece-words-requires
-    array-read-number
-    array-read-t11
-    array-read-t16
-    encode-requires
-    same-length
+    (λ c κs. search needs)
+    (λ c. search needs)
+    (λ c. search needs)
+    (λ c. search needs)
+    (λ c κs. search needs)
+    (λ c. search needs)
     returns
     returns-2)

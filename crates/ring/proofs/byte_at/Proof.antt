@@ -7,18 +7,6 @@ use borrow.Author.Needs.{needs}
 use Rattle.ring.proofs.byte_at.Statement.{statement}
 use Rattle.ring.proofs.byte_at.Tie as tie
 
-sub-tail : tie.Need-sub-tail
-sub-tail c = search needs
-
-add-result : tie.Need-add-result
-add-result c = search needs
-
-shared-slice-read-result : tie.Need-shared-slice-read-result
-shared-slice-read-result c = search needs
-
-shared-slice-read-result-2 : tie.Need-shared-slice-read-result-2
-shared-slice-read-result-2 c = search needs
-
 returns : tie.Need-returns
 returns c =
     let a = c .before .before .args in
@@ -36,9 +24,9 @@ pub byte-at-spec : {M : Type 1} → statement M
 byte-at-spec =
     tie.close
     (tie.spec
-    sub-tail
-    add-result
-    shared-slice-read-result
-    shared-slice-read-result-2
+    (λ c. search needs)
+    (λ c. search needs)
+    (λ c. search needs)
+    (λ c. search needs)
     returns
     returns-2)

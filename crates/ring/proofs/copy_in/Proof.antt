@@ -11,15 +11,6 @@ use borrow.Author.Needs.{needs}
 use Rattle.ring.proofs.copy_in.Statement.{statement}
 use Rattle.ring.proofs.copy_in.Tie as tie
 
-sub-tail : tie.Need-sub-tail
-sub-tail c = search needs
-
-copy-at-requires : tie.Need-copy-at-requires
-copy-at-requires c κs = search needs
-
-same-length : tie.Need-same-length
-same-length c = search needs
-
 returns : tie.Need-returns
 returns c =
     let a = c .before .before .before .before .before .before .before .args in
@@ -32,21 +23,6 @@ slice-aggregate-copy-at c =
 
 copy-at-requires-2 : tie.Need-copy-at-requires-2
 copy-at-requires-2 c κs = simp length-take (omega arith)
-
-sub-copy-at : tie.Need-sub-copy-at
-sub-copy-at c = search needs
-
-part-copy-at-start : tie.Need-part-copy-at-start
-part-copy-at-start c = search needs
-
-part-copy-at-end : tie.Need-part-copy-at-end
-part-copy-at-end c = search needs
-
-copy-at-requires-3 : tie.Need-copy-at-requires-3
-copy-at-requires-3 c κs = search needs
-
-same-length-2 : tie.Need-same-length-2
-same-length-2 c = search needs
 
 returns-2 : tie.Need-returns-2
 unfolding copiedIn
@@ -63,15 +39,15 @@ pub copy-in-spec : {M : Type 1} → statement M
 copy-in-spec =
     tie.close
     (tie.spec
-    sub-tail
-    copy-at-requires
-    same-length
+    (λ c. search needs)
+    (λ c κs. search needs)
+    (λ c. search needs)
     returns
     slice-aggregate-copy-at
     copy-at-requires-2
-    sub-copy-at
-    part-copy-at-start
-    part-copy-at-end
-    copy-at-requires-3
-    same-length-2
+    (λ c. search needs)
+    (λ c. search needs)
+    (λ c. search needs)
+    (λ c κs. search needs)
+    (λ c. search needs)
     returns-2)

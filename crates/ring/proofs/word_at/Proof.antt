@@ -5,7 +5,7 @@ use lib.ListN.{length}
 use Rattle.word.specs.Word.{le32At}
 use Rattle.ring.specs.declared.Read.the-variants.{Word}
 use Rattle.ring.specs.Segment.{LiesInRing, segment, batchWords}
-use Rattle.ring.specs.Read.{wordAt}
+use Rattle.ring.specs.Read.{readWord}
 use Rattle.ring.proofs.Segment.{lies-word, count-words, word-whole, word-front, word-back}
 use Rattle.ring.proofs.Reading.{read-past, read-batch}
 use borrow.Author.Needs.{needs}
@@ -25,13 +25,10 @@ short c =
 
 -- a word that stands there is the answer
 answer : (c : tie.Else1) (word : ℕ) → let a = c .before .before .before .args in
-    word ≡ le32At (segment (a .ring .now) (a .offset) (a .size)) (4 * a .k) → Word word ≡ wordAt (batchWords (a .ring .now) (a .offset) (a .size)) (a .k)
+    word ≡ le32At (segment (a .ring .now) (a .offset) (a .size)) (4 * a .k) → Word word ≡ readWord (batchWords (a .ring .now) (a .offset) (a .size)) (a .k)
 answer c word e =
     let a = c .before .before .before .args in
     ap Word e ∙ sym (read-batch (a .ring .now) (a .offset) (a .size) (a .k) (inside c) (short c))
-
-word-count-requires : tie.Need-word-count-requires
-word-count-requires c κs = search needs
 
 returns : tie.Need-returns
 returns c =
@@ -97,9 +94,6 @@ byte-at-requires-4 c κs =
     let c₅ = c .before .before .before .before .before in
     (inside c₅ .starts, omega (arith, inside c₅, short c₅))
 
-join-le32-requires : tie.Need-join-le32-requires
-join-le32-requires c κs = search needs
-
 returns-4 : tie.Need-returns-4
 unfolding le32At
 returns-4 c =
@@ -111,7 +105,7 @@ pub word-at-spec : {M : Type 1} → statement M
 word-at-spec =
     tie.close
     (tie.spec
-    word-count-requires
+    (λ c κs. search needs)
     returns
     mul-i
     sub-tail
@@ -128,5 +122,5 @@ word-at-spec =
     byte-at-requires-3
     add-byte-at-3
     byte-at-requires-4
-    join-le32-requires
+    (λ c κs. search needs)
     returns-4)

@@ -5,9 +5,6 @@ use borrow.Author.Needs.{needs}
 use Rattle.ring.proofs.word_count.Statement.{statement}
 use Rattle.ring.proofs.word_count.Tie as tie
 
-lies-in-requires : tie.Need-lies-in-requires
-lies-in-requires c κs = search needs
-
 returns : tie.Need-returns
 returns c =
     let a = c .before .before .before .args in
@@ -19,4 +16,7 @@ returns-2 c =
     sym (ap length (no-words (a .ring .now) (a .offset) (a .size) (sym (c .before .lies-in .ensures) ∙ c .if1 .left)))
 
 pub word-count-spec : {M : Type 1} → statement M
-word-count-spec = tie.close (tie.spec lies-in-requires returns returns-2)
+word-count-spec = tie.close (tie.spec
+    (λ c κs. search needs)
+    returns
+    returns-2)

@@ -44,7 +44,7 @@ use denote.Triple.Walked.{says, Stays, stay-none, walkOf, goes-none, Walks, ends
 use denote.Exit.{yes}
 use denote.Triple.Clauses.{ensured, lasts}
 use Rattle.ring.specs.Segment.{batchWords}
-use Rattle.ring.specs.Read.{wordAt}
+use Rattle.ring.specs.Read.{readWord}
 use Rattle.ring.specs.declared.Reader.{Reader}
 use Rattle.ring.specs.declared.Read.{Read}
 use Rattle.ring.proofs.Reader as T
@@ -81,7 +81,7 @@ module _ {M : Type 1} (𝓤 : URA M) (H : Heap 𝓤) (A : Atoms 𝓤) (W : Given
   v = sliceVal (d .ring .ptr) (length (d .ring .now))
 
   abbrev found : Read
-  found = wordAt (batchWords (now (d .ring)) (d .offset) (d .size)) k
+  found = readWord (batchWords (now (d .ring)) (d .offset) (d .size)) k
 
   abbrev Post : Val → SProp 𝓤
   Post = walkOf 𝓤 H A next.ended stayed (next.clauses 𝓤 H A mem run) .post (((κ, tt), (q, tt), tt, (d, (k, tt)), (mach ∷ [], (vint w64 k ∷ [], tt))), tt)

@@ -3,8 +3,8 @@ use native.Mathlib.Nat.{not-suc-le-zero}
 use lib.ListN.{length}
 use denote.Ref.{now}
 use Rattle.surface.specs.Drawn.{loadPixel}
-use Rattle.rows.specs.Row.{colourAt}
-use Rattle.rows.proofs.Straight.{side-by-side, side-by-side-in}
+use Rattle.row_pixels.specs.Row.{colourAt}
+use Rattle.row_pixels.proofs.Straight.{side-by-side, side-by-side-in}
 use Rattle.row_copy.proofs.Bytes.{narrower}
 use borrow.Author.Needs.{needs}
 use Rattle.row_copy.proofs.fetch_bytes.Statement.{statement}
@@ -12,9 +12,6 @@ use Rattle.row_copy.proofs.fetch_bytes.Tie as tie
 
 returns : tie.Need-returns
 returns c = λ x z. absurd (not-suc-le-zero (rw (c .if1 .taken) at z))
-
-origin-requires : tie.Need-origin-requires
-origin-requires c κs = search needs
 
 load-row-requires : tie.Need-load-row-requires
 load-row-requires c κs =
@@ -24,9 +21,6 @@ load-row-requires c κs =
       rw (c .origin .ensures) (side-by-side-in (a .s) (a .transform) (s .pre .1) (s .pre .2) (a .y) (a .width) _ (rw (s .pre .1) at (p .down)) (rw (s .pre .1) at (p .across)) (p .inside)),
       narrower (a .s .format) (a .width) (length (now (a .buffer))) (p .room),
     )
-
-same-length : tie.Need-same-length
-same-length c = search needs
 
 returns-2 : tie.Need-returns-2
 unfolding colourAt
@@ -39,4 +33,9 @@ returns-2 c =
     ∙ ap (loadPixel (a .s .format) (now (a .memory))) (rw (o .origin .ensures) (sym (side-by-side (a .s) (a .transform) (s .pre .1) (s .pre .2) x (a .y))))
 
 pub fetch-bytes-spec : {M : Type 1} → statement M
-fetch-bytes-spec = tie.close (tie.spec returns origin-requires load-row-requires same-length returns-2)
+fetch-bytes-spec = tie.close (tie.spec
+    returns
+    (λ c κs. search needs)
+    load-row-requires
+    (λ c. search needs)
+    returns-2)

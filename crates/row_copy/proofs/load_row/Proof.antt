@@ -10,9 +10,6 @@ use borrow.Author.Needs.{needs}
 use Rattle.row_copy.proofs.load_row.Statement.{statement}
 use Rattle.row_copy.proofs.load_row.Tie as tie
 
-bytes-requires : tie.Need-bytes-requires
-bytes-requires c κs = search needs
-
 mul-n : tie.Need-mul-n
 mul-n c =
     let s = c .before .before .before in
@@ -23,33 +20,15 @@ add-end c =
     let s = c .before .before .before in
     omega (arith, ap (λ (n : ℕ). s .args .width * n) (c .bytes .ensures), s .pre .0)
 
-sub-copy : tie.Need-sub-copy
-sub-copy c = search needs
-
-part-copy-start : tie.Need-part-copy-start
-part-copy-start c = search needs
-
 part-copy-end : tie.Need-part-copy-end
 part-copy-end c =
     let s = c .before .before .before in
     omega (arith, ap (λ (n : ℕ). s .args .width * n) (c .bytes .ensures), s .pre .1)
 
-sub-copy-2 : tie.Need-sub-copy-2
-sub-copy-2 c = search needs
-
-part-copy-start-2 : tie.Need-part-copy-start-2
-part-copy-start-2 c = search needs
-
 part-copy-end-2 : tie.Need-part-copy-end-2
 part-copy-end-2 c =
     let s = c .before .before .before .before in
     omega (arith, ap (λ (n : ℕ). s .args .width * n) (c .before .bytes .ensures), s .pre .0)
-
-copy-requires : tie.Need-copy-requires
-copy-requires c κs = search needs
-
-same-length : tie.Need-same-length
-same-length c = search needs
 
 returns : tie.Need-returns
 returns c =
@@ -69,15 +48,15 @@ pub load-row-spec : {M : Type 1} → statement M
 load-row-spec =
     tie.close
     (tie.spec
-    bytes-requires
+    (λ c κs. search needs)
     mul-n
     add-end
-    sub-copy
-    part-copy-start
+    (λ c. search needs)
+    (λ c. search needs)
     part-copy-end
-    sub-copy-2
-    part-copy-start-2
+    (λ c. search needs)
+    (λ c. search needs)
     part-copy-end-2
-    copy-requires
-    same-length
+    (λ c κs. search needs)
+    (λ c. search needs)
     returns)

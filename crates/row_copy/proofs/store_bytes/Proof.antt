@@ -5,12 +5,6 @@ use borrow.Author.Needs.{needs}
 use Rattle.row_copy.proofs.store_bytes.Statement.{statement}
 use Rattle.row_copy.proofs.store_bytes.Tie as tie
 
-copy-requires : tie.Need-copy-requires
-copy-requires c κs = search needs
-
-same-length : tie.Need-same-length
-same-length c = search needs
-
 returns : tie.Need-returns
 returns c =
     let e = c .before .before .before in
@@ -21,4 +15,7 @@ returns c =
     (s .pre .1) (s .pre .0) (f .kept .0) (f .ensures)
 
 pub store-bytes-spec : {M : Type 1} → statement M
-store-bytes-spec = tie.close (tie.spec copy-requires same-length returns)
+store-bytes-spec = tie.close (tie.spec
+    (λ c κs. search needs)
+    (λ c. search needs)
+    returns)

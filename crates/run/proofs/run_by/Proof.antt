@@ -3,8 +3,8 @@ use native.Mathlib.Omega.{arith}
 use lib.ListN.{length}
 use denote.Ref.{now}
 use Prim.Native.Nat.{_<_}
-use Rattle.record.specs.declared.Batch.{Batch}
-use Rattle.record.proofs.Checking.{checked-ready}
+use Rattle.engine_record.specs.declared.Batch.{Batch}
+use Rattle.engine_record.proofs.Checking.{checked-ready}
 use Rattle.engine.specs.Run.{oldest}
 use Rattle.engine.proofs.Oldest.{slot-below, owner-small, oldest-room}
 use Rattle.engine.proofs.Refusals.{RunAllowed, run-allowed}
@@ -13,7 +13,8 @@ use borrow.Author.Needs.{needs}
 use Rattle.run.proofs.run_by.Statement.{statement}
 use Rattle.run.proofs.run_by.Tie as tie
 
-allowed : (c : tie.Else1) → RunAllowed (c .before .before .before .before .before .args .engine) (length (now (c .before .before .before .before .before .args .ring))) (length (now (c .before .before .before .before .before .args .memory)))
+allowed : (c : tie.Else1) → let c₅ = c .before .before .before .before .before in
+    RunAllowed (c₅ .args .engine) (length (now (c₅ .args .ring))) (length (now (c₅ .args .memory)))
 allowed c =
     let c₅ = c .before .before .before .before .before in
     let a = c₅ .args in run-allowed (a .engine) (length (now (a .ring))) (length (now (a .memory))) (sym (c .before .run-refusal .ensures) ∙ c .if1 .left)
@@ -27,11 +28,9 @@ slot c =
     omega (arith, slot-below (c₇ .args .engine) (a .ok) (a .some) (e .before .before .check .ensures .2), c .oldest-slot .ensures)
 
 -- its batch is the oldest
-taken : (c : tie.After-batch-of) → c .batch-of .result ≡ oldest (c .before .before .before .before .before .before .before .before .before .args .engine)
+taken : (c : tie.After-batch-of) → let c₉ = c .before .before .before .before .before .before .before .before .before in
+    c .batch-of .result ≡ oldest (c₉ .args .engine)
 taken c = c .batch-of .ensures ∙ rw (c .before .before .oldest-slot .ensures)
-
-check-requires : tie.Need-check-requires
-check-requires c κs = search needs
 
 run-refusal-requires : tie.Need-run-refusal-requires
 run-refusal-requires c κs = c .check .ensures .0
@@ -53,18 +52,12 @@ mul-batch-of c = let h = slot c in omega arith
 array-copy-out-batch-of : tie.Need-array-copy-out-batch-of
 array-copy-out-batch-of c = slot c
 
-batch-of-requires : tie.Need-batch-of-requires
-batch-of-requires c κs = search needs
-
 bounds-for-requires : tie.Need-bounds-for-requires
 bounds-for-requires c κs =
     let c₉ = c .before .before .before .before .before .before .before .before .before in
     let a = allowed (c .before .before .before .before) in
     let one = owner-small (c₉ .args .engine) (a .ok) (a .some) in
     omega (arith, ap (λ (b : Batch). b .client) (taken c))
-
-bank-for-requires : tie.Need-bank-for-requires
-bank-for-requires c κs = search needs
 
 run-batch-requires : tie.Need-run-batch-requires
 run-batch-requires c κs =
@@ -84,9 +77,6 @@ without-oldest-requires c κs =
     let a = allowed e in
     (a .ok, a .some, c₅ .bounds-for .ensures .1, e .before .before .check .ensures .2, o .ensures, taken b)
 
-same-length : tie.Need-same-length
-same-length c = search needs
-
 returns-2 : tie.Need-returns-2
 returns-2 c =
     let b = c .before .before .before .before .before .before .before in
@@ -103,16 +93,16 @@ pub run-by-spec : {M : Type 1} → statement M
 run-by-spec =
     tie.close
     (tie.spec
-    check-requires
+    (λ c κs. search needs)
     run-refusal-requires
     returns
     oldest-slot-requires
     mul-batch-of
     array-copy-out-batch-of
-    batch-of-requires
+    (λ c κs. search needs)
     bounds-for-requires
-    bank-for-requires
+    (λ c κs. search needs)
     run-batch-requires
     without-oldest-requires
-    same-length
+    (λ c. search needs)
     returns-2)

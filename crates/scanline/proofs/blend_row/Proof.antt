@@ -5,25 +5,13 @@ use lib.ListN.{length}
 use denote.Ref.{now}
 use borrow.Rule.Slice.PartMut.{midOf}
 use Rattle.surface.proofs.Parts.{length-mid}
-use Rattle.rows.specs.Row.{colourIn}
-use Rattle.rows.specs.Mixed.{composite}
+use Rattle.row_pixels.specs.Row.{colourIn}
+use Rattle.row_pixels.specs.Composite.{composite}
 use Rattle.plan.proofs.Factors.{planned-is}
-use Rattle.row_colours.proofs.Parts.{part-colour, mixed-small, part-spelt}
+use Rattle.row_colours.proofs.Parts.{part-colour, mixed-small, holds-part}
 use borrow.Author.Needs.{needs}
 use Rattle.scanline.proofs.blend_row.Statement.{statement}
 use Rattle.scanline.proofs.blend_row.Tie as tie
-
-mul-n : tie.Need-mul-n
-mul-n c = search needs
-
-sub-mix-row : tie.Need-sub-mix-row
-sub-mix-row c = search needs
-
-part-mix-row-start : tie.Need-part-mix-row-start
-part-mix-row-start c = search needs
-
-part-mix-row-end : tie.Need-part-mix-row-end
-part-mix-row-end c = search needs
 
 mix-row-requires : tie.Need-mix-row-requires
 mix-row-requires c κs =
@@ -38,12 +26,6 @@ mix-row-requires c κs =
       rule = p .1;
     }
 
-same-length : tie.Need-same-length
-same-length c = search needs
-
-same-length-2 : tie.Need-same-length-2
-same-length-2 c = search needs
-
 returns : tie.Need-returns
 returns c =
     let f = c .before .before .before .before .mix-row in
@@ -52,7 +34,7 @@ returns c =
     let n : ℕ = a .width * 4 - 0 in
     let long : length (midOf 0 n (now (a .destination))) ≡ n = length-mid 0 n (now (a .destination)) (omega (arith, s .pre .1)) in
     λ x l.
-    part-spelt (λ x. composite (a .blending) (a .source-alpha) (a .destination-alpha) (colourIn (now (a .source)) x) (colourIn (midOf 0 n (now (a .destination))) x))
+    holds-part (λ x. composite (a .blending) (a .source-alpha) (a .destination-alpha) (colourIn (now (a .source)) x) (colourIn (midOf 0 n (now (a .destination))) x))
     (now (a .destination)) (f .last .0) (a .width) n (omega arith) (s .pre .1) (f .kept .0 ∙ long) (λ x. mixed-small (a .blending) (a .source-alpha) (a .destination-alpha) _ _) (f .ensures) x l
     ∙ ap (composite (a .blending) (a .source-alpha) (a .destination-alpha) (colourIn (now (a .source)) x)) (part-colour (now (a .destination)) n x (omega arith))
 
@@ -60,11 +42,11 @@ pub blend-row-spec : {M : Type 1} → statement M
 blend-row-spec =
     tie.close
     (tie.spec
-    mul-n
-    sub-mix-row
-    part-mix-row-start
-    part-mix-row-end
+    (λ c. search needs)
+    (λ c. search needs)
+    (λ c. search needs)
+    (λ c. search needs)
     mix-row-requires
-    same-length
-    same-length-2
+    (λ c. search needs)
+    (λ c. search needs)
     returns)

@@ -14,9 +14,6 @@ copy-requires c κs =
     let s = e .before .before .before .before in
     omega (arith, rw (e .enum-told .given .1) at (s .pre .0), s .pre .1)
 
-same-length : tie.Need-same-length
-same-length c = search needs
-
 returns : tie.Need-returns
 returns c =
     let e = c .before .before .before .before in
@@ -28,30 +25,18 @@ returns c =
     (λ j. omega (arith, e .before .before .shared-slice-known .given j)) (λ j. omega (arith, e .before .before .before .slice-known .given j)) (λ j. omega (arith, c .slice-known2 .given j))
     (s .pre .1) (rw (e .enum-told .given .1) at (s .pre .0)) (f .kept .0) (f .ensures))
 
-enum-told-2 : tie.Need-enum-told-2
-enum-told-2 c = search needs
-
 to-888-requires : tie.Need-to-888-requires
 to-888-requires c κs =
     let c₅ = c .before .before .before .before .before in
     rw (c .before .enum-told2 .given .1) at (c₅ .pre)
 
-same-length-2 : tie.Need-same-length-2
-same-length-2 c = search needs
-
 returns-2 : tie.Need-returns-2
 returns-2 c = rw (c .before .before .before .before .enum-told2 .given .1) (c .before .before .to-888 .ensures)
-
-enum-told-3 : tie.Need-enum-told-3
-enum-told-3 c = search needs
 
 to-565-requires : tie.Need-to-565-requires
 to-565-requires c κs =
     let c₅ = c .before .before .before .before .before in
     rw (c .before .enum-told3 .given .1) at (c₅ .pre)
-
-same-length-3 : tie.Need-same-length-3
-same-length-3 c = search needs
 
 returns-3 : tie.Need-returns-3
 returns-3 c = rw (c .before .before .before .before .enum-told3 .given .1) (c .before .before .to-565 .ensures)
@@ -62,13 +47,13 @@ blit-row-spec =
     (tie.spec
     enum-told
     copy-requires
-    same-length
+    (λ c. search needs)
     returns
-    enum-told-2
+    (λ c. search needs)
     to-888-requires
-    same-length-2
+    (λ c. search needs)
     returns-2
-    enum-told-3
+    (λ c. search needs)
     to-565-requires
-    same-length-3
+    (λ c. search needs)
     returns-3)

@@ -17,9 +17,6 @@ Inv-loop row₀ width format c bytes x₀ at₀ row x at =
 abbrev μ-loop : tie.MeasureT-loop
 μ-loop row₀ width format c bytes x₀ at₀ row x at = width - x
 
-bytes-requires : tie.Need-bytes-requires Inv-loop μ-loop
-bytes-requires c κs = search needs
-
 loop-holds : tie.Need-loop-holds Inv-loop μ-loop
 loop-holds c = (search needs, search needs, none-begun _ _ _, refl)
 
@@ -38,12 +35,6 @@ add-at c =
     let t = c .before .before .before .before in
     omega (arith, fits t, t .before .before .bytes .ensures, t .before .loop .inv .3)
 
-add-x : tie.Need-add-x Inv-loop μ-loop
-add-x c = search needs
-
-loop-less : tie.Need-loop-less Inv-loop μ-loop
-loop-less c = search needs
-
 loop-again : tie.Need-loop-again Inv-loop μ-loop
 loop-again c =
     let t = c .before .before .before .before in
@@ -55,9 +46,6 @@ loop-again c =
       prefix-step (a .format) (λ x. a .c) (now (a .row)) (l .row) (s .last .0) (l .x) (l .at) (a .c) (l .inv .1) refl (l .inv .2) (s .ensures),
       s .kept .0 ∙ l .inv .3,
     )
-
-same-length : tie.Need-same-length Inv-loop μ-loop
-same-length c = search needs
 
 returns : tie.Need-returns Inv-loop μ-loop
 returns c =
@@ -72,12 +60,12 @@ fill-pixels-spec =
     (tie.spec
     Inv-loop
     μ-loop
-    bytes-requires
+    (λ c κs. search needs)
     loop-holds
     store-requires
     add-at
-    add-x
-    loop-less
+    (λ c. search needs)
+    (λ c. search needs)
     loop-again
-    same-length
+    (λ c. search needs)
     returns)

@@ -6,15 +6,12 @@ use Rattle.score.specs.Coverage.{product, coverageOf}
 use Rattle.score.proofs.coverage_of.Statement.{statement}
 use Rattle.score.proofs.coverage_of.Tie as tie
 
-greatest-requires : tie.Need-greatest-requires
-greatest-requires c κs = search needs
-
-sub-result : tie.Need-sub-result
-sub-result c = search needs
-
 returns : tie.Need-returns
 unfolding coverageOf product ofBits
 returns c = ap (λ (a : ℕ). 255 - a) (c .greatest .ensures)
 
 pub coverage-of-spec : {M : Type 1} → statement M
-coverage-of-spec = tie.close (tie.spec greatest-requires sub-result returns)
+coverage-of-spec = tie.close (tie.spec
+    (λ c κs. search needs)
+    (λ c. search needs)
+    returns)

@@ -20,27 +20,12 @@ loop-holds : tie.Need-loop-holds Inv-loop μ-loop
 unfolding greatestTo
 loop-holds c = (search needs, search needs, refl, refl)
 
-sub-loop : tie.Need-sub-loop Inv-loop μ-loop
-sub-loop c = search needs
-
-add-middle : tie.Need-add-middle Inv-loop μ-loop
-add-middle c = search needs
-
-int-to-float-if1 : tie.Need-int-to-float-if1 Inv-loop μ-loop
-int-to-float-if1 c = search needs
-
-loop-less : tie.Need-loop-less Inv-loop μ-loop
-loop-less c = search needs
-
 loop-again : tie.Need-loop-again Inv-loop μ-loop
 unfolding notAbove
 loop-again c =
     let l = c .before .before .before .loop in
     let p = c .before .before .before .before .args .product in
     (search needs, search needs, reached p (middle (l .found) (l .end)) (search needs) (c .if1 .taken), l .inv .3)
-
-loop-less-2 : tie.Need-loop-less-2 Inv-loop μ-loop
-loop-less-2 c = search needs
 
 loop-again-2 : tie.Need-loop-again-2 Inv-loop μ-loop
 unfolding notAbove
@@ -53,9 +38,6 @@ loop-again-2 c =
       left-out p (middle (l .found) (l .end)) (l .end - 1) (search needs) (search needs) (search needs) (c .if1 .left) ∙ l .inv .3,
     )
 
-cast-result : tie.Need-cast-result Inv-loop μ-loop
-cast-result c = search needs
-
 returns : tie.Need-returns Inv-loop μ-loop
 returns c =
     let l = c .before .loop in
@@ -63,4 +45,16 @@ returns c =
     sym (l .inv .2) ∙ ap (λ (n : ℕ). greatestTo n (c .before .before .args .product)) last ∙ l .inv .3
 
 pub greatest-spec : {M : Type 1} → statement M
-greatest-spec = tie.close (tie.spec Inv-loop μ-loop loop-holds sub-loop add-middle int-to-float-if1 loop-less loop-again loop-less-2 loop-again-2 cast-result returns)
+greatest-spec = tie.close (tie.spec
+    Inv-loop
+    μ-loop
+    loop-holds
+    (λ c. search needs)
+    (λ c. search needs)
+    (λ c. search needs)
+    (λ c. search needs)
+    loop-again
+    (λ c. search needs)
+    loop-again-2
+    (λ c. search needs)
+    returns)

@@ -11,9 +11,6 @@ use Rattle.score_word.proofs.is_score_word.Lts as lts
 use Rattle.score.proofs.is_score.Reads as is-score-reads
 use Rattle.score_word.proofs.is_nan.Reads as is-nan-reads
 
-is-nan-requires : tie.Need-is-nan-requires
-is-nan-requires c κs = search needs
-
 returns : tie.Need-returns
 returns c = sym (nan-bad (c .before .before .args .word) (sym (c .before .is-nan .ensures) ∙ c .if1 .taken))
 
@@ -22,9 +19,6 @@ float-from-bits-is-score c =
     let number : nanBits binary32 (c .before .before .args .word) ≡ false = sym (c .before .is-nan .ensures) ∙ c .if1 .left in
     rw number tt
 
-is-score-requires : tie.Need-is-score-requires
-is-score-requires c κs = search needs
-
 returns-2 : tie.Need-returns-2
 unfolding isScoreWord
 returns-2 c = c .is-score .ensures
@@ -32,4 +26,9 @@ returns-2 c = c .is-score .ensures
 pub is-score-word-spec : {M : Type 1} → statement M
 is-score-word-spec =
     tie.close
-    (tie.spec is-nan-requires returns float-from-bits-is-score is-score-requires returns-2)
+    (tie.spec
+    (λ c κs. search needs)
+    returns
+    float-from-bits-is-score
+    (λ c κs. search needs)
+    returns-2)

@@ -14,18 +14,6 @@ use Rattle.records.proofs.Edition.batch_start.Reads as batch-start-reads
 use Rattle.serving.proofs.submit_and_run.Reads as serve-reads
 use Rattle.text.proofs.line.copy.Reads as copy-reads
 
-score-in-requires : tie.Need-score-in-requires
-score-in-requires c κs = search needs
-
-slice-aggregate-copy : tie.Need-slice-aggregate-copy
-slice-aggregate-copy c = search needs
-
-copy-requires : tie.Need-copy-requires
-copy-requires c κs = search needs
-
-same-length : tie.Need-same-length
-same-length c = search needs
-
 returns : tie.Need-returns
 unfolding badScoreLine
 returns c =
@@ -35,9 +23,6 @@ returns c =
     let score = c₅ .before .score-in in
     record-bad (a .edition) (a .engine) (a .ring .now) (a .memory .now) (a .held .now) (a .line .now) (a .end) (s .pre .0) (score .result) _ _ (score .ensures) (not-true (score .result) (c₅ .if1 .taken)) (prints-typed badScoreLine (a .line .now) _ _ (omega arith) (s .pre .1) (c .before .before .copy .ensures))
 
-batch-start-requires : tie.Need-batch-start-requires
-batch-start-requires c κs = search needs
-
 shared-slice-read-submit-and-run : tie.Need-shared-slice-read-submit-and-run
 shared-slice-read-submit-and-run c =
     let s = c .before .before .before .before .before .before .before .before .before .before in
@@ -45,27 +30,6 @@ shared-slice-read-submit-and-run c =
 
 cast-submit-and-run : tie.Need-cast-submit-and-run
 cast-submit-and-run c = omega (arith, c .shared-slice-known2 .given 4)
-
-sub-submit-and-run : tie.Need-sub-submit-and-run
-sub-submit-and-run c = search needs
-
-part-submit-and-run-start : tie.Need-part-submit-and-run-start
-part-submit-and-run-start c = search needs
-
-part-submit-and-run-end : tie.Need-part-submit-and-run-end
-part-submit-and-run-end c = search needs
-
-submit-and-run-requires : tie.Need-submit-and-run-requires
-submit-and-run-requires c κs = search needs
-
-same-length-2 : tie.Need-same-length-2
-same-length-2 c = search needs
-
-same-length-3 : tie.Need-same-length-3
-same-length-3 c = search needs
-
-same-length-4 : tie.Need-same-length-4
-same-length-4 c = search needs
 
 returns-2 : tie.Need-returns-2
 returns-2 c =
@@ -81,19 +45,19 @@ pub serve-record-spec : {M : Type 1} → statement M
 serve-record-spec =
     tie.close
     (tie.spec
-    score-in-requires
-    slice-aggregate-copy
-    copy-requires
-    same-length
+    (λ c κs. search needs)
+    (λ c. search needs)
+    (λ c κs. search needs)
+    (λ c. search needs)
     returns
-    batch-start-requires
+    (λ c κs. search needs)
     shared-slice-read-submit-and-run
     cast-submit-and-run
-    sub-submit-and-run
-    part-submit-and-run-start
-    part-submit-and-run-end
-    submit-and-run-requires
-    same-length-2
-    same-length-3
-    same-length-4
+    (λ c. search needs)
+    (λ c. search needs)
+    (λ c. search needs)
+    (λ c κs. search needs)
+    (λ c. search needs)
+    (λ c. search needs)
+    (λ c. search needs)
     returns-2)

@@ -5,21 +5,6 @@ use borrow.Author.Needs.{needs}
 use Rattle.serving.proofs.submit_and_run.Statement.{statement}
 use Rattle.serving.proofs.submit_and_run.Tie as tie
 
-submit-requires : tie.Need-submit-requires
-submit-requires c κs = search needs
-
-number-of-requires : tie.Need-number-of-requires
-number-of-requires c κs = search needs
-
-refusal-line-requires : tie.Need-refusal-line-requires
-refusal-line-requires c κs = search needs
-
-same-length : tie.Need-same-length
-same-length c = search needs
-
-same-length-2 : tie.Need-same-length-2
-same-length-2 c = search needs
-
 returns : tie.Need-returns
 returns c =
     let c₅ = c .before .before .before .before .before in
@@ -27,21 +12,9 @@ returns c =
     let sub = c₅ .before .before .before .before .submit .ensures in
     serves-refused (a .engine) (a .ring .now) (a .memory .now) _ (a .line .now) _ _ _ _ _ (sub .0) (sub .1) _ (c₅ .number-of .ensures) (c .before .before .before .before .if1 .taken) refl refl (c .before .before .refusal-line .ensures)
 
-run-by-requires : tie.Need-run-by-requires
-run-by-requires c κs = search needs
-
 outcome-line-requires : tie.Need-outcome-line-requires
 outcome-line-requires c κs =
     (search needs, λ m e. run-refused _ _ _ m (ap (λ (r : RunResult). r .outcome) (sym (c .before .before .before .before .run-by .ensures .0)) ∙ e))
-
-same-length-3 : tie.Need-same-length-3
-same-length-3 c = search needs
-
-same-length-4 : tie.Need-same-length-4
-same-length-4 c = search needs
-
-same-length-5 : tie.Need-same-length-5
-same-length-5 c = search needs
 
 returns-2 : tie.Need-returns-2
 returns-2 c =
@@ -56,15 +29,15 @@ pub submit-and-run-spec : {M : Type 1} → statement M
 submit-and-run-spec =
     tie.close
     (tie.spec
-    submit-requires
-    number-of-requires
-    refusal-line-requires
-    same-length
-    same-length-2
+    (λ c κs. search needs)
+    (λ c κs. search needs)
+    (λ c κs. search needs)
+    (λ c. search needs)
+    (λ c. search needs)
     returns
-    run-by-requires
+    (λ c κs. search needs)
     outcome-line-requires
-    same-length-3
-    same-length-4
-    same-length-5
+    (λ c. search needs)
+    (λ c. search needs)
+    (λ c. search needs)
     returns-2)

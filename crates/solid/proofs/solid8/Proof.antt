@@ -21,31 +21,10 @@ abbrev μ-loop : tie.MeasureT-loop
 loop-holds : tie.Need-loop-holds Inv-loop μ-loop
 loop-holds c = (search needs, (search needs, below-none _))
 
-half-requires : tie.Need-half-requires Inv-loop μ-loop
-half-requires c κs = search needs
-
-mul-over-two : tie.Need-mul-over-two Inv-loop μ-loop
-mul-over-two c = search needs
-
-element-copy-out-over-two : tie.Need-element-copy-out-over-two Inv-loop μ-loop
-element-copy-out-over-two c = search needs
-
 over-two-requires : tie.Need-over-two-requires Inv-loop μ-loop
 over-two-requires c κs =
     let a = c .before .before .before .before in
     omega (arith, rest-is (a .args .s) (a .pre))
-
-mul-r : tie.Need-mul-r Inv-loop μ-loop
-mul-r c = search needs
-
-array-write-r : tie.Need-array-write-r Inv-loop μ-loop
-array-write-r c = search needs
-
-add-i : tie.Need-add-i Inv-loop μ-loop
-add-i c = search needs
-
-loop-less : tie.Need-loop-less Inv-loop μ-loop
-loop-less c = search needs
 
 loop-again : tie.Need-loop-again Inv-loop μ-loop
 loop-again c =
@@ -64,13 +43,13 @@ solid8-spec =
     Inv-loop
     μ-loop
     loop-holds
-    half-requires
-    mul-over-two
-    element-copy-out-over-two
+    (λ c κs. search needs)
+    (λ c. search needs)
+    (λ c. search needs)
     over-two-requires
-    mul-r
-    array-write-r
-    add-i
-    loop-less
+    (λ c. search needs)
+    (λ c. search needs)
+    (λ c. search needs)
+    (λ c. search needs)
     loop-again
     returns)

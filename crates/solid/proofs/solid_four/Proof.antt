@@ -7,18 +7,6 @@ use borrow.Author.Needs.{needs}
 use Rattle.solid.proofs.solid_four.Statement.{statement}
 use Rattle.solid.proofs.solid_four.Tie as tie
 
-load8-requires : tie.Need-load8-requires
-load8-requires c κs = search needs
-
-solid8-requires : tie.Need-solid8-requires
-solid8-requires c κs = search needs
-
-store8-requires : tie.Need-store8-requires
-store8-requires c κs = search needs
-
-same-length : tie.Need-same-length
-same-length c = search needs
-
 returns : tie.Need-returns
 returns c =
     let p = c .before .before in
@@ -36,4 +24,9 @@ returns c =
 
 pub solid-four-spec : {M : Type 1} → statement M
 solid-four-spec =
-    tie.close (tie.spec load8-requires solid8-requires store8-requires same-length returns)
+    tie.close (tie.spec
+    (λ c κs. search needs)
+    (λ c κs. search needs)
+    (λ c κs. search needs)
+    (λ c. search needs)
+    returns)

@@ -19,22 +19,10 @@ abbrev μ-loop : tie.MeasureT-loop
 loop-holds : tie.Need-loop-holds Inv-loop μ-loop
 loop-holds c = (search needs, none-done _ _ _)
 
-solid-four-requires : tie.Need-solid-four-requires Inv-loop μ-loop
-solid-four-requires c κs = search needs
-
-step-requires : tie.Need-step-requires Inv-loop μ-loop
-step-requires c κs = search needs
-
-loop-less : tie.Need-loop-less Inv-loop μ-loop
-loop-less c = search needs
-
 loop-again : tie.Need-loop-again Inv-loop μ-loop
 loop-again c =
     let b = c .before .before .before .before .before .before in
     (search needs, to-end _ _ _ _ (b .loop .o + 16) _ (sym (c .step .ensures)) (over-more (b .before .before .args .s .colour) _ (b .loop .d) _ _ (b .loop .o) _ (omega arith) (omega arith) (b .loop .inv .1) (c .before .before .before .solid-four .ensures)))
-
-same-length : tie.Need-same-length Inv-loop μ-loop
-same-length c = search needs
 
 returns : tie.Need-returns Inv-loop μ-loop
 returns c = to-end _ _ _ _ (c .before .loop .o) _ (omega arith) (c .before .loop .inv .1)
@@ -46,9 +34,9 @@ solid-fours-spec =
     Inv-loop
     μ-loop
     loop-holds
-    solid-four-requires
-    step-requires
-    loop-less
+    (λ c κs. search needs)
+    (λ c κs. search needs)
+    (λ c. search needs)
     loop-again
-    same-length
+    (λ c. search needs)
     returns)

@@ -6,21 +6,6 @@ use borrow.Author.Needs.{needs}
 use Rattle.solid.proofs.solid_row.Statement.{statement}
 use Rattle.solid.proofs.solid_row.Tie as tie
 
-mul-e : tie.Need-mul-e
-mul-e c = search needs
-
-mul-n : tie.Need-mul-n
-mul-n c = search needs
-
-solid-fours-requires : tie.Need-solid-fours-requires
-solid-fours-requires c κs = search needs
-
-solid-words-requires : tie.Need-solid-words-requires
-solid-words-requires c κs = search needs
-
-same-length : tie.Need-same-length
-same-length c = search needs
-
 returns : tie.Need-returns
 returns c =
     let v = c .before .before in
@@ -33,4 +18,10 @@ returns c =
 
 pub solid-row-spec : {M : Type 1} → statement M
 solid-row-spec =
-    tie.close (tie.spec mul-e mul-n solid-fours-requires solid-words-requires same-length returns)
+    tie.close (tie.spec
+    (λ c. search needs)
+    (λ c. search needs)
+    (λ c κs. search needs)
+    (λ c κs. search needs)
+    (λ c. search needs)
+    returns)

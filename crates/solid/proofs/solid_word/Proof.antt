@@ -8,22 +8,10 @@ use borrow.Author.Needs.{needs}
 use Rattle.solid.proofs.solid_word.Statement.{statement}
 use Rattle.solid.proofs.solid_word.Tie as tie
 
-half-requires : tie.Need-half-requires
-half-requires c κs = search needs
-
-get2-requires : tie.Need-get2-requires
-get2-requires c κs = search needs
-
 over-two-requires : tie.Need-over-two-requires
 over-two-requires c κs =
     let a = c .before .before .before .before .before in
     omega (arith, rest-is (a .args .s) (a .pre .1))
-
-put2-requires : tie.Need-put2-requires
-put2-requires c κs = search needs
-
-same-length : tie.Need-same-length
-same-length c = search needs
 
 returns : tie.Need-returns
 unfolding wordOver
@@ -45,4 +33,10 @@ returns c =
 pub solid-word-spec : {M : Type 1} → statement M
 solid-word-spec =
     tie.close
-    (tie.spec half-requires get2-requires over-two-requires put2-requires same-length returns)
+    (tie.spec
+    (λ c κs. search needs)
+    (λ c κs. search needs)
+    over-two-requires
+    (λ c κs. search needs)
+    (λ c. search needs)
+    returns)

@@ -13,12 +13,6 @@ use borrow.Author.Needs.{needs}
 use Rattle.solid_rows.proofs.covered_row.Statement.{statement}
 use Rattle.solid_rows.proofs.covered_row.Tie as tie
 
-row-start-requires : tie.Need-row-start-requires
-row-start-requires c κs = search needs
-
-sub-at : tie.Need-sub-at
-sub-at c = search needs
-
 sub-solid-at : tie.Need-sub-solid-at
 sub-solid-at c = ordered (c .before .before .before .pre .0)
 
@@ -26,9 +20,6 @@ part-solid-at-start : tie.Need-part-solid-at-start
 part-solid-at-start c =
     let r = c .before .before .before .pre .0 in
     omega (arith, ordered r, room r)
-
-part-solid-at-end : tie.Need-part-solid-at-end
-part-solid-at-end c = search needs
 
 solid-at-requires : tie.Need-solid-at-requires
 solid-at-requires c κs =
@@ -38,9 +29,6 @@ solid-at-requires c κs =
       record { inside = omega (arith, row-fits r _ (t .row-start .ensures), length-window r); format = of-kind (s .args .window) (s .args .task) Covered (s .pre .1) .placed .to },
       s .pre .3,
     )
-
-same-length : tie.Need-same-length
-same-length c = search needs
 
 returns : tie.Need-returns
 unfolding solidOf
@@ -59,11 +47,11 @@ pub covered-row-spec : {M : Type 1} → statement M
 covered-row-spec =
     tie.close
     (tie.spec
-    row-start-requires
-    sub-at
+    (λ c κs. search needs)
+    (λ c. search needs)
     sub-solid-at
     part-solid-at-start
-    part-solid-at-end
+    (λ c. search needs)
     solid-at-requires
-    same-length
+    (λ c. search needs)
     returns)

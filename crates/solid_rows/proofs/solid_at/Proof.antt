@@ -10,24 +10,6 @@ use borrow.Author.Needs.{needs}
 use Rattle.solid_rows.proofs.solid_at.Statement.{statement}
 use Rattle.solid_rows.proofs.solid_at.Tie as tie
 
-row-length-requires : tie.Need-row-length-requires
-row-length-requires c κs = search needs
-
-add-end : tie.Need-add-end
-add-end c = search needs
-
-sub-solid-row : tie.Need-sub-solid-row
-sub-solid-row c = search needs
-
-part-solid-row-start : tie.Need-part-solid-row-start
-part-solid-row-start c = search needs
-
-part-solid-row-end : tie.Need-part-solid-row-end
-part-solid-row-end c = search needs
-
-cast-solid-row : tie.Need-cast-solid-row
-cast-solid-row c = search needs
-
 solid-row-requires : tie.Need-solid-row-requires
 solid-row-requires c κs =
     let r = c .before .before in
@@ -36,9 +18,6 @@ solid-row-requires c κs =
     let k : ℕ = a .at + r .row-length .result - a .at in
     let long = length-mid (a .at) k (now (a .window)) (omega (arith, s .pre .0 .inside, r .row-length .ensures)) in
     (omega (arith, long, r .row-length .ensures, argb-length (a .output) (s .pre .0 .format)), s .pre .1)
-
-same-length : tie.Need-same-length
-same-length c = search needs
 
 returns : tie.Need-returns
 returns c =
@@ -53,12 +32,12 @@ pub solid-at-spec : {M : Type 1} → statement M
 solid-at-spec =
     tie.close
     (tie.spec
-    row-length-requires
-    add-end
-    sub-solid-row
-    part-solid-row-start
-    part-solid-row-end
-    cast-solid-row
+    (λ c κs. search needs)
+    (λ c. search needs)
+    (λ c. search needs)
+    (λ c. search needs)
+    (λ c. search needs)
+    (λ c. search needs)
     solid-row-requires
-    same-length
+    (λ c. search needs)
     returns)

@@ -9,23 +9,11 @@ enum-told c = search needs
 load-word-requires : tie.Need-load-word-requires
 load-word-requires c κs = rw (c .enum-told .given .1) at (c .before .before .before .pre)
 
-enum-told-2 : tie.Need-enum-told-2
-enum-told-2 c = search needs
-
 load-requires : tie.Need-load-requires
 load-requires c κs = rw (c .enum-told2 .given .1) at (c .before .before .before .pre)
 
-word-of-requires : tie.Need-word-of-requires
-word-of-requires c κs = search needs
-
-enum-told-3 : tie.Need-enum-told-3
-enum-told-3 c = search needs
-
 load-requires-2 : tie.Need-load-requires-2
 load-requires-2 c κs = rw (c .enum-told3 .given .1) at (c .before .before .before .pre)
-
-word-of-requires-2 : tie.Need-word-of-requires-2
-word-of-requires-2 c κs = search needs
 
 returns : tie.Need-returns
 returns c = rw (c .before .enum-told .given .1) (c .load-word .ensures)
@@ -42,12 +30,12 @@ load-as-word-spec =
     (tie.spec
     enum-told
     load-word-requires
-    enum-told-2
+    (λ c. search needs)
     load-requires
-    word-of-requires
-    enum-told-3
+    (λ c κs. search needs)
+    (λ c. search needs)
     load-requires-2
-    word-of-requires-2
+    (λ c κs. search needs)
     returns
     returns-2
     returns-3)

@@ -4,21 +4,12 @@ use borrow.Author.Needs.{needs}
 use Rattle.submission.proofs.begin.Statement.{statement}
 use Rattle.submission.proofs.begin.Tie as tie
 
-check-requires : tie.Need-check-requires
-check-requires c κs = search needs
-
 submit-refusal-requires : tie.Need-submit-refusal-requires
 submit-refusal-requires c κs = (c .check .ensures .0, c .check .ensures .1)
 
 returns : tie.Need-returns
 returns c = let e = c .before .before .before .before .args in
     begin-refused (e .engine) (length (e .ring .now)) (e .client) (e .total) (c .before .submit-refusal .result) (c .before .submit-refusal .ensures) (c .if1 .taken)
-
-lowest-free-requires : tie.Need-lowest-free-requires
-lowest-free-requires c κs = search needs
-
-with-staged-requires : tie.Need-with-staged-requires
-with-staged-requires c κs = search needs
 
 returns-2 : tie.Need-returns-2
 returns-2 c =
@@ -30,9 +21,9 @@ pub begin-spec : {M : Type 1} → statement M
 begin-spec =
     tie.close
     (tie.spec
-    check-requires
+    (λ c κs. search needs)
     submit-refusal-requires
     returns
-    lowest-free-requires
-    with-staged-requires
+    (λ c κs. search needs)
+    (λ c κs. search needs)
     returns-2)

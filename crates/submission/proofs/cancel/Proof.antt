@@ -3,17 +3,8 @@ use borrow.Author.Needs.{needs}
 use Rattle.submission.proofs.cancel.Statement.{statement}
 use Rattle.submission.proofs.cancel.Tie as tie
 
-cancel-refusal-requires : tie.Need-cancel-refusal-requires
-cancel-refusal-requires c κs = search needs
-
 returns : tie.Need-returns
 returns c = cancel-refused (c .before .before .args .engine) (c .before .before .args .client) (c .before .cancel-refusal .result) (c .before .cancel-refusal .ensures) (c .if1 .taken)
-
-no-staged-requires : tie.Need-no-staged-requires
-no-staged-requires c κs = search needs
-
-with-staged-requires : tie.Need-with-staged-requires
-with-staged-requires c κs = search needs
 
 returns-2 : tie.Need-returns-2
 returns-2 c = let e = c .before .before .before .before .args in
@@ -23,8 +14,8 @@ pub cancel-spec : {M : Type 1} → statement M
 cancel-spec =
     tie.close
     (tie.spec
-    cancel-refusal-requires
+    (λ c κs. search needs)
     returns
-    no-staged-requires
-    with-staged-requires
+    (λ c κs. search needs)
+    (λ c κs. search needs)
     returns-2)

@@ -2,9 +2,6 @@ use borrow.Author.Needs.{needs}
 use Rattle.submission.proofs.continued.Statement.{statement}
 use Rattle.submission.proofs.continued.Tie as tie
 
-with-staged-requires : tie.Need-with-staged-requires
-with-staged-requires c κs = search needs
-
 returns : tie.Need-returns
 returns c = c .with-staged .ensures
 
@@ -12,5 +9,5 @@ pub continued-spec : {M : Type 1} → statement M
 continued-spec =
     tie.close
     (tie.spec
-    with-staged-requires
+    (λ c κs. search needs)
     returns)

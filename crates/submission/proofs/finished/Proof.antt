@@ -2,9 +2,6 @@ use borrow.Author.Needs.{needs}
 use Rattle.submission.proofs.finished.Statement.{statement}
 use Rattle.submission.proofs.finished.Tie as tie
 
-with-batch-requires : tie.Need-with-batch-requires
-with-batch-requires c κs = search needs
-
 returns : tie.Need-returns
 returns c = rw (c .before .before .pre .0) at (c .with-batch .ensures)
 
@@ -12,5 +9,5 @@ pub finished-spec : {M : Type 1} → statement M
 finished-spec =
     tie.close
     (tie.spec
-    with-batch-requires
+    (λ c κs. search needs)
     returns)

@@ -2,8 +2,8 @@ use mathlib.Core.Path.{refl, sym, _∙_}
 use Prim.Native.Nat.{_≤_}
 use lib.ListN.{length}
 use native.Mathlib.Omega.{arith}
-use Rattle.record.specs.Queue.{readySlots}
-use Rattle.record.proofs.Checking.{checked-bytes}
+use Rattle.engine_record.specs.Queue.{readySlots}
+use Rattle.engine_record.proofs.Checking.{checked-bytes}
 use Rattle.queue.specs.declared.Answer.the-variants.{Accepted}
 use Rattle.queue.proofs.Calls.{piece-refused, piece-done, last-answer, last-record, more-answer, more-record}
 use Rattle.queue.proofs.Refusals.{PieceAllowed, piece-allowed}
@@ -12,13 +12,11 @@ use borrow.Author.Needs.{needs}
 use Rattle.submission.proofs.piece.Statement.{statement}
 use Rattle.submission.proofs.piece.Tie as tie
 
-allowed : (c : tie.Else1) → PieceAllowed (c .before .before .before .before .before .args .engine) (length (c .before .before .before .before .before .args .ring .now)) (c .before .before .before .before .before .args .client) (length (c .before .before .before .before .before .args .piece .now))
+allowed : (c : tie.Else1) → let c₅ = c .before .before .before .before .before in
+    PieceAllowed (c₅ .args .engine) (length (c₅ .args .ring .now)) (c₅ .args .client) (length (c₅ .args .piece .now))
 allowed c =
     let c₅ = c .before .before .before .before .before in
     piece-allowed (c₅ .args .engine) (length (c₅ .args .ring .now)) (c₅ .args .client) (length (c₅ .args .piece .now)) (sym (c .before .piece-refusal .ensures) ∙ c .if1 .left)
-
-check-requires : tie.Need-check-requires
-check-requires c κs = search needs
 
 piece-refusal-requires : tie.Need-piece-refusal-requires
 piece-refusal-requires c κs = c .check .ensures .0
@@ -28,7 +26,8 @@ returns c =
     let c₅ = c .before .before .before .before .before in
     piece-refused (c₅ .args .engine) (c₅ .args .ring .now) (c₅ .args .client) (c₅ .args .piece .now) (c .before .piece-refusal .result) (c .before .piece-refusal .ensures) (c .if1 .taken)
 
-few : (c : tie.Else1) → readySlots (c .before .before .before .before .before .args .engine) ≤ 8
+few : (c : tie.Else1) → let c₅ = c .before .before .before .before .before in
+    readySlots (c₅ .args .engine) ≤ 8
 few c = c .before .before .check .ensures .1
 
 write-offset-requires : tie.Need-write-offset-requires
@@ -42,9 +41,6 @@ add-wrap-offset : tie.Need-add-wrap-offset
 add-wrap-offset c = let w = c .before .write-offset .ensures in
     let e = c .before .before .before .before .before .before .before .before .before .args in
     omega (arith, w, piece-offset-small (e .engine) (length (e .ring .now)) (e .client) (length (e .piece .now)) (few (c .before .before .before .before)) (allowed (c .before .before .before .before)))
-
-wrap-offset-requires : tie.Need-wrap-offset-requires
-wrap-offset-requires c κs = search needs
 
 copy-in-requires : tie.Need-copy-in-requires
 copy-in-requires c κs =
@@ -67,9 +63,6 @@ finished-requires c κs =
     let u = a .own .unfinished in
     (c₈ .write-offset .ensures, client-small e (a .own .ok) (e .staged .client) (u .owner), omega (arith, pending-small e (a .own .ok) (e .staged .client) (u .owner), few c₁₁), u .slot)
 
-same-length : tie.Need-same-length
-same-length c = search needs
-
 returns-2 : tie.Need-returns-2
 returns-2 c =
     let c₅ = c .before .before .before .before .before in
@@ -80,7 +73,7 @@ returns-2 c =
     let c₁₇ = c₁₃ .before .before .before .before in
     let e = c₁₇ .args in
     let size = length (e .piece .now) in
-    piece-done (e .engine) (e .ring .now) (e .client) (e .piece .now) (c₁₃ .piece-refusal .result) (c₁₃ .piece-refusal .ensures) (c₁₂ .if1 .left) (Accepted (e .engine .next)) (c .finished .result) _
+    piece-done (e .engine) (e .ring .now) (e .client) (e .piece .now) (c₁₃ .piece-refusal .result) (c₁₃ .piece-refusal .ensures) (c₁₂ .if1 .left) (Accepted (e .engine .«next_ticket»)) (c .finished .result) _
     (last-answer (e .engine) size (c .before .if2 .taken))
     (c .finished .ensures ∙ last-record (e .engine) size (c .before .if2 .taken))
     (rw (c₇ .wrap-offset .ensures, c₉ .write-offset .ensures) at (c₅ .copy-in .ensures))
@@ -95,12 +88,6 @@ cast-missing c =
     let c₁₁ = c .before .before .before .before .before .before .before .before .before .before .before in
     let c₁₆ = c₁₁ .before .before .before .before .before in
     omega (arith, piece-small (c₁₆ .args .engine) (length (c₁₆ .args .ring .now)) (c₁₆ .args .client) (length (c₁₆ .args .piece .now)) (allowed c₁₁) .1)
-
-continued-requires : tie.Need-continued-requires
-continued-requires c κs = search needs
-
-same-length-2 : tie.Need-same-length-2
-same-length-2 c = search needs
 
 returns-3 : tie.Need-returns-3
 returns-3 c =
@@ -121,19 +108,19 @@ pub piece-spec : {M : Type 1} → statement M
 piece-spec =
     tie.close
     (tie.spec
-    check-requires
+    (λ c κs. search needs)
     piece-refusal-requires
     returns
     write-offset-requires
     add-wrap-offset
-    wrap-offset-requires
+    (λ c κs. search needs)
     copy-in-requires
     add-received
     finished-requires
-    same-length
+    (λ c. search needs)
     returns-2
     sub-left
     cast-missing
-    continued-requires
-    same-length-2
+    (λ c κs. search needs)
+    (λ c. search needs)
     returns-3)

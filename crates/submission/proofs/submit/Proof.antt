@@ -2,8 +2,8 @@ use mathlib.Core.Path.{sym, _∙_}
 use Prim.Native.Nat.{_<_}
 use lib.ListN.{length}
 use native.Mathlib.Omega.{arith}
-use Rattle.record.proofs.Added.{lowest-below}
-use Rattle.record.proofs.Checking.{checked-bytes}
+use Rattle.engine_record.proofs.Added.{lowest-below}
+use Rattle.engine_record.proofs.Checking.{checked-bytes}
 use Rattle.queue.proofs.Calls.{submit-refused, submit-done}
 use Rattle.queue.proofs.Refusals.{SubmitAllowed, submit-allowed}
 use Rattle.queue.proofs.Room.{client-small, pending-small, submit-lies}
@@ -11,13 +11,11 @@ use borrow.Author.Needs.{needs}
 use Rattle.submission.proofs.submit.Statement.{statement}
 use Rattle.submission.proofs.submit.Tie as tie
 
-allowed : (c : tie.Else1) → SubmitAllowed (c .before .before .before .before .before .args .engine) (length (c .before .before .before .before .before .args .ring .now)) (c .before .before .before .before .before .args .client) (length (c .before .before .before .before .before .args .batch .now))
+allowed : (c : tie.Else1) → let c₅ = c .before .before .before .before .before in
+    SubmitAllowed (c₅ .args .engine) (length (c₅ .args .ring .now)) (c₅ .args .client) (length (c₅ .args .batch .now))
 allowed c =
     let c₅ = c .before .before .before .before .before in
     submit-allowed (c₅ .args .engine) (length (c₅ .args .ring .now)) (c₅ .args .client) (length (c₅ .args .batch .now)) (sym (c .before .submit-refusal .ensures) ∙ c .if1 .left)
-
-check-requires : tie.Need-check-requires
-check-requires c κs = search needs
 
 submit-refusal-requires : tie.Need-submit-refusal-requires
 submit-refusal-requires c κs = (c .check .ensures .0, c .check .ensures .1)
@@ -38,15 +36,13 @@ copy-in-requires c κs =
     let c₇ = c .before .before .before .before .before .before .before in
     rw (c .before .write-offset .ensures) (submit-lies (c₇ .args .engine) (c₇ .args .ring .now) (c₇ .args .client) (length (c₇ .args .batch .now)) (allowed (c .before .before)))
 
-lowest-free-requires : tie.Need-lowest-free-requires
-lowest-free-requires c κs = search needs
-
 -- the slot is one of the eight
 below : (c : tie.After-lowest-free) → c .lowest-free .result < 8
 below c =
     let e = c .before .before .before .before .before .before .before in
     let f = e .before .before .check .ensures in
-    let l = lowest-below (e .before .before .before .before .before .args .engine .slots) (omega (arith, f .2, allowed e .slot)) in
+    let s = e .before .before .before .before .before in
+    let l = lowest-below (s .args .engine .slots) (omega (arith, f .2, allowed e .slot)) in
     omega (arith, c .lowest-free .ensures, f .2)
 
 with-batch-requires : tie.Need-with-batch-requires
@@ -57,9 +53,6 @@ with-batch-requires c κs =
     let e = c₁₂ .args .engine in
     let d = c₁₂ .args .client in
     (client-small e (a .ok) d (a .owner), omega (arith, pending-small e (a .ok) d (a .owner), a .slot), below c)
-
-same-length : tie.Need-same-length
-same-length c = search needs
 
 returns-2 : tie.Need-returns-2
 returns-2 c =
@@ -76,12 +69,12 @@ pub submit-spec : {M : Type 1} → statement M
 submit-spec =
     tie.close
     (tie.spec
-    check-requires
+    (λ c κs. search needs)
     submit-refusal-requires
     returns
     write-offset-requires
     copy-in-requires
-    lowest-free-requires
+    (λ c κs. search needs)
     with-batch-requires
-    same-length
+    (λ c. search needs)
     returns-2)

@@ -6,11 +6,10 @@ use Rattle.tally.proofs.start.Reads as reads
 use Rattle.tally.proofs.start.Lts as lts
 use Rattle.tally.proofs.start_with.Reads as start-with-reads
 
-start-with-requires : tie.Need-start-with-requires
-start-with-requires c κs = search needs
-
 returns : tie.Need-returns
 returns c = c .start-with .ensures refl
 
 pub start-spec : {M : Type 1} → statement M
-start-spec = tie.close (tie.spec start-with-requires returns)
+start-spec = tie.close (tie.spec
+    (λ c κs. search needs)
+    returns)

@@ -19,13 +19,12 @@ use Rattle.records.proofs.start.Reads as start-reads
 small : (xs ys : List ℕ) (k : ℕ) → ys ≡ xs → Fits w64 (getD xs k 0) → getD ys k 0 ≤ largest
 small xs ys k is h = rw is (omega arith)
 
-start-requires : tie.Need-start-requires
-start-requires c κs = search needs
-
 returns : tie.Need-returns
 returns c = λ is.
     let s = c .before in
     (rw (c .start .ensures, is), λ held room. starts-by _ _ held (rw is (s .good .1 .0 .1 .0 .1)) (λ count. small (s .args .counts) _ (position count) is (elem-fits w64 w64 (s .args .counts) (s .good .1 .0 .0) (position count) (s .good .1 .0 .1 .1) tt)) (rw (c .start .ensures, is)) room)
 
 pub start-with-spec : {M : Type 1} → statement M
-start-with-spec = tie.close (tie.spec start-requires returns)
+start-with-spec = tie.close (tie.spec
+    (λ c κs. search needs)
+    returns)

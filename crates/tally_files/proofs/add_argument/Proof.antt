@@ -8,18 +8,12 @@ use Rattle.tally_io.proofs.add_argument.Reads as add-argument-reads
 use Rattle.totals_io.proofs.add_argument.Reads as add-argument-reads′
 
 -- src/lib.rt:20:9
-add-argument-requires : tie.Need-add-argument-requires
-add-argument-requires c κs = search needs
-
 -- src/lib.rt:20:9
 returns : tie.Need-returns
 unfolding AddsOf
 returns c = rw (c .before .if1 .taken) (c .add-argument .ensures)
 
 -- src/lib.rt:22:5
-add-argument-requires-2 : tie.Need-add-argument-requires-2
-add-argument-requires-2 c κs = search needs
-
 -- src/lib.rt:16:1
 returns-2 : tie.Need-returns-2
 unfolding AddsOf
@@ -27,4 +21,8 @@ returns-2 c = rw (c .before .if1 .left) (c .add-argument2 .ensures)
 
 pub add-argument-spec : {M : Type 1} → statement M
 add-argument-spec =
-    tie.close (tie.spec add-argument-requires returns add-argument-requires-2 returns-2)
+    tie.close (tie.spec
+    (λ c κs. search needs)
+    returns
+    (λ c κs. search needs)
+    returns-2)

@@ -31,25 +31,10 @@ add-next-requires c κs =
     omega (arith, l .inv .3 .all (l .inv .2 ∙ eqb-true (l .refusal) 0 (c .if1 .taken)))
 
 -- src/lib.rt:63:9
-add-index : tie.Need-add-index Inv-loop μ-loop
-add-index c = search needs
-
 -- src/lib.rt:66:48
-sub-show-progress : tie.Need-sub-show-progress Inv-loop μ-loop
-sub-show-progress c = search needs
-
 -- src/lib.rt:66:63
-sub-show-progress-2 : tie.Need-sub-show-progress-2 Inv-loop μ-loop
-sub-show-progress-2 c = search needs
-
 -- src/lib.rt:66:13
-show-progress-requires : tie.Need-show-progress-requires Inv-loop μ-loop
-show-progress-requires c κs = search needs
-
 -- src/lib.rt:59:5
-loop-less : tie.Need-loop-less Inv-loop μ-loop
-loop-less c = search needs
-
 -- src/lib.rt:59:5
 loop-again : tie.Need-loop-again Inv-loop μ-loop
 loop-again c =
@@ -58,9 +43,6 @@ loop-again c =
     (search needs, search needs, search needs, files-turn _ _ _ (l .index) (l .sum) _ (l .inv .0) (l .inv .2 ∙ eqb-true (l .refusal) 0 (s .before .if1 .taken)) (s .add-next .ensures) (l .inv .3))
 
 -- src/lib.rt:59:5
-loop-less-2 : tie.Need-loop-less-2 Inv-loop μ-loop
-loop-less-2 c = search needs
-
 -- src/lib.rt:59:5
 loop-again-2 : tie.Need-loop-again-2 Inv-loop μ-loop
 loop-again-2 c =
@@ -88,13 +70,13 @@ add-arguments-spec =
     μ-loop
     loop-holds
     add-next-requires
-    add-index
-    sub-show-progress
-    sub-show-progress-2
-    show-progress-requires
-    loop-less
+    (λ c. search needs)
+    (λ c. search needs)
+    (λ c. search needs)
+    (λ c κs. search needs)
+    (λ c. search needs)
     loop-again
-    loop-less-2
+    (λ c. search needs)
     loop-again-2
     returns
     returns-2)

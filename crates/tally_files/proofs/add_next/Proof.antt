@@ -7,20 +7,18 @@ use Rattle.tally_files.proofs.add_next.Lts as lts
 use Rattle.tally_files.proofs.add_argument.Reads as add-argument-reads
 
 -- src/lib.rt:32:9
-add-argument-requires : tie.Need-add-argument-requires
-add-argument-requires c κs = search needs
-
 -- src/lib.rt:35:9
 returns : tie.Need-returns
 returns c = λ totals number zero F. next-read _ totals number _ _ zero F (c .before .before .add-argument .ensures) (c .if1 .taken)
 
 -- src/lib.rt:42:17
-add-t9 : tie.Need-add-t9
-add-t9 c = search needs
-
 -- src/lib.rt:26:1
 returns-2 : tie.Need-returns-2
 returns-2 c = λ totals number zero F. next-unread _ totals number _ _ zero F (c .before .before .before .add-argument .ensures) (c .before .if1 .left)
 
 pub add-next-spec : {M : Type 1} → statement M
-add-next-spec = tie.close (tie.spec add-argument-requires returns add-t9 returns-2)
+add-next-spec = tie.close (tie.spec
+    (λ c κs. search needs)
+    returns
+    (λ c. search needs)
+    returns-2)

@@ -11,29 +11,14 @@ use Rattle.totals.proofs.unread.Reads as unread-reads
 use Rattle.tally_io.proofs.read_all.Reads as read-all-reads
 
 -- src/lib.rt:86:9
-start-requires : tie.Need-start-requires
-start-requires c κs = search needs
-
 -- src/lib.rt:87:42
-slice-aggregate-read-all : tie.Need-slice-aggregate-read-all
-slice-aggregate-read-all c = search needs
-
 -- src/lib.rt:87:9
-read-all-requires : tie.Need-read-all-requires
-read-all-requires c κs = search needs
-
 -- src/lib.rt:89:9
-unread-requires : tie.Need-unread-requires
-unread-requires c κs = search needs
-
 -- src/lib.rt:89:9
 returns : tie.Need-returns
 returns c = file-none _ _ _ (c .unread .ensures)
 
 -- src/lib.rt:93:17
-finish-requires : tie.Need-finish-requires
-finish-requires c κs = search needs
-
 -- src/lib.rt:81:1
 returns-2 : tie.Need-returns-2
 returns-2 c =
@@ -47,10 +32,10 @@ pub add-from-spec : {M : Type 1} → statement M
 add-from-spec =
     tie.close
     (tie.spec
-    start-requires
-    slice-aggregate-read-all
-    read-all-requires
-    unread-requires
+    (λ c κs. search needs)
+    (λ c. search needs)
+    (λ c κs. search needs)
+    (λ c κs. search needs)
     returns
-    finish-requires
+    (λ c κs. search needs)
     returns-2)

@@ -26,37 +26,13 @@ loop-holds : tie.Need-loop-holds Inv-loop μ-loop
 loop-holds c = (search needs, refl, search needs, λ own O e. going-none _ _ own e)
 
 -- src/lib.rt:95:26
-label-size-requires : tie.Need-label-size-requires Inv-loop μ-loop
-label-size-requires c κs = search needs
-
 -- src/lib.rt:95:21
-add-start : tie.Need-add-start Inv-loop μ-loop
-add-start c = search needs
-
 -- src/lib.rt:96:13
-read-requires : tie.Need-read-requires Inv-loop μ-loop
-read-requires c κs = search needs
-
 -- src/lib.rt:97:9
-mul-counts : tie.Need-mul-counts Inv-loop μ-loop
-mul-counts c = search needs
-
 -- src/lib.rt:97:9
-array-write-counts : tie.Need-array-write-counts Inv-loop μ-loop
-array-write-counts c = search needs
-
 -- src/lib.rt:98:14
-add-at : tie.Need-add-at Inv-loop μ-loop
-add-at c = search needs
-
 -- src/lib.rt:99:9
-add-k : tie.Need-add-k Inv-loop μ-loop
-add-k c = search needs
-
 -- src/lib.rt:94:5
-loop-less : tie.Need-loop-less Inv-loop μ-loop
-loop-less c = search needs
-
 -- src/lib.rt:94:5
 loop-again : tie.Need-loop-again Inv-loop μ-loop
 loop-again c =
@@ -81,13 +57,13 @@ find-totals-spec =
     Inv-loop
     μ-loop
     loop-holds
-    label-size-requires
-    add-start
-    read-requires
-    mul-counts
-    array-write-counts
-    add-at
-    add-k
-    loop-less
+    (λ c κs. search needs)
+    (λ c. search needs)
+    (λ c κs. search needs)
+    (λ c. search needs)
+    (λ c. search needs)
+    (λ c. search needs)
+    (λ c. search needs)
+    (λ c. search needs)
     loop-again
     returns)

@@ -8,16 +8,13 @@ use Rattle.tally_lines.proofs.label_size.Lts as lts
 use Rattle.tally_lines.proofs.label.Reads as label-reads
 
 -- src/lib.rt:83:11
-slice-aggregate-label : tie.Need-slice-aggregate-label
-slice-aggregate-label c = search needs
-
 -- src/lib.rt:83:5
-label-requires : tie.Need-label-requires
-label-requires c κs = search needs
-
 -- src/lib.rt:78:1
 returns : tie.Need-returns
 returns c = label-typed _ _ _ _ (c .before .before .before .pre) refl (c .before .label .ensures)
 
 pub label-size-spec : {M : Type 1} → statement M
-label-size-spec = tie.close (tie.spec slice-aggregate-label label-requires returns)
+label-size-spec = tie.close (tie.spec
+    (λ c. search needs)
+    (λ c κs. search needs)
+    returns)

@@ -18,17 +18,8 @@ returns : tie.Need-returns
 returns c = reads-none _ _ (λ own O e. omega (arith, lines-size (own .counts) O, ap length e, c .if1 .taken))
 
 -- src/lib.rt:114:9
-find-totals-requires : tie.Need-find-totals-requires
-find-totals-requires c κs = search needs
-
 -- src/lib.rt:116:19
-slice-aggregate-write : tie.Need-slice-aggregate-write
-slice-aggregate-write c = search needs
-
 -- src/lib.rt:116:9
-write-requires : tie.Need-write-requires
-write-requires c κs = search needs
-
 -- src/lib.rt:117:28
 array-share-prefix-line : tie.Need-array-share-prefix-line
 array-share-prefix-line c =
@@ -44,9 +35,6 @@ slice-aggregate-same c =
     sym (length-take-le (w .result) _ (omega (arith, typed .0)))
 
 -- src/lib.rt:117:9
-same-requires : tie.Need-same-requires
-same-requires c κs = search needs
-
 -- src/lib.rt:105:1
 returns-2 : tie.Need-returns-2
 returns-2 c =
@@ -60,10 +48,10 @@ read-spec =
     tie.close
     (tie.spec
     returns
-    find-totals-requires
-    slice-aggregate-write
-    write-requires
+    (λ c κs. search needs)
+    (λ c. search needs)
+    (λ c κs. search needs)
     array-share-prefix-line
     slice-aggregate-same
-    same-requires
+    (λ c κs. search needs)
     returns-2)

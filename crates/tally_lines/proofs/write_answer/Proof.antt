@@ -10,13 +10,7 @@ use Rattle.text.proofs.line.decimal.Reads as decimal-reads
 use Rattle.text.proofs.line.push.Reads as push-reads
 
 -- src/lib.rt:76:9
-write-requires : tie.Need-write-requires
-write-requires c κs = search needs
-
 -- src/lib.rt:78:9
-same-length : tie.Need-same-length
-same-length c = search needs
-
 -- src/lib.rt:78:9
 returns : tie.Need-returns
 returns c =
@@ -25,29 +19,11 @@ returns c =
     answer-added _ _ (c₈ .args .answer) (w .ensures .0) (w .ensures .1) (c .if1 .taken)
 
 -- src/lib.rt:80:35
-slice-aggregate-append : tie.Need-slice-aggregate-append
-slice-aggregate-append c = search needs
-
 -- src/lib.rt:80:9
-append-requires : tie.Need-append-requires
-append-requires c κs = search needs
-
 -- src/lib.rt:81:36
-cast-decimal : tie.Need-cast-decimal
-cast-decimal c = search needs
-
 -- src/lib.rt:81:9
-decimal-requires : tie.Need-decimal-requires
-decimal-requires c κs = search needs
-
 -- src/lib.rt:82:5
-push-requires : tie.Need-push-requires
-push-requires c κs = search needs
-
 -- src/lib.rt:72:1
-same-length-2 : tie.Need-same-length-2
-same-length-2 c = search needs
-
 -- src/lib.rt:72:1
 returns-2 : tie.Need-returns-2
 returns-2 c =
@@ -63,13 +39,13 @@ pub write-answer-spec : {M : Type 1} → statement M
 write-answer-spec =
     tie.close
     (tie.spec
-    write-requires
-    same-length
+    (λ c κs. search needs)
+    (λ c. search needs)
     returns
-    slice-aggregate-append
-    append-requires
-    cast-decimal
-    decimal-requires
-    push-requires
-    same-length-2
+    (λ c. search needs)
+    (λ c κs. search needs)
+    (λ c. search needs)
+    (λ c κs. search needs)
+    (λ c κs. search needs)
+    (λ c. search needs)
     returns-2)

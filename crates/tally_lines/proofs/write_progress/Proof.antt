@@ -11,41 +11,14 @@ use Rattle.text.proofs.line.decimal.Reads as decimal-reads
 use Rattle.text.proofs.line.push.Reads as push-reads
 
 -- src/lib.rt:97:9
-decimal-requires : tie.Need-decimal-requires
-decimal-requires c κs = search needs
-
 -- src/lib.rt:98:35
-slice-aggregate-append : tie.Need-slice-aggregate-append
-slice-aggregate-append c = search needs
-
 -- src/lib.rt:98:9
-append-requires : tie.Need-append-requires
-append-requires c κs = search needs
-
 -- src/lib.rt:99:9
-decimal-requires-2 : tie.Need-decimal-requires-2
-decimal-requires-2 c κs = search needs
-
 -- src/lib.rt:100:35
-slice-aggregate-append-2 : tie.Need-slice-aggregate-append-2
-slice-aggregate-append-2 c = search needs
-
 -- src/lib.rt:100:9
-append-requires-2 : tie.Need-append-requires-2
-append-requires-2 c κs = search needs
-
 -- src/lib.rt:101:25
-last-byte-requires : tie.Need-last-byte-requires
-last-byte-requires c κs = search needs
-
 -- src/lib.rt:101:5
-push-requires : tie.Need-push-requires
-push-requires c κs = search needs
-
 -- src/lib.rt:94:1
-same-length : tie.Need-same-length
-same-length c = search needs
-
 -- src/lib.rt:94:1
 returns : tie.Need-returns
 unfolding progressText
@@ -61,13 +34,13 @@ pub write-progress-spec : {M : Type 1} → statement M
 write-progress-spec =
     tie.close
     (tie.spec
-    decimal-requires
-    slice-aggregate-append
-    append-requires
-    decimal-requires-2
-    slice-aggregate-append-2
-    append-requires-2
-    last-byte-requires
-    push-requires
-    same-length
+    (λ c κs. search needs)
+    (λ c. search needs)
+    (λ c κs. search needs)
+    (λ c κs. search needs)
+    (λ c. search needs)
+    (λ c κs. search needs)
+    (λ c κs. search needs)
+    (λ c κs. search needs)
+    (λ c. search needs)
     returns)

@@ -12,27 +12,12 @@ use Rattle.tally_pieces.proofs.add.Reads as reads
 use Rattle.tally_pieces.proofs.add.Lts as lts
 use Rattle.totals.proofs.has_room.Reads as has-room-reads
 
-mul-have : tie.Need-mul-have
-mul-have c = search needs
-
-array-read-have : tie.Need-array-read-have
-array-read-have c = search needs
-
-has-room-requires : tie.Need-has-room-requires
-has-room-requires c κs = search needs
-
 returns : tie.Need-returns
 unfolding plus
 returns c = rw (sym (c .before .has-room .ensures) ∙ not-true (c .before .has-room .result) (c .if1 .taken))
 
 add-counts : tie.Need-add-counts
 add-counts c = let room = leb-true (getD (c .before .before .before .args .running .counts) (c .before .before .before .args .k) 0 + c .before .before .before .args .n) largest (sym (c .before .has-room .ensures) ∙ not-false (c .before .has-room .result) (c .if1 .left)) in omega (arith, room)
-
-mul-counts : tie.Need-mul-counts
-mul-counts c = search needs
-
-array-write-counts : tie.Need-array-write-counts
-array-write-counts c = search needs
 
 returns-2 : tie.Need-returns-2
 unfolding plus
@@ -42,11 +27,11 @@ pub add-spec : {M : Type 1} → statement M
 add-spec =
     tie.close
     (tie.spec
-    mul-have
-    array-read-have
-    has-room-requires
+    (λ c. search needs)
+    (λ c. search needs)
+    (λ c κs. search needs)
     returns
     add-counts
-    mul-counts
-    array-write-counts
+    (λ c. search needs)
+    (λ c. search needs)
     returns-2)

@@ -17,7 +17,7 @@ use Rattle.tally_pieces.proofs.add_batch.Statement.{statement}
 use Rattle.tally_pieces.proofs.add_batch.Tie as tie
 use Rattle.tally_pieces.proofs.add_batch.Reads as reads
 use Rattle.tally_pieces.proofs.add_batch.Lts as lts
-use Rattle.batch.proofs.next_task.Reads as next-task-reads
+use Rattle.decoder.proofs.next_task.Reads as next-task-reads
 use Rattle.register.proofs.bank.Bank.reset.Reads as reset-reads
 use Rattle.tally_pieces.proofs.add.Reads as add-reads
 use Rattle.tally_pieces.proofs.add_fault.Reads as add-fault-reads
@@ -36,7 +36,7 @@ abbrev Ws : tie.Start Inv-loop μ-loop → List ℕ
 Ws s = batchWords (s .args .batch .now) 0 (length (s .args .batch .now))
 
 -- a task ends past where it began
-onward : (c : tie.After-task Inv-loop μ-loop) → let l = c .before .before .before .loop in let t = c .task .given in (l .at < t .0 .1 .1 .0) × (t .0 .1 .1 .0 ≤ length (Ws (c .before .before .before .before .before .before .before)))
+onward : (c : tie.After-task Inv-loop μ-loop) → let s = c .before .before .before .before .before .before .before in let l = c .before .before .before .loop in let t = c .task .given in (l .at < t .0 .1 .1 .0) × (t .0 .1 .1 .0 ≤ length (Ws s))
 onward c =
     let s = c .before .before .before .before .before .before .before in
     let l = c .before .before .before .loop in
@@ -48,23 +48,8 @@ from-start : (s : tie.Start Inv-loop μ-loop) (b : Bank) → b ≡ resetBank (s 
     → restPlus (decodeBatch (s .args .bounds) b (Ws s)) r ≡ restPlus (decodeBatch (s .args .bounds) (resetBank (s .args .rule)) (Ws s)) (plus 0 1 (s .args .running))
 from-start s b bank r begun = rw (bank, begun)
 
-reset-requires : tie.Need-reset-requires Inv-loop μ-loop
-reset-requires c κs = search needs
-
-add-requires : tie.Need-add-requires Inv-loop μ-loop
-add-requires c κs = search needs
-
 loop-holds : tie.Need-loop-holds Inv-loop μ-loop
 loop-holds c = (omega arith, refl)
-
-next-task-requires : tie.Need-next-task-requires Inv-loop μ-loop
-next-task-requires c κs = search needs
-
-enum-known-task : tie.Need-enum-known-task Inv-loop μ-loop
-enum-known-task c = search needs
-
-add-task-requires : tie.Need-add-task-requires Inv-loop μ-loop
-add-task-requires c κs = search needs
 
 loop-less : tie.Need-loop-less Inv-loop μ-loop
 loop-less c = omega (arith, onward (c .before .before))
@@ -81,25 +66,17 @@ loop-again c =
           ∙ ap (restPlus (decodeRest (s .args .bounds) (Ws s) (t .task .given .0 .1 .0) (t .task .given .0 .1 .1 .0))) (sym (c .add-task .ensures)),
     )
 
-enum-known-fault : tie.Need-enum-known-fault Inv-loop μ-loop
-enum-known-fault c = search needs
-
-add-fault-requires : tie.Need-add-fault-requires Inv-loop μ-loop
-add-fault-requires c κs = search needs
-
 returns : tie.Need-returns Inv-loop μ-loop
 returns c =
     let f = c .before .before in
     let s = f .before .before .before .before .before .before .before in
     let l = f .before .before .before .loop in
     let n = f .before .before .next-task in
+    let a = f .before .before .before .before in
     c .add-fault .ensures
     ∙ sym (rest-fault (s .args .bounds) (Ws s) (l .current) (l .at) (n .result) (n .ensures) (l .so-far) _ _ _ (f .fault .given .1))
     ∙ sym (l .inv .1)
-    ∙ from-start s _ (f .before .before .before .before .before .reset .ensures) _ (f .before .before .before .before .add .ensures)
-
-enum-told : tie.Need-enum-told Inv-loop μ-loop
-enum-told c = search needs
+    ∙ from-start s _ (a .before .reset .ensures) _ (a .add .ensures)
 
 returns-2 : tie.Need-returns-2 Inv-loop μ-loop
 returns-2 c =
@@ -117,16 +94,16 @@ add-batch-spec =
     (tie.spec
     Inv-loop
     μ-loop
-    reset-requires
-    add-requires
+    (λ c κs. search needs)
+    (λ c κs. search needs)
     loop-holds
-    next-task-requires
-    enum-known-task
-    add-task-requires
+    (λ c κs. search needs)
+    (λ c. search needs)
+    (λ c κs. search needs)
     loop-less
     loop-again
-    enum-known-fault
-    add-fault-requires
+    (λ c. search needs)
+    (λ c κs. search needs)
     returns
-    enum-told
+    (λ c. search needs)
     returns-2)

@@ -12,20 +12,11 @@ use Rattle.records.proofs.Edition.batch_start.Reads as batch-start-reads
 use Rattle.tally_pieces.proofs.add_submitted.Reads as add-submitted-reads
 use Rattle.tally_pieces.proofs.add_unscored.Reads as add-unscored-reads
 
-add-unscored-requires : tie.Need-add-unscored-requires
-add-unscored-requires c κs = search needs
-
-score-in-requires : tie.Need-score-in-requires
-score-in-requires c κs = search needs
-
 returns : tie.Need-returns
 returns c =
     let s = c .before .before .before .before in
     let a = s .args in
     record-bad (a .edition) (a .held .now) (a .end) (s .pre) (a .running) _ (c .before .before .add-unscored .ensures) _ (c .before .score-in .ensures) (not-true (c .before .score-in .result) (c .if1 .taken))
-
-batch-start-requires : tie.Need-batch-start-requires
-batch-start-requires c κs = search needs
 
 shared-slice-read-add-submitted : tie.Need-shared-slice-read-add-submitted
 shared-slice-read-add-submitted c =
@@ -34,18 +25,6 @@ shared-slice-read-add-submitted c =
 
 cast-add-submitted : tie.Need-cast-add-submitted
 cast-add-submitted c = omega (arith, c .shared-slice-known2 .given 4)
-
-sub-add-submitted : tie.Need-sub-add-submitted
-sub-add-submitted c = search needs
-
-part-add-submitted-start : tie.Need-part-add-submitted-start
-part-add-submitted-start c = search needs
-
-part-add-submitted-end : tie.Need-part-add-submitted-end
-part-add-submitted-end c = search needs
-
-add-submitted-requires : tie.Need-add-submitted-requires
-add-submitted-requires c κs = search needs
 
 returns-2 : tie.Need-returns-2
 returns-2 c =
@@ -59,14 +38,14 @@ pub add-record-spec : {M : Type 1} → statement M
 add-record-spec =
     tie.close
     (tie.spec
-    add-unscored-requires
-    score-in-requires
+    (λ c κs. search needs)
+    (λ c κs. search needs)
     returns
-    batch-start-requires
+    (λ c κs. search needs)
     shared-slice-read-add-submitted
     cast-add-submitted
-    sub-add-submitted
-    part-add-submitted-start
-    part-add-submitted-end
-    add-submitted-requires
+    (λ c. search needs)
+    (λ c. search needs)
+    (λ c. search needs)
+    (λ c κs. search needs)
     returns-2)

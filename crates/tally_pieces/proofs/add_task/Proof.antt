@@ -7,21 +7,6 @@ use Rattle.tally_pieces.proofs.add.Reads as add-reads
 use Rattle.tally_pieces.proofs.pixels_if.Reads as pixels-if-reads
 use Rattle.tally_pieces.proofs.pixels_of.Reads as pixels-of-reads
 
-pixels-of-requires : tie.Need-pixels-of-requires
-pixels-of-requires c κs = search needs
-
-pixels-if-requires : tie.Need-pixels-if-requires
-pixels-if-requires c κs = search needs
-
-add-requires : tie.Need-add-requires
-add-requires c κs = search needs
-
-add-requires-2 : tie.Need-add-requires-2
-add-requires-2 c κs = search needs
-
-add-requires-3 : tie.Need-add-requires-3
-add-requires-3 c κs = search needs
-
 returns : tie.Need-returns
 returns c = rw (c .add3 .ensures, c .before .add2 .ensures, c .before .before .add .ensures, c .before .before .before .pixels-if .ensures, c .before .before .before .before .pixels-of .ensures)
 
@@ -29,9 +14,9 @@ pub add-task-spec : {M : Type 1} → statement M
 add-task-spec =
     tie.close
     (tie.spec
-    pixels-of-requires
-    pixels-if-requires
-    add-requires
-    add-requires-2
-    add-requires-3
+    (λ c κs. search needs)
+    (λ c κs. search needs)
+    (λ c κs. search needs)
+    (λ c κs. search needs)
+    (λ c κs. search needs)
     returns)

@@ -19,20 +19,11 @@ returns c =
     let none = eq-eqb _ 0 (c .if1 .taken) in
     (omega arith, rw none, rw none, λ totals seen S. feeds-none totals seen (a .input .now) (a .held .now) (a .tally) (c .if1 .taken) S)
 
-edition-for-requires : tie.Need-edition-for-requires
-edition-for-requires c κs = search needs
-
-take-requires : tie.Need-take-requires
-take-requires c κs = search needs
-
 add-found-requires : tie.Need-add-found-requires
 add-found-requires c κs =
     let c₈ = c .before .before .before .before .before .before .before .before in
     let t = c .before .before .before .before .take in
     subst (λ (n : ℕ). Lies (c₈ .edition-for .result) (t .result .found) n) (sym (t .kept .1 .1 .0)) (t .ensures .1)
-
-same-length : tie.Need-same-length
-same-length c = search needs
 
 returns-2 : tie.Need-returns-2
 returns-2 c =
@@ -46,4 +37,10 @@ returns-2 c =
 pub feed-spec : {M : Type 1} → statement M
 feed-spec =
     tie.close
-    (tie.spec returns edition-for-requires take-requires add-found-requires same-length returns-2)
+    (tie.spec
+    returns
+    (λ c κs. search needs)
+    (λ c κs. search needs)
+    add-found-requires
+    (λ c. search needs)
+    returns-2)

@@ -6,7 +6,7 @@ use native.Mathlib.Omega.{arith}
 use lib.ListN.{length, take, drop, length-take, length-drop}
 use denote.Ref.{now}
 use Rattle.totals.specs.declared.Totals.{Totals}
-use Rattle.tally.specs.Tally.{Stands, Feeds}
+use Rattle.tally.specs.Tally.{Stands, TallyFeedContract}
 use Rattle.tally.proofs.Files.{piece-again, piece-some, piece-none, piece-all}
 use Rattle.tally_pieces.proofs.feed_piece.Statement.{statement}
 use Rattle.tally_pieces.proofs.feed_piece.Tie as tie
@@ -24,7 +24,8 @@ abbrev μ-loop : tie.MeasureT-loop
 μ-loop held₀ piece current₀ used₀ held current used = length piece - used
 
 -- what a call used is of what is left
-within : (c : tie.After-feed Inv-loop μ-loop) → c .before .before .before .before .loop .used + c .feed .result .used ≤ length (now (c .before .before .before .before .before .before .before .args .piece))
+within : (c : tie.After-feed Inv-loop μ-loop) → let c₇ = c .before .before .before .before .before .before .before in
+    c .before .before .before .before .loop .used + c .feed .result .used ≤ length (now (c₇ .args .piece))
 within c =
     let c₇ = c .before .before .before .before .before .before .before in
     let l = c .before .before .before .before .loop in
@@ -36,25 +37,10 @@ loop-holds c =
     let a = c .before .before .args in
     (search needs, search needs, λ totals seen S. piece-none totals seen (a .piece .now) (a .tally) (a .held .now) S)
 
-sub-feed : tie.Need-sub-feed Inv-loop μ-loop
-sub-feed c = search needs
-
-part-feed-start : tie.Need-part-feed-start Inv-loop μ-loop
-part-feed-start c = search needs
-
-part-feed-end : tie.Need-part-feed-end Inv-loop μ-loop
-part-feed-end c = search needs
-
-feed-requires : tie.Need-feed-requires Inv-loop μ-loop
-feed-requires c κs = search needs
-
 add-used : tie.Need-add-used Inv-loop μ-loop
 add-used c =
     let c₁₀ = c .before .before .before .before .before .before .before .before .before .before in
     omega (arith, within (c .before .before .before), c₁₀ .good .1 .1 .0 .0)
-
-same-length : tie.Need-same-length Inv-loop μ-loop
-same-length c = search needs
 
 returns : tie.Need-returns Inv-loop μ-loop
 returns c =
@@ -76,9 +62,6 @@ loop-again c =
       λ totals seen S. piece-again totals seen (a .piece .now) (l .used) (d .feed .result) _ (d .feed .ensures .3 totals (seen ++ take (l .used) (a .piece .now)) (l .inv .2 totals seen S)),
     )
 
-same-length-2 : tie.Need-same-length-2 Inv-loop μ-loop
-same-length-2 c = search needs
-
 returns-2 : tie.Need-returns-2 Inv-loop μ-loop
 returns-2 c =
     let l = c .before .loop in
@@ -92,14 +75,14 @@ feed-piece-spec =
     Inv-loop
     μ-loop
     loop-holds
-    sub-feed
-    part-feed-start
-    part-feed-end
-    feed-requires
+    (λ c. search needs)
+    (λ c. search needs)
+    (λ c. search needs)
+    (λ c κs. search needs)
     add-used
-    same-length
+    (λ c. search needs)
     returns
     loop-less
     loop-again
-    same-length-2
+    (λ c. search needs)
     returns-2)

@@ -9,8 +9,7 @@ use Rattle.tally_pieces.proofs.pixels_of.Lts as lts
 mul-result : tie.Need-mul-result
 mul-result c = let small = pixels-small (c .args .width) (c .args .height) (omega arith) (omega arith) in omega (arith, small)
 
-returns : tie.Need-returns
-returns c = search needs
-
 pub pixels-of-spec : {M : Type 1} → statement M
-pixels-of-spec = tie.close (tie.spec mul-result returns)
+pixels-of-spec = tie.close (tie.spec
+    mul-result
+    (λ c. search needs))

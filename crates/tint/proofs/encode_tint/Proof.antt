@@ -12,26 +12,11 @@ use Rattle.tint.proofs.Cases.{bad-score, scored}
 use Rattle.tint.proofs.encode_tint.Statement.{statement}
 use Rattle.tint.proofs.encode_tint.Tie as tie
 
-is-score-requires : tie.Need-is-score-requires
-is-score-requires c κs = search needs
-
 returns : tie.Need-returns
 returns c =
     let a = c .before .before .before .args in
     bad-score (a .score) (a .tint) (a .output) (a .buffer .now)
     (sym (c .before .is-score .ensures) ∙ not-true (c .before .is-score .result) (c .if1 .taken))
-
-coverage-of-requires : tie.Need-coverage-of-requires
-coverage-of-requires c κs = search needs
-
-fields-of-requires : tie.Need-fields-of-requires
-fields-of-requires c κs = search needs
-
-encode-requires : tie.Need-encode-requires
-encode-requires c κs = search needs
-
-same-length : tie.Need-same-length
-same-length c = search needs
 
 returns-2 : tie.Need-returns-2
 returns-2 c =
@@ -47,4 +32,11 @@ returns-2 c =
     )
 
 pub encode-tint-spec : {M : Type 1} → statement M
-encode-tint-spec = tie.close (tie.spec is-score-requires returns coverage-of-requires fields-of-requires encode-requires same-length returns-2)
+encode-tint-spec = tie.close (tie.spec
+    (λ c κs. search needs)
+    returns
+    (λ c κs. search needs)
+    (λ c κs. search needs)
+    (λ c κs. search needs)
+    (λ c. search needs)
+    returns-2)

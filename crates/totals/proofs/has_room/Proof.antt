@@ -6,11 +6,10 @@ use Rattle.totals.proofs.has_room.Tie as tie
 use Rattle.totals.proofs.has_room.Reads as reads
 use Rattle.totals.proofs.has_room.Lts as lts
 
-sub-result : tie.Need-sub-result
-sub-result c = search needs
-
 returns : tie.Need-returns
 returns c = room-is (c .args .have) (c .args .n) (omega arith)
 
 pub has-room-spec : {M : Type 1} → statement M
-has-room-spec = tie.close (tie.spec sub-result returns)
+has-room-spec = tie.close (tie.spec
+    (λ c. search needs)
+    returns)

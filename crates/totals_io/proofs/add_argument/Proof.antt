@@ -8,16 +8,13 @@ use Rattle.totals_io.proofs.add_reading.Reads as add-reading-reads
 use Rattle.totals_io.proofs.read_argument.Reads as read-argument-reads
 
 -- src/lib.rt:153:9
-read-argument-requires : tie.Need-read-argument-requires
-read-argument-requires c κs = search needs
-
 -- src/lib.rt:157:17
-add-reading-requires : tie.Need-add-reading-requires
-add-reading-requires c κs = search needs
-
 -- src/lib.rt:150:1
 returns : tie.Need-returns
 returns c = lot-of _ _ _ (c .before .before .read-argument .ensures) (c .add-reading .ensures .0) (c .add-reading .ensures .1)
 
 pub add-argument-spec : {M : Type 1} → statement M
-add-argument-spec = tie.close (tie.spec read-argument-requires add-reading-requires returns)
+add-argument-spec = tie.close (tie.spec
+    (λ c κs. search needs)
+    (λ c κs. search needs)
+    returns)

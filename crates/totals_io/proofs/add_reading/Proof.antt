@@ -13,9 +13,6 @@ returns : tie.Need-returns
 returns c = (λ e. absurd (false≢true (sym (not-true _ (c .if1 .taken)) ∙ e)), λ e. refl)
 
 -- src/lib.rt:146:5
-add-requires : tie.Need-add-requires
-add-requires c κs = search needs
-
 -- src/lib.rt:136:1
 returns-2 : tie.Need-returns-2
 returns-2 c =
@@ -23,4 +20,7 @@ returns-2 c =
     (λ e. c .add .ensures, λ e. absurd (false≢true (sym e ∙ good)))
 
 pub add-reading-spec : {M : Type 1} → statement M
-add-reading-spec = tie.close (tie.spec returns add-requires returns-2)
+add-reading-spec = tie.close (tie.spec
+    returns
+    (λ c κs. search needs)
+    returns-2)

@@ -12,21 +12,9 @@ use Rattle.command.proofs.print.Reads as print-reads
 use Rattle.tally_lines.proofs.write_answer.Reads as write-answer-reads
 
 -- src/lib.rt:21:39
-slice-aggregate-write-answer : tie.Need-slice-aggregate-write-answer
-slice-aggregate-write-answer c = search needs
-
 -- src/lib.rt:21:9
-write-answer-requires : tie.Need-write-answer-requires
-write-answer-requires c κs = search needs
-
 -- src/lib.rt:22:20
-slice-aggregate-print : tie.Need-slice-aggregate-print
-slice-aggregate-print c = search needs
-
 -- src/lib.rt:22:5
-print-requires : tie.Need-print-requires
-print-requires c κs = search needs
-
 -- src/lib.rt:17:1
 returns : tie.Need-returns
 returns c =
@@ -38,8 +26,8 @@ pub print-answer-spec : {M : Type 1} → statement M
 print-answer-spec =
     tie.close
     (tie.spec
-    slice-aggregate-write-answer
-    write-answer-requires
-    slice-aggregate-print
-    print-requires
+    (λ c. search needs)
+    (λ c κs. search needs)
+    (λ c. search needs)
+    (λ c κs. search needs)
     returns)

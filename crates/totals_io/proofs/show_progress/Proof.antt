@@ -12,21 +12,9 @@ use Rattle.libc.proofs.isatty.Reads as isatty-reads
 use Rattle.tally_lines.proofs.write_progress.Reads as write-progress-reads
 
 -- src/lib.rt:35:8
-isatty-requires : tie.Need-isatty-requires
-isatty-requires c κs = search needs
-
 -- src/lib.rt:36:9
-returns : tie.Need-returns
-returns c = search needs
-
 -- src/lib.rt:42:41
-slice-aggregate-write-progress : tie.Need-slice-aggregate-write-progress
-slice-aggregate-write-progress c = search needs
-
 -- src/lib.rt:42:9
-write-progress-requires : tie.Need-write-progress-requires
-write-progress-requires c κs = search needs
-
 -- src/lib.rt:43:23
 array-share-prefix-line : tie.Need-array-share-prefix-line
 array-share-prefix-line c =
@@ -40,9 +28,6 @@ slice-aggregate-write-all c =
     sym (length-take-le (w .result) (w .last .0) (omega (arith, typed-size 64 _ _ _ (w .result) refl (w .ensures .1) (w .ensures .0), w .ensures .1)))
 
 -- src/lib.rt:43:5
-write-all-requires : tie.Need-write-all-requires
-write-all-requires c κs = search needs
-
 -- src/lib.rt:32:1
 returns-2 : tie.Need-returns-2
 returns-2 c =
@@ -53,11 +38,11 @@ pub show-progress-spec : {M : Type 1} → statement M
 show-progress-spec =
     tie.close
     (tie.spec
-    isatty-requires
-    returns
-    slice-aggregate-write-progress
-    write-progress-requires
+    (λ c κs. search needs)
+    (λ c. search needs)
+    (λ c. search needs)
+    (λ c κs. search needs)
     array-share-prefix-line
     slice-aggregate-write-all
-    write-all-requires
+    (λ c κs. search needs)
     returns-2)

@@ -10,15 +10,6 @@ use borrow.Author.Needs.{needs}
 use Rattle.unblended_rows.proofs.carried_row.Statement.{statement}
 use Rattle.unblended_rows.proofs.carried_row.Tie as tie
 
-cast-width : tie.Need-cast-width
-cast-width c = search needs
-
-row-start-requires : tie.Need-row-start-requires
-row-start-requires c κs = search needs
-
-sub-at : tie.Need-sub-at
-sub-at c = search needs
-
 fetch-bytes-requires : tie.Need-fetch-bytes-requires
 fetch-bytes-requires c κs =
     let s = c .before .before .before .before .before .before .before .before in
@@ -38,9 +29,6 @@ part-store-at-start c =
     let r = c .before .before .before .before .before .before .before .before .before .before .before .pre .0 in
     omega (arith, ordered r, room r)
 
-part-store-at-end : tie.Need-part-store-at-end
-part-store-at-end c = search needs
-
 store-at-requires : tie.Need-store-at-requires
 store-at-requires c κs =
     let f = c .before .before .before .before in
@@ -48,14 +36,8 @@ store-at-requires c κs =
     let p = t .before .before .before .before .before .before .pre in
     record {
       inside = omega (arith, row-fits (p .0) _ (t .row-start .ensures), length-window (p .0));
-      room = omega (arith, f .fetch-bytes .kept .0, p .1, p .0 .drawable .clear .output .narrow);
+      room = omega (arith, f .fetch-bytes .kept .0, p .1, p .0 .drawable .clear .output .width-max);
     }
-
-same-length : tie.Need-same-length
-same-length c = search needs
-
-same-length-2 : tie.Need-same-length-2
-same-length-2 c = search needs
 
 returns : tie.Need-returns
 returns c =
@@ -73,14 +55,14 @@ pub carried-row-spec : {M : Type 1} → statement M
 carried-row-spec =
     tie.close
     (tie.spec
-    cast-width
-    row-start-requires
-    sub-at
+    (λ c. search needs)
+    (λ c κs. search needs)
+    (λ c. search needs)
     fetch-bytes-requires
     sub-store-at
     part-store-at-start
-    part-store-at-end
+    (λ c. search needs)
     store-at-requires
-    same-length
-    same-length-2
+    (λ c. search needs)
+    (λ c. search needs)
     returns)

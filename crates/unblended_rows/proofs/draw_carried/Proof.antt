@@ -26,26 +26,22 @@ carried-row-requires c κs =
 add-y : tie.Need-add-y Inv-loop μ-loop
 add-y c =
     let t = c .before .before .before .before .before .before .before in
-    omega (arith, t .loop-test .taken, t .before .before .before .before .before .pre .0 .clear .output .low)
-
-loop-less : tie.Need-loop-less Inv-loop μ-loop
-loop-less c = search needs
+    let s = t .before .before .before .before .before in
+    omega (arith, t .loop-test .taken, s .pre .0 .clear .output .height-max)
 
 loop-again : tie.Need-loop-again Inv-loop μ-loop
 loop-again c =
     let d = c .before .before .before .before in
     let t = d .before .before .before in
     let l = t .before .loop in
+    let s = t .before .before .before .before .before in
     let f = d .carried-row in (
-      upto-more (l .inv .0) (t .before .before .before .before .before .pre .0) (t .loop-test .taken) (f .last .0) (f .ensures),
+      upto-more (l .inv .0) (s .pre .0) (t .loop-test .taken) (f .last .0) (f .ensures),
       f .kept .1 .1 .1 .1 .0 ∙ l .inv .1,
     )
 
 same-length : tie.Need-same-length Inv-loop μ-loop
 same-length c = upto-length (c .before .loop .inv .0)
-
-same-length-2 : tie.Need-same-length-2 Inv-loop μ-loop
-same-length-2 c = search needs
 
 returns : tie.Need-returns Inv-loop μ-loop
 returns c = upto-all (c .before .loop .inv .0) (omega arith)
@@ -59,8 +55,8 @@ draw-carried-spec =
     loop-holds
     carried-row-requires
     add-y
-    loop-less
+    (λ c. search needs)
     loop-again
     same-length
-    same-length-2
+    (λ c. search needs)
     returns)

@@ -24,10 +24,7 @@ filled-row-requires c κs =
 add-y : tie.Need-add-y Inv-loop μ-loop
 add-y c =
     let t = c .before .before .before .before in
-    omega (arith, t .loop-test .taken, t .before .before .before .before .pre .0 .clear .output .low)
-
-loop-less : tie.Need-loop-less Inv-loop μ-loop
-loop-less c = search needs
+    omega (arith, t .loop-test .taken, t .before .before .before .before .pre .0 .clear .output .height-max)
 
 loop-again : tie.Need-loop-again Inv-loop μ-loop
 loop-again c =
@@ -52,7 +49,7 @@ draw-filled-spec =
     loop-holds
     filled-row-requires
     add-y
-    loop-less
+    (λ c. search needs)
     loop-again
     same-length
     returns)

@@ -8,30 +8,6 @@ use borrow.Author.Needs.{needs}
 use Rattle.unblended_rows.proofs.fill_at.Statement.{statement}
 use Rattle.unblended_rows.proofs.fill_at.Tie as tie
 
-row-length-requires : tie.Need-row-length-requires
-row-length-requires c κs = search needs
-
-add-end : tie.Need-add-end
-add-end c = search needs
-
-sub-fill-row : tie.Need-sub-fill-row
-sub-fill-row c = search needs
-
-part-fill-row-start : tie.Need-part-fill-row-start
-part-fill-row-start c = search needs
-
-part-fill-row-end : tie.Need-part-fill-row-end
-part-fill-row-end c = search needs
-
-cast-fill-row : tie.Need-cast-fill-row
-cast-fill-row c = search needs
-
-fill-row-requires : tie.Need-fill-row-requires
-fill-row-requires c κs = search needs
-
-same-length : tie.Need-same-length
-same-length c = search needs
-
 returns : tie.Need-returns
 returns c =
     let r = c .before .before .before .before .before in
@@ -44,12 +20,12 @@ pub fill-at-spec : {M : Type 1} → statement M
 fill-at-spec =
     tie.close
     (tie.spec
-    row-length-requires
-    add-end
-    sub-fill-row
-    part-fill-row-start
-    part-fill-row-end
-    cast-fill-row
-    fill-row-requires
-    same-length
+    (λ c κs. search needs)
+    (λ c. search needs)
+    (λ c. search needs)
+    (λ c. search needs)
+    (λ c. search needs)
+    (λ c. search needs)
+    (λ c κs. search needs)
+    (λ c. search needs)
     returns)

@@ -9,12 +9,6 @@ use borrow.Author.Needs.{needs}
 use Rattle.unblended_rows.proofs.filled_row.Statement.{statement}
 use Rattle.unblended_rows.proofs.filled_row.Tie as tie
 
-row-start-requires : tie.Need-row-start-requires
-row-start-requires c κs = search needs
-
-sub-at : tie.Need-sub-at
-sub-at c = search needs
-
 uniform-colour-requires : tie.Need-uniform-colour-requires
 uniform-colour-requires c κs =
     let s = c .before .before .before .before in
@@ -30,16 +24,10 @@ part-fill-at-start c =
     let r = c .before .before .before .before .before .pre .0 in
     omega (arith, ordered r, room r)
 
-part-fill-at-end : tie.Need-part-fill-at-end
-part-fill-at-end c = search needs
-
 fill-at-requires : tie.Need-fill-at-requires
 fill-at-requires c κs =
     let r = c .before .before .before .before .before .before .pre .0 in
     omega (arith, row-fits r _ (c .before .before .row-start .ensures), length-window r)
-
-same-length : tie.Need-same-length
-same-length c = search needs
 
 returns : tie.Need-returns
 returns c =
@@ -59,12 +47,12 @@ pub filled-row-spec : {M : Type 1} → statement M
 filled-row-spec =
     tie.close
     (tie.spec
-    row-start-requires
-    sub-at
+    (λ c κs. search needs)
+    (λ c. search needs)
     uniform-colour-requires
     sub-fill-at
     part-fill-at-start
-    part-fill-at-end
+    (λ c. search needs)
     fill-at-requires
-    same-length
+    (λ c. search needs)
     returns)

@@ -24,16 +24,10 @@ sub-from c =
     let m = of-kind (a .window) (a .task) Moved (s .pre .1) in
     moved-lies (s .pre .0) (m .moved) (m .inside) (rowStart (a .task .output) (a .y)) (c .identity-row-start .result) (rowLength (a .task .output)) refl (c .identity-row-start .ensures) refl .start-from
 
-row-start-requires : tie.Need-row-start-requires
-row-start-requires c κs = search needs
-
 sub-to : tie.Need-sub-to
 sub-to c =
     let c₅ = c .before .before .before .before .before in
     omega (arith, c .row-start .ensures, starts (c₅ .pre .0))
-
-row-length-requires : tie.Need-row-length-requires
-row-length-requires c κs = search needs
 
 sub-copy-within : tie.Need-sub-copy-within
 sub-copy-within c =
@@ -60,9 +54,6 @@ copy-within-requires c κs =
     lies-apart (s .args .window) _ (t .row-start .result) (o .identity-row-start .result) (l .row-length .result)
     (moved-lies (s .pre .0) (m .moved) (m .inside) (t .row-start .result) (o .identity-row-start .result) (l .row-length .result) (t .row-start .ensures) (o .identity-row-start .ensures) (l .row-length .ensures))
     (length-window (s .pre .0))
-
-same-length : tie.Need-same-length
-same-length c = search needs
 
 returns : tie.Need-returns
 returns c =
@@ -91,12 +82,12 @@ moved-row-spec =
     (tie.spec
     identity-row-start-requires
     sub-from
-    row-start-requires
+    (λ c κs. search needs)
     sub-to
-    row-length-requires
+    (λ c κs. search needs)
     sub-copy-within
     part-copy-within-start
     part-copy-within-end
     copy-within-requires
-    same-length
+    (λ c. search needs)
     returns)

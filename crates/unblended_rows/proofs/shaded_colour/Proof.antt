@@ -7,21 +7,12 @@ use borrow.Author.Needs.{needs}
 use Rattle.unblended_rows.proofs.shaded_colour.Statement.{statement}
 use Rattle.unblended_rows.proofs.shaded_colour.Tie as tie
 
-cast-mirror : tie.Need-cast-mirror
-cast-mirror c = search needs
-
-mirror-requires : tie.Need-mirror-requires
-mirror-requires c κs = search needs
-
 cast-colour-at : tie.Need-cast-colour-at
 cast-colour-at c =
     let s = c .before .before .before .before in
     let a = s .args in
     let l = mirrored-below (a .source .transform .flip .vertical) (a .source .surface .height) (a .y) (s .pre) in
     omega (arith, c .mirror .ensures)
-
-colour-at-requires : tie.Need-colour-at-requires
-colour-at-requires c κs = search needs
 
 returns : tie.Need-returns
 returns c =
@@ -30,4 +21,9 @@ returns c =
 
 pub shaded-colour-spec : {M : Type 1} → statement M
 shaded-colour-spec =
-    tie.close (tie.spec cast-mirror mirror-requires cast-colour-at colour-at-requires returns)
+    tie.close (tie.spec
+    (λ c. search needs)
+    (λ c κs. search needs)
+    cast-colour-at
+    (λ c κs. search needs)
+    returns)

@@ -10,24 +10,6 @@ use borrow.Author.Needs.{needs}
 use Rattle.unblended_rows.proofs.store_at.Statement.{statement}
 use Rattle.unblended_rows.proofs.store_at.Tie as tie
 
-row-length-requires : tie.Need-row-length-requires
-row-length-requires c κs = search needs
-
-add-end : tie.Need-add-end
-add-end c = search needs
-
-sub-store-bytes : tie.Need-sub-store-bytes
-sub-store-bytes c = search needs
-
-part-store-bytes-start : tie.Need-part-store-bytes-start
-part-store-bytes-start c = search needs
-
-part-store-bytes-end : tie.Need-part-store-bytes-end
-part-store-bytes-end c = search needs
-
-cast-store-bytes : tie.Need-cast-store-bytes
-cast-store-bytes c = search needs
-
 store-bytes-requires : tie.Need-store-bytes-requires
 store-bytes-requires c κs =
     let r = c .before .before in
@@ -36,9 +18,6 @@ store-bytes-requires c κs =
     let k : ℕ = a .at + r .row-length .result - a .at in
     let e : k ≡ rowLength (a .output) = omega (arith, r .row-length .ensures) in
     (length-mid (a .at) k (now (a .window)) (omega (arith, s .pre .inside)) ∙ e, narrower (a .output .format) (a .output .width) _ (s .pre .room))
-
-same-length : tie.Need-same-length
-same-length c = search needs
 
 returns : tie.Need-returns
 returns c =
@@ -52,12 +31,12 @@ pub store-at-spec : {M : Type 1} → statement M
 store-at-spec =
     tie.close
     (tie.spec
-    row-length-requires
-    add-end
-    sub-store-bytes
-    part-store-bytes-start
-    part-store-bytes-end
-    cast-store-bytes
+    (λ c κs. search needs)
+    (λ c. search needs)
+    (λ c. search needs)
+    (λ c. search needs)
+    (λ c. search needs)
+    (λ c. search needs)
     store-bytes-requires
-    same-length
+    (λ c. search needs)
     returns)

@@ -16,34 +16,13 @@ Inv-loop row₀ width table x₀ row x = ((x ≤ width) × (length row ≡ lengt
 abbrev μ-loop : tie.MeasureT-loop
 μ-loop row₀ width table x₀ row x = width - x
 
-all-requires : tie.Need-all-requires Inv-loop μ-loop
-all-requires c κs = search needs
-
 loop-holds : tie.Need-loop-holds Inv-loop μ-loop
 loop-holds c = (search needs, none-done _ _ _)
-
-mul-divide-pixel : tie.Need-mul-divide-pixel Inv-loop μ-loop
-mul-divide-pixel c = search needs
-
-slice-aggregate-divide-pixel : tie.Need-slice-aggregate-divide-pixel Inv-loop μ-loop
-slice-aggregate-divide-pixel c = search needs
-
-divide-pixel-requires : tie.Need-divide-pixel-requires Inv-loop μ-loop
-divide-pixel-requires c κs = search needs
-
-add-x : tie.Need-add-x Inv-loop μ-loop
-add-x c = search needs
-
-loop-less : tie.Need-loop-less Inv-loop μ-loop
-loop-less c = search needs
 
 loop-again : tie.Need-loop-again Inv-loop μ-loop
 loop-again c =
     let c₆ = c .before .before .before .before .before .before in
     (search needs, divided-more _ _ _ (c₆ .loop .x) (c₆ .loop .inv .1) (c .before .before .divide-pixel .ensures))
-
-same-length : tie.Need-same-length Inv-loop μ-loop
-same-length c = search needs
 
 returns : tie.Need-returns Inv-loop μ-loop
 returns c = to-end _ _ _ _ (c .before .loop .x * 4) _ (omega arith) (c .before .loop .inv .1)
@@ -54,13 +33,13 @@ divide-row-spec =
     (tie.spec
     Inv-loop
     μ-loop
-    all-requires
+    (λ c κs. search needs)
     loop-holds
-    mul-divide-pixel
-    slice-aggregate-divide-pixel
-    divide-pixel-requires
-    add-x
-    loop-less
+    (λ c. search needs)
+    (λ c. search needs)
+    (λ c κs. search needs)
+    (λ c. search needs)
+    (λ c. search needs)
     loop-again
-    same-length
+    (λ c. search needs)
     returns)

@@ -3,12 +3,6 @@ use borrow.Author.Needs.{needs}
 use Rattle.unpremultiply.proofs.prepare_row.Statement.{statement}
 use Rattle.unpremultiply.proofs.prepare_row.Tie as tie
 
-divide-row-requires : tie.Need-divide-row-requires
-divide-row-requires c κs = search needs
-
-same-length : tie.Need-same-length
-same-length c = search needs
-
 returns : tie.Need-returns
 returns c = prepared _ _ _ _ (c .before .before .before .before .if1 .taken) (c .before .before .divide-row .ensures)
 
@@ -16,4 +10,8 @@ returns-2 : tie.Need-returns-2
 returns-2 c = unprepared _ _ _ (c .if1 .left)
 
 pub prepare-row-spec : {M : Type 1} → statement M
-prepare-row-spec = tie.close (tie.spec divide-row-requires same-length returns returns-2)
+prepare-row-spec = tie.close (tie.spec
+    (λ c κs. search needs)
+    (λ c. search needs)
+    returns
+    returns-2)

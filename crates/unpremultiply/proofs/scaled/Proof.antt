@@ -14,14 +14,10 @@ mul-n c = omega (arith, small c)
 add-n : tie.Need-add-n
 add-n c = omega (arith, small c)
 
-cast-result : tie.Need-cast-result
-cast-result c = search needs
-
-returns : tie.Need-returns
-returns c = search needs
-
-returns-2 : tie.Need-returns-2
-returns-2 c = search needs
-
 pub scaled-spec : {M : Type 1} → statement M
-scaled-spec = tie.close (tie.spec mul-n add-n cast-result returns returns-2)
+scaled-spec = tie.close (tie.spec
+    mul-n
+    add-n
+    (λ c. search needs)
+    (λ c. search needs)
+    (λ c. search needs))

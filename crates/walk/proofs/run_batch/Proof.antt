@@ -36,9 +36,9 @@ abbrev Ws : tie.Start Inv-loop μ-loop → List ℕ
 Ws c = batchWords (now (c .args .ring)) (c .args .offset) (c .args .size)
 
 -- a task ends past where it began
-onward : (c : tie.After-task Inv-loop μ-loop) →
+onward : (c : tie.After-task Inv-loop μ-loop) → let c₇ = c .before .before .before .before .before .before .before in
     (c .before .before .before .loop .at < c .task .given .0 .1 .1 .0)
-    × (c .task .given .0 .1 .1 .0 ≤ length (Ws (c .before .before .before .before .before .before .before)))
+    × (c .task .given .0 .1 .1 .0 ≤ length (Ws (c₇)))
 onward c =
     let s = c .before .before .before .before .before .before .before in
     let l = c .before .before .before .loop in
@@ -49,12 +49,6 @@ loop-holds : tie.Need-loop-holds Inv-loop μ-loop
 loop-holds c =
     let s = c .before .before .before in
     (refl, counted-none (decodeBatch (s .args .bounds) (s .args .bank) (Ws s)), omega arith, refl, omega arith)
-
-next-task-requires : tie.Need-next-task-requires Inv-loop μ-loop
-next-task-requires c κs = search needs
-
-enum-known-task : tie.Need-enum-known-task Inv-loop μ-loop
-enum-known-task c = search needs
 
 draw-task-requires : tie.Need-draw-task-requires Inv-loop μ-loop
 draw-task-requires c κs =
@@ -95,12 +89,6 @@ loop-again c =
       omega (arith, onward t, l .inv .4),
     )
 
-enum-known-fault : tie.Need-enum-known-fault Inv-loop μ-loop
-enum-known-fault c = search needs
-
-same-length : tie.Need-same-length Inv-loop μ-loop
-same-length c = search needs
-
 -- what the judgement is, and what is drawn, where the walk stands at this
 abbrev verdict-of : Validation → Verdict
 verdict-of j = j .verdict
@@ -117,9 +105,6 @@ returns c =
 
 enum-told : tie.Need-enum-told Inv-loop μ-loop
 enum-told c = search needs
-
-same-length-2 : tie.Need-same-length-2 Inv-loop μ-loop
-same-length-2 c = search needs
 
 returns-2 : tie.Need-returns-2 Inv-loop μ-loop
 returns-2 c =
@@ -138,15 +123,15 @@ run-batch-spec =
     Inv-loop
     μ-loop
     loop-holds
-    next-task-requires
-    enum-known-task
+    (λ c κs. search needs)
+    (λ c. search needs)
     draw-task-requires
     add-count
     loop-less
     loop-again
-    enum-known-fault
-    same-length
+    (λ c. search needs)
+    (λ c. search needs)
     returns
     enum-told
-    same-length-2
+    (λ c. search needs)
     returns-2)

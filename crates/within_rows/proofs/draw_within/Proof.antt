@@ -11,9 +11,6 @@ Inv-loop memory₀ window task plan height y₀ memory y = Upto task memory₀ m
 abbrev μ-loop : tie.MeasureT-loop
 μ-loop memory₀ window task plan height y₀ memory y = height - y
 
-plan-of-requires : tie.Need-plan-of-requires Inv-loop μ-loop
-plan-of-requires c κs = search needs
-
 loop-holds : tie.Need-loop-holds Inv-loop μ-loop
 loop-holds c = upto-none _ _
 
@@ -28,18 +25,17 @@ within-row-requires c κs =
 add-y : tie.Need-add-y Inv-loop μ-loop
 add-y c =
     let t = c .before .before .before .before in
-    omega (arith, t .loop-test .taken, t .before .before .before .before .before .before .pre .0 .clear .output .low)
-
-loop-less : tie.Need-loop-less Inv-loop μ-loop
-loop-less c = search needs
+    let s = t .before .before .before .before .before .before in
+    omega (arith, t .loop-test .taken, s .pre .0 .clear .output .height-max)
 
 loop-again : tie.Need-loop-again Inv-loop μ-loop
 loop-again c =
     let d = c .before .before in
     let t = d .before .before in
     let l = t .before .loop in
+    let s = t .before .before .before .before .before .before in
     let f = d .within-row in
-    upto-more (l .inv) (t .before .before .before .before .before .before .pre .0) (t .loop-test .taken) (f .last .0) (f .ensures)
+    upto-more (l .inv) (s .pre .0) (t .loop-test .taken) (f .last .0) (f .ensures)
 
 same-length : tie.Need-same-length Inv-loop μ-loop
 same-length c = upto-length (c .before .loop .inv)
@@ -53,11 +49,11 @@ draw-within-spec =
     (tie.spec
     Inv-loop
     μ-loop
-    plan-of-requires
+    (λ c κs. search needs)
     loop-holds
     within-row-requires
     add-y
-    loop-less
+    (λ c. search needs)
     loop-again
     same-length
     returns)

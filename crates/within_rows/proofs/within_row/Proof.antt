@@ -27,16 +27,10 @@ sub-from c =
     let w = of-kind (a .window) (a .task) Within (s .pre .1) in
     moved-lies (s .pre .0) (w .moved) (w .inside) (rowStart (a .task .output) (a .y)) (c .identity-row-start .result) (rowLength (a .task .output)) refl (c .identity-row-start .ensures) refl .start-from
 
-row-start-requires : tie.Need-row-start-requires
-row-start-requires c κs = search needs
-
 sub-to : tie.Need-sub-to
 sub-to c =
     let c₅ = c .before .before .before .before .before in
     omega (arith, c .row-start .ensures, starts (c₅ .pre .0))
-
-row-length-requires : tie.Need-row-length-requires
-row-length-requires c κs = search needs
 
 sub-blend-within : tie.Need-sub-blend-within
 sub-blend-within c =
@@ -69,9 +63,6 @@ blend-within-requires c κs =
       planned-is _ _ (s .pre .2) .0,
     )
 
-same-length : tie.Need-same-length
-same-length c = search needs
-
 returns : tie.Need-returns
 returns c =
     let d = c .before .before in
@@ -101,12 +92,12 @@ within-row-spec =
     (tie.spec
     identity-row-start-requires
     sub-from
-    row-start-requires
+    (λ c κs. search needs)
     sub-to
-    row-length-requires
+    (λ c κs. search needs)
     sub-blend-within
     part-blend-within-start
     part-blend-within-end
     blend-within-requires
-    same-length
+    (λ c. search needs)
     returns)

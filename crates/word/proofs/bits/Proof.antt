@@ -16,21 +16,6 @@ width c = c .args .hi + 1 - c .args .lo
 modulus : (c : tie.Start) → 1 * 2 ^ width c % 18446744073709551616 ≡ 2 ^ width c
 modulus c = rw (shl-exact {a = 1} 1 (width c) 64 (lit< tt) (omega arith), one-mul)
 
-shr-result : tie.Need-shr-result
-shr-result c = search needs
-
-add-result : tie.Need-add-result
-add-result c = search needs
-
-sub-result : tie.Need-sub-result
-sub-result c = search needs
-
-cast-result : tie.Need-cast-result
-cast-result c = search needs
-
-shl-result : tie.Need-shl-result
-shl-result c = search needs
-
 rem-result : tie.Need-rem-result
 rem-result c = rw (modulus c) (pow-pos (width c))
 
@@ -46,11 +31,11 @@ pub bits-spec : {M : Type 1} → statement M
 bits-spec =
     tie.close
     (tie.spec
-    shr-result
-    add-result
-    sub-result
-    cast-result
-    shl-result
+    (λ c. search needs)
+    (λ c. search needs)
+    (λ c. search needs)
+    (λ c. search needs)
+    (λ c. search needs)
     rem-result
     cast-result-2
     returns)

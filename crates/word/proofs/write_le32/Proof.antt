@@ -6,24 +6,6 @@ use borrow.Author.Needs.{needs}
 use Rattle.word.proofs.write_le32.Statement.{statement}
 use Rattle.word.proofs.write_le32.Tie as tie
 
-cast-store4 : tie.Need-cast-store4
-cast-store4 c = search needs
-
-cast-store4-2 : tie.Need-cast-store4-2
-cast-store4-2 c = search needs
-
-cast-store4-3 : tie.Need-cast-store4-3
-cast-store4-3 c = search needs
-
-cast-store4-4 : tie.Need-cast-store4-4
-cast-store4-4 c = search needs
-
-store4-requires : tie.Need-store4-requires
-store4-requires c κs = search needs
-
-same-length : tie.Need-same-length
-same-length c = search needs
-
 returns : tie.Need-returns
 unfolding leBytes byteOf
 returns c =
@@ -35,10 +17,10 @@ pub write-le32-spec : {M : Type 1} → statement M
 write-le32-spec =
     tie.close
     (tie.spec
-    cast-store4
-    cast-store4-2
-    cast-store4-3
-    cast-store4-4
-    store4-requires
-    same-length
+    (λ c. search needs)
+    (λ c. search needs)
+    (λ c. search needs)
+    (λ c. search needs)
+    (λ c κs. search needs)
+    (λ c. search needs)
     returns)

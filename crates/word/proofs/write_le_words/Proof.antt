@@ -21,27 +21,6 @@ abbrev μ-loop : tie.MeasureT-loop
 loop-holds : tie.Need-loop-holds Inv-loop μ-loop
 loop-holds c = let a = c .before .before .args in (omega arith, refl, write-none (a .at) (a .words .now) (a .bytes .now))
 
-mul-write-le32 : tie.Need-mul-write-le32 Inv-loop μ-loop
-mul-write-le32 c = search needs
-
-add-write-le32 : tie.Need-add-write-le32 Inv-loop μ-loop
-add-write-le32 c = search needs
-
-mul-write-le32-2 : tie.Need-mul-write-le32-2 Inv-loop μ-loop
-mul-write-le32-2 c = search needs
-
-shared-slice-read-write-le32 : tie.Need-shared-slice-read-write-le32 Inv-loop μ-loop
-shared-slice-read-write-le32 c = search needs
-
-write-le32-requires : tie.Need-write-le32-requires Inv-loop μ-loop
-write-le32-requires c κs = search needs
-
-add-k : tie.Need-add-k Inv-loop μ-loop
-add-k c = search needs
-
-loop-less : tie.Need-loop-less Inv-loop μ-loop
-loop-less c = search needs
-
 loop-again : tie.Need-loop-again Inv-loop μ-loop
 loop-again c =
     let s = c .before .before .before .before .before .before in
@@ -51,9 +30,6 @@ loop-again c =
       c .before .before .write-le32 .ensures
           ∙ write-next (a .at) (s .loop .k) (a .words .now) (a .bytes .now) (s .loop .bytes) (omega arith) (omega arith) (s .loop .inv .2),
     )
-
-same-length : tie.Need-same-length Inv-loop μ-loop
-same-length c = search needs
 
 returns : tie.Need-returns Inv-loop μ-loop
 returns c =
@@ -67,13 +43,13 @@ write-le-words-spec =
     Inv-loop
     μ-loop
     loop-holds
-    mul-write-le32
-    add-write-le32
-    mul-write-le32-2
-    shared-slice-read-write-le32
-    write-le32-requires
-    add-k
-    loop-less
+    (λ c. search needs)
+    (λ c. search needs)
+    (λ c. search needs)
+    (λ c. search needs)
+    (λ c κs. search needs)
+    (λ c. search needs)
+    (λ c. search needs)
     loop-again
-    same-length
+    (λ c. search needs)
     returns)

@@ -103,10 +103,10 @@ fn cuttings(trials: &mut Trials) -> Agreed {
             for cuts in 0..1u32 << 7 {
                 let mut cut = before.clone();
                 trials.call(&begin(3, batch.len()), &mut cut)?;
-                let told = handed_over(trials, &mut cut, batch, cuts)?;
-                if cut != whole || told != [1, ticket] {
+                let answered = handed_over(trials, &mut cut, batch, cuts)?;
+                if cut != whole || answered != [1, ticket] {
                     return Err(format!(
-                        "from {read}, cut as {cuts:07b}: {told:?} and other buffers than by the whole submit"
+                        "from {read}, cut as {cuts:07b}: {answered:?} and other buffers than by the whole submit"
                     ));
                 }
             }
@@ -118,15 +118,15 @@ fn cuttings(trials: &mut Trials) -> Agreed {
 /// Hands a batch of client 3 over in pieces: bit k cuts it behind byte k. With odd cuttings an empty piece goes before each. What the last piece
 /// answers.
 fn handed_over(trials: &mut Trials, buffers: &mut Buffers, batch: &[u8], cuts: u32) -> Agreed<[u32; 2]> {
-    let (mut from, mut told) = (0, [0; 2]);
+    let (mut from, mut answered) = (0, [0; 2]);
     for to in (1..=batch.len()).filter(|to| *to == batch.len() || cuts >> (to - 1) & 1 == 1) {
         if cuts & 1 == 1 {
             trials.call(&piece(3, &[]), buffers)?;
         }
         let answer = trials.call(&piece(3, &batch[from..to]), buffers)?;
-        (from, told) = (to, [answer.values[0], answer.values[1]]);
+        (from, answered) = (to, [answer.values[0], answer.values[1]]);
     }
-    Ok(told)
+    Ok(answered)
 }
 
 /// Runs while a batch is handed over, as many as there are and one more, at every byte of it; then its rest, other batches, and runs until none

@@ -8,7 +8,7 @@ use borrow.Author.Needs.{needs}
 use Rattle.pixel.proofs.blend.blend_channel.Statement.{statement}
 use Rattle.pixel.proofs.blend.blend_channel.Tie as tie
 
--- what `near` was asked, held
+-- what `div_255` was asked, held
 quotient : (c : tie.After-div-255) → min 255 (c .div-255 .result) ≡ blendedChannel (c .before .before .before .args .s) (c .before .before .before .args .fs) (c .before .before .before .args .d) (c .before .before .before .args .fd)
 unfolding blendedChannel
 quotient c = ap (min 255) (c .div-255 .ensures) ∙ division .held _ ∙ ap (λ n. min 255 (div255 n)) (cc)

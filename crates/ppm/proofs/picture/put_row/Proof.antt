@@ -27,8 +27,8 @@ loop-holds : tie.Need-loop-holds Inv-loop μ-loop
 loop-holds c = (search needs, search needs, search needs, shown-none _ _, refl)
 
 -- the pixel x lies in memory
-fits : (c : tie.In-loop Inv-loop μ-loop) →
-    c .before .loop .from + bytesPerPixel (c .before .before .before .before .before .args .format) ≤ length (now (c .before .before .before .before .before .args .memory))
+fits : (c : tie.In-loop Inv-loop μ-loop) → let c₅ = c .before .before .before .before .before in
+    c .before .loop .from + bytesPerPixel (c₅ .args .format) ≤ length (now (c₅ .args .memory))
 fits c =
     let a = c .before .before .before .before .before .args in
     omega (arith, next (c .before .loop .x) (a .width) (bytesPerPixel (a .format)) (c .loop-test .taken))

@@ -9,7 +9,7 @@ use Rattle.word.proofs.Tests.{and-true}
 use Rattle.range.specs.declared.Range.{Range}
 use Rattle.range.specs.Range.{rangeOf, containedIn}
 use Rattle.surface.specs.Surface.{span}
-use Rattle.ppm.specs.Rectangle.{isSide, surfaceOf, rectangleOf}
+use Rattle.ppm.specs.Rectangle.{isSide, rectangleSurface, rectangleOf}
 use Rattle.ppm.proofs.rectangle.rectangle_of.Statement.{statement}
 use Rattle.ppm.proofs.rectangle.rectangle_of.Tie as tie
 
@@ -33,10 +33,10 @@ good c =
 fits : (c : tie.Else1) → (c .before .before .before .args .width ≤ 4096) × (c .before .before .before .args .height ≤ 4096) × (c .before .before .before .args .stride < 65536)
 fits c = sized _ _ _ (good c)
 
--- the run of bytes that the surface is held to is all of the memory
+-- the range of bytes that the surface must lie in is all of the memory
 lies : (c : tie.After-is-inside) →
     let a = c .before .before .before .before .before .args in
-    containedIn (span (surfaceOf (a .address) (a .stride) (a .width) (a .height) (a .format))) (rangeOf 0 65536) ≡ c .is-inside .result
+    containedIn (span (rectangleSurface (a .address) (a .stride) (a .width) (a .height) (a .format))) (rangeOf 0 65536) ≡ c .is-inside .result
 lies c =
     let memory = c .before .new in
     let first : memory .result .start ≡ 0 = omega (arith, ap (λ (r : Range). r .start) (memory .ensures)) in

@@ -18,9 +18,6 @@ use Rattle.ppm.proofs.words.number_of.Lts as lts
 use Rattle.numerals.proofs.read.Reads as read-reads
 
 -- src/words.rt:20:9
-read-requires : tie.Need-read-requires
-read-requires c κs = search needs
-
 -- src/words.rt:23:9
 returns : tie.Need-returns
 returns c =
@@ -45,4 +42,8 @@ returns-2 : tie.Need-returns-2
 returns-2 c = whole (c .before) .0
 
 pub number-of-spec : {M : Type 1} → statement M
-number-of-spec = tie.close (tie.spec read-requires returns cast-t8 returns-2)
+number-of-spec = tie.close (tie.spec
+    (λ c κs. search needs)
+    returns
+    cast-t8
+    returns-2)

@@ -10,7 +10,8 @@ use Rattle.surface.proofs.Surface.span.Statement.{statement}
 use Rattle.surface.proofs.Surface.span.Tie as tie
 
 -- the last row, 0 where there is none
-last-row : (c : tie.After-row-length) → c .before .before .if1 .last ≡ c .before .before .before .before .before .args .self .height - 1
+last-row : (c : tie.After-row-length) → let c₅ = c .before .before .before .before .before in
+    c .before .before .if1 .last ≡ c₅ .args .self .height - 1
 last-row c = ⊎-elim (λ a. omega arith) (λ a. omega arith) (c .before .before .if1 .came)
 
 add-t8 : tie.Need-add-t8

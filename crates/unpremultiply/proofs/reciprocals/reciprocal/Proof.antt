@@ -6,16 +6,13 @@ use borrow.Author.Needs.{needs}
 use Rattle.unpremultiply.proofs.reciprocals.reciprocal.Statement.{statement}
 use Rattle.unpremultiply.proofs.reciprocals.reciprocal.Tie as tie
 
-mul-result : tie.Need-mul-result
-mul-result c = search needs
-
-shared-slice-read-result : tie.Need-shared-slice-read-result
-shared-slice-read-result c = search needs
-
 returns : tie.Need-returns
 returns c =
     let e = c .before .pre .1 (c .before .args .a) (omega arith) in
     (e, subst (λ (t : ℕ). t ≤ 16711680) (sym e) (reciprocal-small (c .before .args .a)))
 
 pub reciprocal-spec : {M : Type 1} → statement M
-reciprocal-spec = tie.close (tie.spec mul-result shared-slice-read-result returns)
+reciprocal-spec = tie.close (tie.spec
+    (λ c. search needs)
+    (λ c. search needs)
+    returns)

@@ -1,0 +1,4 @@
+-- Rows of pixels.
+pub mod Row
+pub mod Composite
+pub mod Strided

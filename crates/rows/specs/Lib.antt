@@ -1,4 +1,0 @@
--- Rows of pixels.
-pub mod Row
-pub mod Mixed
-pub mod Step

@@ -1,0 +1,4 @@
+-- Laws that this crate's proofs and those of the crates above cite.
+pub mod Parsing
+pub mod Decode
+pub mod Examples

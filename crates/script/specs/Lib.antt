@@ -1,0 +1,3 @@
+-- A list of calls, given as bytes.
+pub mod Script
+pub mod Parsing

@@ -1,8 +1,0 @@
--- Laws that this crate's proofs and those of the crates above cite.
-pub mod Parsing
-pub mod Decode
-pub mod Numbers
-pub mod Turns
-pub mod Going
-pub mod Whole
-pub mod Examples
