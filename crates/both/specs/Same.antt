@@ -6,7 +6,7 @@ use Prim.Native.Nat.{ℕ}
 use Rattle.both.specs.declared.Both.{Both}
 
 -- r is what both answered; the memory that either left
-pub record Same (r : Both) (fast slow : List ℕ) : Type 0 where
+pub record SameRun (r : Both) (fast slow : List ℕ) : Type 0 where
   -- the outcome, and the record that the next call is handed
   pub answers : r .fast ≡ r .slow
   pub memory : fast ≡ slow

@@ -1,6 +1,6 @@
 // The fast engine and the slow one side by side (02, request 13): they give the same memory and answers.
 ghost use mathlib.Core.Path.{_≡_};
-ghost use Rattle.both.specs.Same.{Same};
+ghost use Rattle.both.specs.Same.{SameRun};
 use engine::RunResult;
 use engine_record::EngineRecord;
 
@@ -12,7 +12,7 @@ pub struct Both {
 
 // Runs the oldest batch by both, each in a memory of its own.
 pub fn run_both(engine: EngineRecord, ring: &[u8], memory: &mut [u8], copy: &mut [u8]) -> Both
-    ensures { λ r. ⌜ (now (memory .entry) ≡ now (copy .entry) → Same r (now (memory .exit)) (now (copy .exit))) ⌝ }
+    ensures { λ r. ⌜ (now (memory .entry) ≡ now (copy .entry) → SameRun r (now (memory .exit)) (now (copy .exit))) ⌝ }
 {
     let fast = run::run_by(engine, ring, memory, false);
     let slow = run::run_by(engine, ring, copy, true);

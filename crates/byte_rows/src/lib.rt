@@ -32,8 +32,8 @@ pub fn clear(d: &mut [u8], a: usize, n: usize)
     }
 }
 
-// Copies the sixteen bytes from `from` on over those from `to` on.
-pub fn copy_four(memory: &mut [u8], to: usize, from: usize)
+// Copies a block, which is sixteen bytes: those from `from` on over those from `to` on.
+pub fn copy_block(memory: &mut [u8], to: usize, from: usize)
     requires { ⌜ (to + 16 ≤ length (now memory)) × (from + 16 ≤ length (now memory)) ⌝ }
     ensures { λ _. ⌜ Done (movedByte (now (memory .entry)) to from) (now (memory .entry)) (now (memory .exit)) to (to + 16) ⌝ }
 {
@@ -41,14 +41,14 @@ pub fn copy_four(memory: &mut [u8], to: usize, from: usize)
     store8(memory, to, &r);
 }
 
-// Copies n bytes, a multiple of sixteen. All of a part is loaded before it is stored, so that the compiler need not ask whether rows meet.
-fn copy_fours(memory: &mut [u8], to: usize, from: usize, n: usize)
+// Copies n bytes, a multiple of sixteen. All of a block is loaded before it is stored, so that the compiler need not ask whether rows meet.
+fn copy_blocks(memory: &mut [u8], to: usize, from: usize, n: usize)
     requires { ⌜ Apart (length (now memory)) to from n × (n % 16 ≡ 0) ⌝ }
     ensures { λ _. ⌜ Done (movedByte (now (memory .entry)) to from) (now (memory .entry)) (now (memory .exit)) to (to + n) ⌝ }
 {
     let mut j = 0;
     while j < n {
-        copy_four(memory, to + j, from + j);
+        copy_block(memory, to + j, from + j);
         j += 16;
     }
 }
@@ -71,6 +71,6 @@ pub fn copy_within(memory: &mut [u8], to: usize, from: usize, n: usize)
     ensures { λ _. ⌜ Done (movedByte (now (memory .entry)) to from) (now (memory .entry)) (now (memory .exit)) to (to + n) ⌝ }
 {
     let e = n / 16 * 16;
-    copy_fours(memory, to, from, e);
+    copy_blocks(memory, to, from, e);
     copy_bytes(memory, to, from, e, n);
 }

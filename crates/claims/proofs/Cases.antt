@@ -29,7 +29,7 @@ use Rattle.claims.specs.BatchSemantics.{completionStatusOf}
 use Rattle.claims.specs.Engine.{State, mkState, CallResult, answerOrRefusal, completion, modelAnswerOf, performCall}
 use Rattle.model.specs.Machine.{RefusalNoOp}
 use Rattle.claims.specs.Demand1.{refusalTableOf}
-use Rattle.claims.specs.Demand2.{executed}
+use Rattle.claims.specs.Demand2.{runPerformed}
 
 -- the window as the record holds it
 abbrev pub given : Window → Place
@@ -46,7 +46,7 @@ done (submit client bytes) s = record {
   answer = accepted (s .engine .«next_ticket»);
   after = mkState (submitted (s .engine) client (length bytes)) (copiedIn (s .ring) (writeOffset (s .engine)) bytes) (s .memory);
 }
-done run s = executed s
+done run s = runPerformed s
 done (pending client) s = record { answer = ready (countOf client (readyOf (s .engine .slots))); after = s }
 done (begin client total) s = record { answer = silent; after = mkState (withStaged (s .engine) (begun (s .engine) client total)) (s .ring) (s .memory) }
 done (piece client bytes) s = record {

@@ -19,7 +19,7 @@ use Rattle.engine.specs.Run.{oldest, boundsOfClient, oldestWords, resetOf, olde
 use Rattle.model.specs.Calls.{run}
 use Rattle.claims.specs.Engine.{State, performCall}
 use Rattle.claims.specs.Demand1.{refusalTableOf}
-use Rattle.claims.specs.Demand2.{OfBatch, executed, Demand2}
+use Rattle.claims.specs.Demand2.{OfBatch, runPerformed, Demand2}
 use Rattle.claims.proofs.Confined.{confined}
 use Rattle.claims.proofs.Standing.{standing-before}
 use Rattle.claims.proofs.Cases.{either, by-number}
@@ -34,7 +34,7 @@ of-batch bounds bank words memory = record {
 }
 
 module _ (s : State) where
-  executes : firstRefusal (refusalTableOf run s) ≡ 0 → performCall run s ≡ executed s
+  executes : firstRefusal (refusalTableOf run s) ≡ 0 → performCall run s ≡ runPerformed s
   unfolding either
   executes z = rw (by-number run s, z)
 

@@ -52,8 +52,8 @@ pub record OfBatch (bounds : Bounds) (bank : Bank) (words memory : List ℕ) : T
   pub place : (tasks : ℕ) (fault : Fault) (offset : ℕ) → verdictOf (decodeBatch bounds bank words) ≡ Faulty tasks fault offset → offset < 4 * length words
 
 -- what run answers and leaves: the oldest batch, read from the record's reset values on and within its client's bounds, is judged and drawn
-abbrev pub executed : State → CallResult
-executed s =
+abbrev pub runPerformed : State → CallResult
+runPerformed s =
     let batch = oldest (s .engine) in
     record {
       answer = completed (batch .client) (batch .ticket) (completionStatusOf (oldestVerdict (s .engine) (s .ring)));
@@ -64,7 +64,7 @@ executed s =
 
 pub record OfRun (s : State) : Type 0 where
   -- a run that is not refused: its verdict and its drawing
-  pub executes : firstRefusal (refusalTableOf run s) ≡ 0 → performCall run s ≡ executed s
+  pub executes : firstRefusal (refusalTableOf run s) ≡ 0 → performCall run s ≡ runPerformed s
   -- a fault's place lies in the batch as it was submitted
   pub place : (tasks : ℕ) (fault : Fault) (offset : ℕ) → oldestVerdict (s .engine) (s .ring) ≡ Faulty tasks fault offset → offset < oldest (s .engine) .length
 

@@ -9,7 +9,7 @@ ghost use Rattle.lanes.specs.Lanes.{Done};
 ghost use Rattle.plan.specs.Plan.{Planned};
 ghost use Rattle.byte_rows.specs.Apart.{Apart};
 ghost use Rattle.bytes_within.specs.Within.{blendWithin};
-use byte_rows::copy_four;
+use byte_rows::copy_block;
 use bytes_within::add_bytes;
 use bytes_within::blend_bytes;
 use bytes_within::constant_within;
@@ -63,7 +63,7 @@ fn turn(m: &mut [u8], to: usize, from: usize, p: Plan)
 {
     let t = alphas(m, from);
     if is_opaque(t) & p.copies {
-        copy_four(m, to, from);
+        copy_block(m, to, from);
         return;
     }
     if (t == 0) & p.leaves {
@@ -90,7 +90,7 @@ fn over_turn(m: &mut [u8], to: usize, from: usize)
 {
     let t = alphas(m, from);
     if is_opaque(t) {
-        copy_four(m, to, from);
+        copy_block(m, to, from);
         return;
     }
     if t == 0 {

@@ -33,9 +33,9 @@ unfoldable pub scored : List Entry → List Entry
 scored [] = []
 scored (entry ∷ entries) = cond (scoreHolds Second entry) (submission Second entry ∷ scored entries) (scored entries)
 
-abbrev pub submissions : Edition → List Entry → List Entry
-submissions First entries = entries
-submissions Second entries = scored entries
+abbrev pub submittedEntries : Edition → List Entry → List Entry
+submittedEntries First entries = entries
+submittedEntries Second entries = scored entries
 
 -- ---- of a record that lies in the buffer up to `end` (crate records)
 

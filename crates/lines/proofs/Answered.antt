@@ -102,29 +102,29 @@ module _ (edition : Edition) where
     abbrev drawn : List ℕ
     drawn = batchSemantics (setup edition) .draw (windowIn now (entry .client)) 16384 (entry .batch) (S .memory)
 
-    abbrev submitted : CallResult
-    submitted = performCall (submit (entry .client) (entry .batch)) s
+    abbrev submitReply : CallResult
+    submitReply = performCall (submit (entry .client) (entry .batch)) s
 
     abbrev ran : CallResult
-    ran = performCall run (submitted .after)
+    ran = performCall run (submitReply .after)
 
-    submit-alike : Simulates (setup edition) 32768 submitted (refuseOr (recordRefusal entry) now (enqueue now (entry .client) (entry .batch)))
+    submit-alike : Simulates (setup edition) 32768 submitReply (refuseOr (recordRefusal entry) now (enqueue now (entry .client) (entry .batch)))
     unfolding effect
     submit-alike = rw (← refusal-is count (S .memory) entry) (step-simulates (setup edition) 32768 (submit (entry .client) (entry .batch)) now s (S .related))
 
     -- refused
     module _ (k : ℕ) (e : recordRefusal entry ≡ suc k) where
-      refused-simulates : Simulates (setup edition) 32768 submitted (refuse (suc k) now)
+      refused-simulates : Simulates (setup edition) 32768 submitReply (refuse (suc k) now)
       unfolding refuseOr
       refused-simulates = rw e at submit-alike
 
-      served-no : submitAndRun entry s ≡ submitted
+      served-no : submitAndRun entry s ≡ submitReply
       unfolding submitAndRun
       served-no = rw (refused-simulates .0)
 
     -- accepted
     module _ (e : recordRefusal entry ≡ 0) where
-      accepted-simulates : Simulates (setup edition) 32768 submitted (enqueue now (entry .client) (entry .batch))
+      accepted-simulates : Simulates (setup edition) 32768 submitReply (enqueue now (entry .client) (entry .batch))
       unfolding refuseOr
       accepted-simulates = rw e at submit-alike
 
@@ -137,7 +137,7 @@ module _ (edition : Edition) where
       run-step = rw (S .size)
 
       run-alike : Simulates (setup edition) 32768 ran (runStep (batchSemantics (setup edition)) 16384 taken (taken .waiting))
-      run-alike = rw run-step at (step-simulates (setup edition) 32768 run taken (submitted .after) (accepted-simulates .1))
+      run-alike = rw run-step at (step-simulates (setup edition) 32768 run taken (submitReply .after) (accepted-simulates .1))
 
       completes : ran .answer ≡ completed (entry .client) (count % 4294967296) (verdict edition entry)
       completes = rw (window-is count (S .memory) (entry .client) (owner entry e)) at (run-alike .0)
@@ -156,8 +156,8 @@ module _ (edition : Edition) where
 
     -- what is answered, and where it leads
     record AnsweredStep : Type 0 where
-      submits : submitted .answer ≡ answerOrRefusal (recordRefusal entry) (accepted (ticketOfCount count))
-      runs : (ticket : ℕ) → submitted .answer ≡ accepted ticket → ran .answer ≡ completed (entry .client) ticket (verdict edition entry)
+      submits : submitReply .answer ≡ answerOrRefusal (recordRefusal entry) (accepted (ticketOfCount count))
+      runs : (ticket : ℕ) → submitReply .answer ≡ accepted ticket → ran .answer ≡ completed (entry .client) ticket (verdict edition entry)
       answers : submitAndRun entry s .answer ≡ answerAfter edition count entry
       draws : submitAndRun entry s .after .memory ≡ drawnAfter edition entry (s .memory)
       onward : Stands (countAfter count entry) (submitAndRun entry s .after)

@@ -18,7 +18,7 @@ use Rattle.records.specs.Records.{whole, badVersion, badRecord, cutRecord, file
 use Rattle.records.specs.declared.Edition.the-variants.{First, Second}
 use Rattle.score.specs.Coverage.{isScore}
 use Rattle.score_word.specs.ScoreWord.{isScoreWord}
-use Rattle.editions.specs.Editions.{scored, submissions}
+use Rattle.editions.specs.Editions.{scored, submittedEntries}
 use Rattle.lines.specs.Lines.{completionLine, refusalLine, badScoreLine, recordLine, recordAfter, setup, opening}
 
 -- `0 0 00010001 0 0`
@@ -118,7 +118,7 @@ pub second-one : records Second (2 ∷ 0 ∷ 0 ∷ 0 ∷ 6 ∷ 3 ∷ 63 ∷ 0 �
 unfolding records recordsFrom be32At
 second-one = refl
 
-pub second-submitted : submissions Second (record { client = 3; batch = 63 ∷ 0 ∷ 0 ∷ 0 ∷ 9 ∷ [] } ∷ []) ≡ record { client = 3; batch = 9 ∷ [] } ∷ []
+pub second-submitted : submittedEntries Second (record { client = 3; batch = 63 ∷ 0 ∷ 0 ∷ 0 ∷ 9 ∷ [] } ∷ []) ≡ record { client = 3; batch = 9 ∷ [] } ∷ []
 unfolding scored isScoreWord isScore be32At le ofBits
 second-submitted = refl
 

@@ -92,14 +92,14 @@ module _ (edition : Edition) (ring memory : List ℕ) (before : List Entry) (ent
   abbrev pub reached : State
   reached = submitAndRunAll before (engineOpened edition ring memory)
 
-  abbrev pub submitted : CallResult
-  submitted = performCall (submit (entry .client) (entry .batch)) reached
+  abbrev pub submitReply : CallResult
+  submitReply = performCall (submit (entry .client) (entry .batch)) reached
 
   pub record RecordAnswered : Type 0 where
     -- submit refuses the record for itself alone, or gives it the next ticket
-    pub submits : submitted .answer ≡ answerOrRefusal (recordRefusal entry) (accepted (ticketOfCount count))
+    pub submits : submitReply .answer ≡ answerOrRefusal (recordRefusal entry) (accepted (ticketOfCount count))
     -- "if accepted, runs it": run completes this record, for its own client, with the ticket that submit gave
-    pub runs : (ticket : ℕ) → submitted .answer ≡ accepted ticket → performCall run (submitted .after) .answer ≡ completed (entry .client) ticket (verdict edition entry)
+    pub runs : (ticket : ℕ) → submitReply .answer ≡ accepted ticket → performCall run (submitReply .after) .answer ≡ completed (entry .client) ticket (verdict edition entry)
     -- so this is what its line says
     pub answers : submitAndRun entry reached .answer ≡ answerAfter edition count entry
     pub one-line : OneLine (entryLine entry reached)

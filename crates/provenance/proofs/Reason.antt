@@ -27,7 +27,7 @@ use Rattle.provenance.specs.declared.Touched.{Touched}
 use Rattle.provenance.specs.declared.Touched.the-variants.{NotDrawn, By}
 use Rattle.provenance.specs.Drawn.{Drawn, numbered, readingOf, drawnBy, drawnFrom, tasksOf}
 use Rattle.provenance.specs.Touched.{touchOf, lastFrom, touchedBy}
-use Rattle.provenance.specs.Reason.{zeros, memoryAfter, byteAfter, Wrote, Untouched, True, ProvenanceHolds}
+use Rattle.provenance.specs.Reason.{zeros, memoryDrawn, byteAfter, Wrote, Untouched, True, ProvenanceHolds}
 use Rattle.provenance.proofs.Given.{given}
 use Rattle.provenance.proofs.Blamed.{blames}
 use Rattle.provenance.proofs.Tasks.{tasks-append, tasks-numbered, draw-append, AllRows, rows-append, LastOf, Last, last-is, writes, keeps, untouched}
@@ -99,7 +99,7 @@ module _ (ring memory : List ℕ) (long : length ring ≡ 32768) (size : length 
 
 -- ---- from the start
 
-engine : (entries : List Entry) → submitAndRunAll entries (replayStart First) .memory ≡ memoryAfter (drawnFrom 0 entries)
+engine : (entries : List Entry) → submitAndRunAll entries (replayStart First) .memory ≡ memoryDrawn (drawnFrom 0 entries)
 unfolding replayStart zeros submitAndRunAll acceptedFrom
 engine entries =
     let zero-ring = length-replicate {A = ℕ} 32768 0 in
@@ -122,7 +122,7 @@ module _ (entries : List Entry) (i : ℕ) (l : i < 65536) where
   abbrev answer : Touched
   answer = lastFrom NotDrawn i all
 
-  byte-is : byteAfter entries i ≡ getD (memoryAfter all) i 0
+  byte-is : byteAfter entries i ≡ getD (memoryDrawn all) i 0
   byte-is = ap (λ (m : List ℕ). getD m i 0) (engine entries)
 
   true-by : Last NotDrawn i all answer → True entries i answer
@@ -145,7 +145,7 @@ module _ (entries : List Entry) (i : ℕ) (l : i < 65536) where
         held = w .held;
         wrote = writes (w .before) (w .after) (w .drawn) rows zeros i (w .row) (w .place) inside (w .held);
         later = w .later;
-        stays = byte-is ∙ ap (λ (ds : List Drawn). getD (memoryAfter ds) i 0) (w .among) ∙ keeps (w .before) (w .after) (w .drawn) rows zeros i (w .row) (w .place) inside (w .held) (w .later);
+        stays = byte-is ∙ ap (λ (ds : List Drawn). getD (memoryDrawn ds) i 0) (w .among) ∙ keeps (w .before) (w .after) (w .drawn) rows zeros i (w .row) (w .place) inside (w .held) (w .later);
       })
 
   reason : True entries i (touchedBy entries i)

@@ -33,8 +33,8 @@ unfoldable pub zeros : List ℕ
 zeros = replicate 65536 0
 
 -- memory after these tasks
-abbrev pub memoryAfter : List Drawn → List ℕ
-memoryAfter ds = drawTasks (tasksOf ds) zeros
+abbrev pub memoryDrawn : List Drawn → List ℕ
+memoryDrawn ds = drawTasks (tasksOf ds) zeros
 
 -- byte i of memory after the engine submitted and ran these records
 abbrev pub byteAfter : List Entry → ℕ → ℕ
@@ -64,11 +64,11 @@ pub record Wrote (entries : List Entry) (i : ℕ) (answer : Touch) : Type 0 wher
   pub place : ℕ
   pub held : InRow (drawn .task .output) i row place
   -- it did write the byte: that of its pixel, computed from the memory before it
-  pub wrote : getD (drawTask (drawn .task) (memoryAfter before)) i 0 ≡ outputByte (drawn .task) (memoryAfter before) row place
+  pub wrote : getD (drawTask (drawn .task) (memoryDrawn before)) i 0 ≡ outputByte (drawn .task) (memoryDrawn before) row place
   -- no later one did
   pub later : OutsideAllRows (tasksOf after) i
   -- so the byte at the end is that one
-  pub stays : byteAfter entries i ≡ outputByte (drawn .task) (memoryAfter before) row place
+  pub stays : byteAfter entries i ≡ outputByte (drawn .task) (memoryDrawn before) row place
 
 -- no task of these records drew byte i: it is as at the start
 pub record Untouched (entries : List Entry) (i : ℕ) : Type 0 where
@@ -96,7 +96,7 @@ pub record Blamed (entries : List Entry) (ticket : ℕ) (answer : Explanation) :
 
 pub record ProvenanceHolds : Type 0 where
   -- the engine draws just these tasks, record for record
-  pub engine : (entries : List Entry) → submitAndRunAll entries (replayStart First) .memory ≡ memoryAfter (drawnFrom 0 entries)
+  pub engine : (entries : List Entry) → submitAndRunAll entries (replayStart First) .memory ≡ memoryDrawn (drawnFrom 0 entries)
   -- the reason is true
   pub reason : (entries : List Entry) (i : ℕ) → i < 65536 → True entries i (touchedBy entries i)
   pub blames : (entries : List Entry) (ticket : ℕ) (answer : Explanation) → faultedBy entries ticket ≡ Faulted answer → Blamed entries ticket answer

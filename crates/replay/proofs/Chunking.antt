@@ -22,7 +22,7 @@ use Rattle.records.specs.Records.{Entry, File, records}
 use Rattle.records.specs.Reading.{roomOf, entryIn, fileIn, fileAt, onto, EndedIfBad, ReaderReady, Takes, endingAt}
 use Rattle.records.proofs.Bytes.{room-between}
 use Rattle.records.proofs.Onward.{file-ends, ends-here}
-use Rattle.editions.specs.Editions.{scoreHolds, submission, scored, submissions}
+use Rattle.editions.specs.Editions.{scoreHolds, submission, scored, submittedEntries}
 use Rattle.lines.specs.Lines.{endingLine, recordAfter, printedFrom, linesFrom, lines, engineOpened, replayStart}
 use Rattle.lines.specs.Answered.{submitAndRunAll}
 use Rattle.lines.proofs.Start.{started-engine, starting-engine, started-state, starting-state}
@@ -41,7 +41,7 @@ written-text text line written line′ p = rw (p .size, p .bytes) (take-append-s
 
 -- the records that are submitted, one more or not
 more-left : (edition : Edition) (entry : Entry) (entries : List Entry) (s : State)
-    → submitAndRunAll (submissions edition (entry ∷ entries)) s ≡ submitAndRunAll (submissions edition entries) (recordAfter edition entry s)
+    → submitAndRunAll (submittedEntries edition (entry ∷ entries)) s ≡ submitAndRunAll (submittedEntries edition entries) (recordAfter edition entry s)
 unfolding submitAndRunAll scored
 more-left First entry entries s = refl
 more-left Second entry entries s = go (scoreHolds Second entry) refl
@@ -60,7 +60,7 @@ module _ (edition : Edition) where
   found-prints BadRecord g bytes held rest s over = rw over
 
   found-leaves : (found : Found) (held : List ℕ) (file : File) (s : State)
-      → submitAndRunAll (submissions edition (onto found held file .entries)) s ≡ submitAndRunAll (submissions edition (file .entries)) (foundState edition found held s)
+      → submitAndRunAll (submittedEntries edition (onto found held file .entries)) s ≡ submitAndRunAll (submittedEntries edition (file .entries)) (foundState edition found held s)
   found-leaves Nothing held file s = refl
   found-leaves (OneRecord end) held file s = more-left edition (entryIn held end) (file .entries) s
   found-leaves BadVersion held file s = refl
@@ -94,11 +94,11 @@ module _ (engine : State) (seen text : List ℕ) (r : Replay) (held ring memory 
       ∙ sym (append-assoc text printed (linesFrom edition next (fileAt edition (t .reader) held′ rest)))
 
   step-leaves : (rest : List ℕ)
-      → submitAndRunAll (submissions edition (records edition ((seen ++ bytes) ++ rest) .entries)) engine ≡ submitAndRunAll (submissions edition (fileAt edition (t .reader) held′ rest .entries)) next
+      → submitAndRunAll (submittedEntries edition (records edition ((seen ++ bytes) ++ rest) .entries)) engine ≡ submitAndRunAll (submittedEntries edition (fileAt edition (t .reader) held′ rest .entries)) next
   step-leaves rest =
-      ap (λ (xs : List ℕ). submitAndRunAll (submissions edition (records edition xs .entries)) engine) (append-assoc seen bytes rest)
+      ap (λ (xs : List ℕ). submitAndRunAll (submittedEntries edition (records edition xs .entries)) engine) (append-assoc seen bytes rest)
       ∙ S .leaves (bytes ++ rest)
-      ∙ ap (λ (file : File). submitAndRunAll (submissions edition (file .entries)) here) (T .file rest)
+      ∙ ap (λ (file : File). submitAndRunAll (submittedEntries edition (file .entries)) here) (T .file rest)
       ∙ found-leaves edition (t .found) held′ (fileAt edition (t .reader) held′ rest) here
 
   step-stands : (f : Replay) (ring′ memory′ : List ℕ) → f .edition ≡ edition → f .reader ≡ t .reader → stateOf f ring′ memory′ ≡ next
@@ -111,10 +111,10 @@ module _ (engine : State) (seen text : List ℕ) (r : Replay) (held ring memory 
         ∙ ap (λ (q : Reader). (text ++ printed) ++ linesFrom edition next (fileAt edition q held′ rest)) (sym reader)
         ∙ ap (λ (s : State). (text ++ printed) ++ linesFrom edition s (fileAt edition (f .reader) held′ rest)) (sym state));
     leaves = λ rest.
-        subst (λ (e : Edition). submitAndRunAll (submissions e (records e ((seen ++ bytes) ++ rest) .entries)) engine ≡ submitAndRunAll (submissions e (fileAt e (f .reader) held′ rest .entries)) (stateOf f ring′ memory′)) (sym same)
+        subst (λ (e : Edition). submitAndRunAll (submittedEntries e (records e ((seen ++ bytes) ++ rest) .entries)) engine ≡ submitAndRunAll (submittedEntries e (fileAt e (f .reader) held′ rest .entries)) (stateOf f ring′ memory′)) (sym same)
         (step-leaves rest
-        ∙ ap (λ (q : Reader). submitAndRunAll (submissions edition (fileAt edition q held′ rest .entries)) next) (sym reader)
-        ∙ ap (λ (s : State). submitAndRunAll (submissions edition (fileAt edition (f .reader) held′ rest .entries)) s) (sym state));
+        ∙ ap (λ (q : Reader). submitAndRunAll (submittedEntries edition (fileAt edition q held′ rest .entries)) next) (sym reader)
+        ∙ ap (λ (s : State). submitAndRunAll (submittedEntries edition (fileAt edition (f .reader) held′ rest .entries)) s) (sym state));
   }
 
 state-by : (next : State) (e : EngineRecord) (ring memory : List ℕ) → e ≡ next .engine → ring ≡ next .ring → memory ≡ next .memory → mkState e ring memory ≡ next
@@ -142,11 +142,11 @@ starts edition held ring memory room =
     record {
       ready = record { room = room; few = omega (arith, room-between edition); due = tt };
       prints = λ rest. ap (λ (s : State). linesFrom edition s (records edition rest)) state;
-      leaves = λ rest. ap (submitAndRunAll (submissions edition (records edition rest .entries))) state;
+      leaves = λ rest. ap (submitAndRunAll (submittedEntries edition (records edition rest .entries))) state;
     }
 
 -- of no record nothing is submitted
-none-left : (edition : Edition) (s : State) → submitAndRunAll (submissions edition []) s ≡ s
+none-left : (edition : Edition) (s : State) → submitAndRunAll (submittedEntries edition []) s ≡ s
 unfolding submitAndRunAll scored
 none-left First s = refl
 none-left Second s = refl
@@ -170,12 +170,12 @@ module _ (engine : State) (seen text : List ℕ) (r : Replay) (held ring memory 
       let all : finishedText r line ≡ endingLine (endingAt (r .reader .stage) (r .reader .buffered)) = rw (le-leb 128 (length line) room) in
       ap (λ (xs : List ℕ). text ++ xs) (written-text (finishedText r line) line written line′ prints ∙ all) ∙ end-prints
 
-  left : stateOf r ring memory ≡ submitAndRunAll (submissions own (records own seen .entries)) engine
+  left : stateOf r ring memory ≡ submitAndRunAll (submittedEntries own (records own seen .entries)) engine
   left =
       sym (none-left own (stateOf r ring memory))
-      ∙ ap (λ (es : List Entry). submitAndRunAll (submissions own es) (stateOf r ring memory)) (sym (ends-here own (r .reader) held (S .ready)))
+      ∙ ap (λ (es : List Entry). submitAndRunAll (submittedEntries own es) (stateOf r ring memory)) (sym (ends-here own (r .reader) held (S .ready)))
       ∙ sym (S .leaves [])
-      ∙ ap (λ (xs : List ℕ). submitAndRunAll (submissions own (records own xs .entries)) engine) (append-nil seen)
+      ∙ ap (λ (xs : List ℕ). submitAndRunAll (submittedEntries own (records own xs .entries)) engine) (append-nil seen)
 
 -- ---- the calls, one after the other
 

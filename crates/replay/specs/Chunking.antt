@@ -8,7 +8,7 @@ use Rattle.claims.specs.Engine.{State}
 use Rattle.records.specs.declared.Edition.{Edition}
 use Rattle.records.specs.Records.{records}
 use Rattle.records.specs.Reading.{roomOf, fileAt, ReaderReady}
-use Rattle.editions.specs.Editions.{submissions}
+use Rattle.editions.specs.Editions.{submittedEntries}
 use Rattle.lines.specs.Lines.{engineOpened, linesFrom, lines}
 use Rattle.lines.specs.Answered.{submitAndRunAll}
 use Rattle.replay.specs.declared.Replay.{Replay}
@@ -25,8 +25,8 @@ pub record Stands (engine : State) (seen text : List ℕ) (r : Replay) (held rin
   pub prints : (rest : List ℕ)
       → linesFrom (r .edition) engine (records (r .edition) (seen ++ rest)) ≡ text ++ linesFrom (r .edition) (stateOf r ring memory) (fileAt (r .edition) (r .reader) held rest)
   pub leaves : (rest : List ℕ)
-      → submitAndRunAll (submissions (r .edition) (records (r .edition) (seen ++ rest) .entries)) engine
-      ≡ submitAndRunAll (submissions (r .edition) (fileAt (r .edition) (r .reader) held rest .entries)) (stateOf r ring memory)
+      → submitAndRunAll (submittedEntries (r .edition) (records (r .edition) (seen ++ rest) .entries)) engine
+      ≡ submitAndRunAll (submittedEntries (r .edition) (fileAt (r .edition) (r .reader) held rest .entries)) (stateOf r ring memory)
 
 -- ---- calls
 
@@ -67,4 +67,4 @@ pub record ChunkingIrrelevant (edition : Edition) : Type 0 where
       → Stands engine seen text r held ring memory → 128 ≤ length line → Prints (finishedText r line) line written line′
       → text ++ take written line′ ≡ linesFrom (r .edition) engine (records (r .edition) seen)
   pub left : (engine : State) (seen text : List ℕ) (r : Replay) (held ring memory : List ℕ) → Stands engine seen text r held ring memory
-      → stateOf r ring memory ≡ submitAndRunAll (submissions (r .edition) (records (r .edition) seen .entries)) engine
+      → stateOf r ring memory ≡ submitAndRunAll (submittedEntries (r .edition) (records (r .edition) seen .entries)) engine

@@ -16,7 +16,7 @@ use Rattle.records.specs.declared.Edition.{Edition}
 use Rattle.records.specs.declared.Edition.the-variants.{First, Second}
 use Rattle.records.specs.Records.{records}
 use Rattle.records.proofs.Bytes.{room-between}
-use Rattle.editions.specs.Editions.{scored, submissions}
+use Rattle.editions.specs.Editions.{scored, submittedEntries}
 use Rattle.lines.specs.Lines.{engineOpened, linesFrom}
 use Rattle.lines.specs.Answered.{submitAndRunAll}
 use Rattle.lines.proofs.Start.{started-state}
@@ -118,9 +118,9 @@ finishes r shows line n size line′ P same is =
 
 module _ (edition : Edition) (ring memory : List ℕ) (shows : Bool) (handed : ℕ) (r : Replay) (held ring′ memory′ : List ℕ)
     (R : Reached edition (engineOpened edition ring memory) shows handed r held ring′ memory′) where
-  left : memory′ ≡ submitAndRunAll (submissions edition (records edition (R .seen) .entries)) (engineOpened edition ring memory) .memory
+  left : memory′ ≡ submitAndRunAll (submittedEntries edition (records edition (R .seen) .entries)) (engineOpened edition ring memory) .memory
   left =
-      subst (λ (e : Edition). memory′ ≡ submitAndRunAll (submissions e (records e (R .seen) .entries)) (engineOpened edition ring memory) .memory) (R .of)
+      subst (λ (e : Edition). memory′ ≡ submitAndRunAll (submittedEntries e (records e (R .seen) .entries)) (engineOpened edition ring memory) .memory) (R .of)
       (ap (λ (s : State). s .memory) (chunking edition .left (engineOpened edition ring memory) (R .seen) (R .text) r held ring′ memory′ (R .stands)))
 
   -- something failed before the end

@@ -8,7 +8,7 @@ use lib.ListN.{length, take, replicate}
 use Rattle.claims.specs.Engine.{State}
 use Rattle.records.specs.declared.Edition.{Edition}
 use Rattle.records.specs.Records.{records}
-use Rattle.editions.specs.Editions.{submissions}
+use Rattle.editions.specs.Editions.{submittedEntries}
 use Rattle.lines.specs.Lines.{engineOpened, linesFrom}
 use Rattle.lines.specs.Answered.{submitAndRunAll}
 use Rattle.replay.specs.declared.Replay.{Replay}
@@ -49,7 +49,7 @@ pub record Finishes (r : Replay) (shows : Bool) (line : List ℕ) (handed : ℕ)
 pub record Replayed (edition : Edition) (memory : List ℕ) (shows : Bool) (handed : ℕ) (ok : Bool) (memory′ : List ℕ) : Type 0 where
   pub ring : List ℕ
   pub seen : List ℕ
-  pub left : memory′ ≡ submitAndRunAll (submissions edition (records edition seen .entries)) (engineOpened edition ring memory) .memory
+  pub left : memory′ ≡ submitAndRunAll (submittedEntries edition (records edition seen .entries)) (engineOpened edition ring memory) .memory
   pub lines : ok ≡ true → handed ≡ handedOf shows (linesFrom edition (engineOpened edition ring memory) (records edition seen))
 
 -- the same of a program's own memory: 65,536 zero bytes at the start

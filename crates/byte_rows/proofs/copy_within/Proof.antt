@@ -6,8 +6,8 @@ use borrow.Author.Needs.{needs}
 use Rattle.byte_rows.proofs.copy_within.Statement.{statement}
 use Rattle.byte_rows.proofs.copy_within.Tie as tie
 
-copy-fours-requires : tie.Need-copy-fours-requires
-copy-fours-requires c κs =
+copy-blocks-requires : tie.Need-copy-blocks-requires
+copy-blocks-requires c κs =
     let s = c .before .before in
     (shorter _ (s .args .to) (s .args .from) (s .args .n) _ (omega arith) (s .pre), search needs)
 
@@ -17,8 +17,8 @@ returns c =
     let f = b .before .before .before .before in
     let s = f .before .before .before in
     let a = s .args in
-    more-moved (now (a .memory)) (f .copy-fours .last .0) (b .copy-bytes .last .0) (a .to) (a .from) (a .n) (a .to) (a .n / 16 * 16) (a .n) (s .pre)
-    (omega arith) (omega arith) (omega arith) (omega arith) (f .copy-fours .ensures) (b .copy-bytes .ensures)
+    more-moved (now (a .memory)) (f .copy-blocks .last .0) (b .copy-bytes .last .0) (a .to) (a .from) (a .n) (a .to) (a .n / 16 * 16) (a .n) (s .pre)
+    (omega arith) (omega arith) (omega arith) (omega arith) (f .copy-blocks .ensures) (b .copy-bytes .ensures)
 
 pub copy-within-spec : {M : Type 1} → statement M
-copy-within-spec = tie.close (tie.spec (search needs) copy-fours-requires (λ c κs. search needs) (search needs) returns)
+copy-within-spec = tie.close (tie.spec (search needs) copy-blocks-requires (λ c κs. search needs) (search needs) returns)

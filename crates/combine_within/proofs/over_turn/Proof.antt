@@ -19,7 +19,7 @@ returns c =
     let a = k .before .args in
     let in-m : Bytes (now (a .m)) = λ j. omega (arith, k .slice-known .given j) in
     opaque-within (blendModeFactors SrcOver) (now (a .m)) _ (a .to) (a .from) in-m (λ y. (refl, refl))
-    (sym (full-sum (now (a .m)) (a .from) _ in-m (f .alphas .ensures)) ∙ (sym (t .before .is-opaque .ensures) ∙ t .if1 .taken)) (c .before .before .copy-four .ensures)
+    (sym (full-sum (now (a .m)) (a .from) _ in-m (f .alphas .ensures)) ∙ (sym (t .before .is-opaque .ensures) ∙ t .if1 .taken)) (c .before .before .copy-block .ensures)
 
 returns-2 : tie.Need-returns-2
 returns-2 c =

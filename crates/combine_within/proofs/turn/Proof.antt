@@ -20,7 +20,7 @@ returns c =
     let in-m : Bytes (now (s .args .m)) = λ j. omega (arith, k .slice-known .given j) in
     let b = both _ _ (t .if1 .taken) in
     opaque-within (s .args .p .rule) (now (s .args .m)) _ (s .args .to) (s .args .from) in-m (copies-is (s .args .p) (s .pre .1) (b .1))
-    (sym (full-sum (now (s .args .m)) (s .args .from) _ in-m (f .alphas .ensures)) ∙ (sym (v .is-opaque .ensures) ∙ b .0)) (c .before .before .copy-four .ensures)
+    (sym (full-sum (now (s .args .m)) (s .args .from) _ in-m (f .alphas .ensures)) ∙ (sym (v .is-opaque .ensures) ∙ b .0)) (c .before .before .copy-block .ensures)
 
 returns-2 : tie.Need-returns-2
 returns-2 c =
