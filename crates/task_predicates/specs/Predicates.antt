@@ -22,6 +22,7 @@ isUniform Colour = true
 isUniform GradientX = false
 isUniform GradientY = true
 
+-- the source is one colour
 abbrev pub isColour : SourceMode → Bool
 isColour Buffer = false
 isColour Colour = true
@@ -34,7 +35,7 @@ isPixelMode Pixel = true
 isPixelMode Global = false
 isPixelMode Mixed = false
 
--- the factors of SRC_OVER
+-- the factors of SRC_OVER (01, "Pixels"): 255 for the source, and 255 less the source's alpha for the destination
 abbrev pub isOne : Factor → Bool
 isOne Zero = false
 isOne One = true
@@ -51,6 +52,7 @@ isInverseSourceAlpha InverseSourceAlpha = true
 isInverseSourceAlpha DestinationAlpha = false
 isInverseSourceAlpha InverseDestinationAlpha = false
 
+-- a rule is SRC_OVER
 abbrev pub isSrcOver : BlendFactors → Bool
 isSrcOver rule = isOne (rule .source) && isInverseSourceAlpha (rule .destination)
 

@@ -26,6 +26,7 @@ pub fn is_uniform(source: Source) -> bool
     }
 }
 
+// Whether the source is one colour.
 pub fn is_colour(source: Source) -> bool
     ensures { λ r. ⌜ r ≡ isColour (source .mode) ⌝ }
 {
@@ -50,6 +51,7 @@ pub fn is_pixel_alpha(alpha: Alpha) -> bool
     }
 }
 
+// The factors of SRC_OVER: 255, and 255 less the source's alpha.
 fn is_one(f: Factor) -> bool
     ensures { λ r. ⌜ r ≡ isOne f ⌝ }
 {
@@ -76,6 +78,7 @@ fn is_inverse_source_alpha(f: Factor) -> bool
     }
 }
 
+// Whether a rule is SRC_OVER.
 pub fn is_src_over(rule: BlendFactors) -> bool
     ensures { λ r. ⌜ r ≡ isSrcOver rule ⌝ }
 {
@@ -84,6 +87,7 @@ pub fn is_src_over(rule: BlendFactors) -> bool
     is_one(s) & is_inverse_source_alpha(d)
 }
 
+// Whether the pixels of two surfaces are of one format.
 fn have_one_format(a: Surface, b: Surface) -> bool
     ensures { λ r. ⌜ r ≡ sameFormat (a .format) (b .format) ⌝ }
 {
