@@ -12,7 +12,7 @@ ghost use Rattle.bytes_within.specs.Within.{blendWithin};
 use byte_rows::clear;
 use byte_rows::copy_within;
 use channels::blend_one;
-use constant_rows::held_sum;
+use channels::held_sum;
 use plan::Plan;
 
 // A row under ADD.

@@ -103,3 +103,10 @@ pub fn blend_one(p: Plan, s: u8, d: u8, x: u8, y: u8) -> u8
     let v = wide(y);
     two_products(wide(s), factor(fs, u, v), wide(d), factor(fd, u, v)) as u8
 }
+
+// The sum of two bytes, held at 255: one channel where both factors are 255.
+pub fn held_sum(a: u8, b: u8) -> u8
+    ensures { λ r. ⌜ r ≡ blendedChannel a 255 b 255 ⌝ }
+{
+    if 255 - a < b { 255 } else { a + b }
+}

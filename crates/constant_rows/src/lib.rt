@@ -4,20 +4,14 @@ ghost use mathlib.Core.Bool.{true};
 ghost use Prim.Native.Nat.{_≤_};
 ghost use lib.ListN.{length};
 ghost use Rattle.pixel.specs.Rules.{blendModeFactors};
-ghost use Rattle.pixel.specs.Blending.{blendedChannel};
 ghost use Rattle.pixel.specs.declared.blend.BlendMode.the-variants.{Add};
 ghost use Rattle.lanes.specs.Lanes.{Done};
 ghost use Rattle.plan.specs.Blend.{blendAt};
 ghost use Rattle.plan.specs.Plan.{Planned};
 use byte_rows::clear;
 use byte_rows::copy;
+use channels::held_sum;
 use plan::Plan;
-
-pub fn held_sum(a: u8, b: u8) -> u8
-    ensures { λ r. ⌜ r ≡ blendedChannel a 255 b 255 ⌝ }
-{
-    if 255 - a < b { 255 } else { a + b }
-}
 
 pub fn add_bytes(d: &mut [u8], s: &[u8], a: usize, n: usize)
     requires { ⌜ (a ≤ n) × ((n ≤ length (now d)) × (n ≤ length (now s))) ⌝ }

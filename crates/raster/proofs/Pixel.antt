@@ -22,7 +22,7 @@ use Rattle.row_pixels.specs.Composite.{composite}
 use Rattle.row_pixels.proofs.Straight.{upright-x, upright-y}
 use Rattle.raster.specs.Task.{sourceModeColour, sourceColour, destinationColour, pixelColour}
 use Rattle.raster.specs.Preconditions.{TaskInBounds}
-use Rattle.kinds.specs.Kinds.{isUniform}
+use Rattle.task_predicates.specs.Predicates.{isUniform}
 use Rattle.raster.specs.Row.{uniformColour}
 
 colourBy-same : (m : SourceMode) (s : Source) (memory memory′ : List ℕ) (p : Point) →

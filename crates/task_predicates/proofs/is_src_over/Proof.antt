@@ -1,6 +1,6 @@
 use borrow.Author.Needs.{needs}
-use Rattle.kinds.proofs.is_src_over.Statement.{statement}
-use Rattle.kinds.proofs.is_src_over.Tie as tie
+use Rattle.task_predicates.proofs.is_src_over.Statement.{statement}
+use Rattle.task_predicates.proofs.is_src_over.Tie as tie
 
 returns : tie.Need-returns
 returns c = rw (c .before .is-one .ensures, c .is-inverse-source-alpha .ensures)

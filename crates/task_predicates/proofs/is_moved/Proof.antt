@@ -1,7 +1,7 @@
-use Rattle.kinds.specs.Kinds.{isMoved}
+use Rattle.task_predicates.specs.Predicates.{isMoved}
 use borrow.Author.Needs.{needs}
-use Rattle.kinds.proofs.is_moved.Statement.{statement}
-use Rattle.kinds.proofs.is_moved.Tie as tie
+use Rattle.task_predicates.proofs.is_moved.Statement.{statement}
+use Rattle.task_predicates.proofs.is_moved.Tie as tie
 
 returns : tie.Need-returns
 unfolding isMoved

@@ -1,8 +1,8 @@
 use Rattle.division.specs.Division.{div255}
 use Rattle.pixel.specs.Blending.{blendedChannel}
 use borrow.Author.Needs.{needs}
-use Rattle.constant_rows.proofs.held_sum.Statement.{statement}
-use Rattle.constant_rows.proofs.held_sum.Tie as tie
+use Rattle.channels.proofs.held_sum.Statement.{statement}
+use Rattle.channels.proofs.held_sum.Tie as tie
 
 returns : tie.Need-returns
 unfolding blendedChannel div255

@@ -1,7 +1,7 @@
-use Rattle.kinds.specs.Kinds.{isInPlace}
+use Rattle.task_predicates.specs.Predicates.{isInPlace}
 use borrow.Author.Needs.{needs}
-use Rattle.kinds.proofs.is_in_place.Statement.{statement}
-use Rattle.kinds.proofs.is_in_place.Tie as tie
+use Rattle.task_predicates.proofs.is_in_place.Statement.{statement}
+use Rattle.task_predicates.proofs.is_in_place.Tie as tie
 
 returns : tie.Need-returns
 unfolding isInPlace

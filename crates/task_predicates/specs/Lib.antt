@@ -1,0 +1,2 @@
+-- What is asked of a task's parts.
+pub mod Predicates
