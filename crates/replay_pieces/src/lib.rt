@@ -1,5 +1,5 @@
 // A piece of a replay file fed whole, and its lines handed over to be written: as many bytes as the lines have.
-pub mod lines;
+pub mod gather;
 
 ghost use mathlib.Core.Path.{_≡_};
 ghost use mathlib.Core.Bool.{cond};
@@ -52,7 +52,15 @@ pub fn feed_piece(
     let mut sum = handed;
     let mut ok = true;
     while (used < piece.len()) & ok {
-        let fed = crate::lines::feed_lines(now, held, ring, memory, &piece[used..], &mut out, slow);
+        let fed = crate::gather::feed_lines(
+            now,
+            held,
+            ring,
+            memory,
+            &piece[used..],
+            &mut out,
+            slow,
+        );
         let after = fed.replay;
         let count = fed.used;
         now = after;

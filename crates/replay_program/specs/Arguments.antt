@@ -1,4 +1,4 @@
--- The word that asks a program for the slow engine: 02, request 13, has two engines, and leaves how one is chosen to us.
+-- Internal: the word that asks a program for the slow engine. 02, request 13, has two engines, and leaves it to us how one is chosen.
 use mathlib.Core.List.{List, [], _∷_}
 use Prim.Native.Nat.{ℕ}
 

@@ -10,8 +10,8 @@ use denote.Ref.{now}
 use Rattle.surface.proofs.Parts.{length-mid}
 use Rattle.replay_pieces.proofs.Bounds.{prints-within}
 use borrow.Author.Needs.{needs}
-use Rattle.replay_pieces.proofs.lines.feed_lines.Statement.{statement}
-use Rattle.replay_pieces.proofs.lines.feed_lines.Tie as tie
+use Rattle.replay_pieces.proofs.gather.feed_lines.Statement.{statement}
+use Rattle.replay_pieces.proofs.gather.feed_lines.Tie as tie
 
 abbrev Inv-loop : tie.InvT-loop
 Inv-loop held₀ ring₀ memory₀ input out₀ slow now₀ used₀ written₀ held ring memory out now used written =

@@ -1,8 +1,8 @@
 use lib.ListN.{replicate}
 use Rattle.replay_pieces.proofs.Reaching.{unread}
 use borrow.Author.Needs.{needs}
-use Rattle.replay_io.proofs.program.replay_one.Statement.{statement}
-use Rattle.replay_io.proofs.program.replay_one.Tie as tie
+use Rattle.replay_program.proofs.replay_one.Statement.{statement}
+use Rattle.replay_program.proofs.replay_one.Tie as tie
 
 returns-3 : tie.Need-returns-3
 returns-3 c = record { memory = replicate 65536 0; replayed = unread _ _ _ }

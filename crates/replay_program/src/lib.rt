@@ -4,9 +4,9 @@ ghost use mathlib.Core.Path.{_≡_};
 ghost use mathlib.Core.Bool.{true, cond};
 ghost use Prim.Native.Nat.{_≤_};
 ghost use Rattle.replay_pieces.specs.Reached.{ReplayedInZeros};
-ghost use Rattle.replay_io.specs.Arguments.{slowWord};
-use crate::Replaying;
+ghost use Rattle.replay_program.specs.Arguments.{slowWord};
 use records::Edition;
+use replay_io::Replaying;
 
 // Whether a word asks for the slow engine.
 fn is_slow(text: &[u8]) -> bool
@@ -52,7 +52,7 @@ fn replay_one(
 {
     let mut memory = [0u8; 65536];
     if is_input {
-        return crate::replay_from(
+        return replay_io::replay_from(
             edition,
             libc::STDIN_FILENO,
             b"standard input",
@@ -62,7 +62,7 @@ fn replay_one(
         );
     }
     if is_file {
-        return crate::replay_argument(edition, index, &mut memory, true, slow);
+        return replay_io::replay_argument(edition, index, &mut memory, true, slow);
     }
     io::write_all(libc::STDERR_FILENO, usage);
     Replaying {
