@@ -1,2 +1,2 @@
-// What the engine's calls answer and leave on a record that is lent as bytes: definitions and laws. The calls stand above, in `client_calls` and
-// `batch_calls`. It has no code.
+// What the engine's calls answer and leave on a record that is lent as bytes: definitions and laws. The calls themselves are
+// what `wenditsal` exports. It has no code.

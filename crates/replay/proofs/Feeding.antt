@@ -16,10 +16,10 @@ use Rattle.engine_record.specs.declared.EngineRecord.{EngineRecord}
 use Rattle.claims.specs.Engine.{State, mkState}
 use Rattle.lines.specs.Lines.{endingLine, recordLine, recordAfter}
 use Rattle.replay.specs.declared.Replay.{Replay}
-use Rattle.serving.specs.declared.SubmitRunResult.{SubmitRunResult}
+use Rattle.replay.specs.declared.serving.SubmitRunResult.{SubmitRunResult}
 use Rattle.replay.specs.Calls.{stateOf, foundText, foundState, fedStep, fedHeld, FeedContract, finishedText}
 use Rattle.record_lines.specs.Prints.{Prints}
-use Rattle.serving.specs.SubmitRunContract.{SubmitRunContract}
+use Rattle.replay.specs.SubmitRunContract.{SubmitRunContract}
 use Rattle.record_lines.proofs.Printing.{prints-none}
 
 -- ---- what was found

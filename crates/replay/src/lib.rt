@@ -1,5 +1,7 @@
 // A replay file of either edition read, run and printed, a piece at a time and in constant memory. The caller lends every buffer: `held` for
 // the bytes of an unfinished record, the engine's ring and memory, and `line` for the one line that a call may print.
+mod serving;
+
 ghost use mathlib.Core.Path.{_≡_};
 ghost use Prim.Native.Nat.{_≤_};
 ghost use lib.ListN.{length};
@@ -7,13 +9,13 @@ ghost use Rattle.claims.specs.Engine.{mkState};
 ghost use Rattle.records.specs.Reading.{Lies};
 ghost use Rattle.replay.specs.Calls.{atStart, foundText, foundState, FeedContract, finishedText};
 ghost use Rattle.record_lines.specs.Prints.{Prints};
-ghost use Rattle.serving.specs.SubmitRunContract.{SubmitRunContract};
+ghost use Rattle.replay.specs.SubmitRunContract.{SubmitRunContract};
+use crate::serving::SubmitRunResult;
 use engine_record::EngineRecord;
 use records::Edition;
 use records::Found;
 use records::Reader;
 use records::Stage;
-use serving::SubmitRunResult;
 use text::line;
 
 // Where a replay stands: the edition of the file, the engine, and the reading of the file.
@@ -70,7 +72,7 @@ fn after_found(
 {
     match found {
         Found::Record(end) => {
-            serving::serve_record(edition, engine, held, end, ring, memory, line, slow)
+            crate::serving::serve_record(edition, engine, held, end, ring, memory, line, slow)
         }
         Found::Nothing => SubmitRunResult {
             engine: engine,

@@ -6,8 +6,8 @@ ghost use Rattle.records.specs.declared.Edition.{Edition};
 ghost use Rattle.replay_pieces.specs.Reached.{Reached, Replayed};
 use records::Edition;
 use replay::Replay;
-use replay_lines::LINE;
 use replay_pieces::Progress;
+use replay_pieces::gather::LINE;
 
 // Reads once, and feeds what came.
 fn read_some(

@@ -26,10 +26,10 @@ use Rattle.record_lines.specs.Prints.{Prints}
 use Rattle.replay.specs.Calls.{atStart, finishedText}
 use Rattle.replay.specs.Chunking.{Stands}
 use Rattle.replay.proofs.Chunking.{chunking}
-use Rattle.replay_lines.specs.Gather.{FeedLinesContract}
+use Rattle.replay_pieces.specs.Gather.{FeedLinesContract}
 use Rattle.replay_pieces.specs.Reached.{handedOf, PieceFed, Reached, Finishes, Replayed}
-use Rattle.replay_lines.proofs.Bounds.{prints-within}
-use Rattle.replay_lines.proofs.Gathering.{take-behind}
+use Rattle.replay_pieces.proofs.Bounds.{prints-within}
+use Rattle.replay_pieces.proofs.Gathering.{take-behind}
 
 -- ---- how many bytes are handed over
 

@@ -1,4 +1,6 @@
 // A piece of a replay file fed whole, and its lines handed over to be written: as many bytes as the lines have.
+pub mod gather;
+
 ghost use mathlib.Core.Path.{_≡_};
 ghost use mathlib.Core.Bool.{cond};
 ghost use mathlib.Core.List.{List};
@@ -50,7 +52,15 @@ pub fn feed_piece(
     let mut sum = handed;
     let mut ok = true;
     while (used < piece.len()) & ok {
-        let fed = replay_lines::feed_lines(now, held, ring, memory, &piece[used..], &mut out, slow);
+        let fed = crate::gather::feed_lines(
+            now,
+            held,
+            ring,
+            memory,
+            &piece[used..],
+            &mut out,
+            slow,
+        );
         let after = fed.replay;
         let count = fed.used;
         now = after;

@@ -4,19 +4,15 @@ ghost use mathlib.Core.Path.{_≡_};
 ghost use mathlib.Core.Bool.{true, cond};
 ghost use Prim.Native.Nat.{_≤_};
 ghost use Rattle.replay_pieces.specs.Reached.{ReplayedInZeros};
+ghost use Rattle.replay_program.specs.Arguments.{slowWord};
 use records::Edition;
 use replay_io::Replaying;
 
-fn is_slow(text: &[u8]) -> bool {
-    if text.len() != 6 {
-        return false;
-    }
-    (text[0] == b'-')
-        & (text[1] == b'-')
-        & (text[2] == b's')
-        & (text[3] == b'l')
-        & (text[4] == b'o')
-        & (text[5] == b'w')
+// Whether a word asks for the slow engine.
+fn is_slow(text: &[u8]) -> bool
+    ensures { λ r. ⌜ (r ≡ true → now (text .entry) ≡ slowWord) × (now (text .entry) ≡ slowWord → r ≡ true) ⌝ }
+{
+    check::same(text, b"--slow")
 }
 
 // Which engine the arguments ask for, and which of them comes after that: the file's, where there is one.

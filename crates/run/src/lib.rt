@@ -1,4 +1,6 @@
 // Run: the oldest batch judged and drawn by either engine, and taken out of the queue. It has no `requires`: any record, ring and memory may be handed in.
+pub mod both;
+
 ghost use mathlib.Core.Path.{_≡_};
 ghost use Rattle.engine.specs.Run.{runResult, runMemory, RunBy};
 use engine::Completion;

@@ -27,6 +27,7 @@ use Rattle.model.specs.Windows.{Window}
 use Rattle.model.specs.Calls.{Setup, Call, opens, submit, run, pending, begin, piece, cancel, close, Answer}
 use Rattle.claims.specs.Engine.{State, mkState, modelAnswerOf, performCall, answersOf, stateAfter, answerOrRefusal, initialState, SetUpAccepted}
 use Rattle.claims.proofs.Simulation.{like-model}
+use Rattle.claims.proofs.Ring.{ring-after}
 use Rattle.record_bytes.specs.Read.{recordOf}
 use Rattle.record_bytes.specs.Written.{bytesOf}
 use Rattle.record_bytes.specs.RoundTrip.{Typed}
@@ -333,9 +334,10 @@ module _ (setup : Setup) (before bytes ring memory : List ℕ) (u : SetsUp befor
 pub promise : ServedHolds
 promise setup before bytes ring memory calls said last u p q =
     let e = list calls (record { bytes = bytes; ring = ring; memory = memory }) (initialState setup ring memory) said last p (begins setup before bytes ring memory u) q in
-    let m = like-model setup ring (taken setup before bytes ring memory u) calls memory in
+    let set-up = taken setup before bytes ring memory u in
+    let m = like-model setup ring set-up calls memory in
     record {
       every-answer = e .all ∙ m .every-answer;
       every-byte = e .end .memories ∙ m .every-byte;
-      ring-end = e .end .rings;
+      ring-end = e .end .rings ∙ ring-after setup ring memory set-up calls;
     }

@@ -9,7 +9,8 @@ use Rattle.model.specs.Calls.{Setup, Call, opens, submit, run, pending, begin, 
 use Rattle.model.specs.State.{initialModel}
 use Rattle.model.specs.Model.{answers, modelAfterAll}
 use Rattle.claims.specs.ModelProperties.{batchSemantics}
-use Rattle.claims.specs.Engine.{answerOrRefusal, stateAfter, initialState}
+use Rattle.claims.specs.Engine.{answerOrRefusal}
+use Rattle.claims.specs.Ring.{ringAfterCalls}
 use Rattle.calls.specs.Calls.{SetsUp, Opens, Submits, Begins, HandsOver, Cancels, Closes, Pends, Runs}
 
 -- what the caller lends
@@ -117,12 +118,12 @@ abbrev pub CallsFit32Bits : List Call → Type 0
 CallsFit32Bits [] = Unit {0}
 CallsFit32Bits (c ∷ cs) = CallFits32Bits c × CallsFit32Bits cs
 
--- ---- the promise: every answer and every byte of memory is the reference model's, every byte of the ring the engine's
+-- ---- the promise: every answer, every byte of memory and every byte of the ring is the reference model's
 
 pub record Served (setup : Setup) (ring memory : List ℕ) (calls : List Call) (said : List Answer) (last : CallBuffers) : Type 0 where
   pub every-answer : said ≡ answers (batchSemantics setup) setup (length ring) calls (initialModel memory)
   pub every-byte : last .memory ≡ modelAfterAll (batchSemantics setup) setup (length ring) calls memory .memory
-  pub ring-end : last .ring ≡ stateAfter calls (initialState setup ring memory) .ring
+  pub ring-end : last .ring ≡ ringAfterCalls setup (length ring) 0 calls (initialModel memory) ring
 
 abbrev pub ServedHolds : Type 0
 ServedHolds = (setup : Setup) (before bytes ring memory : List ℕ) (calls : List Call) (said : List Answer) (last : CallBuffers) →

@@ -58,7 +58,12 @@ pub extern "C" fn wenditsal_set_up(
 ) -> u32
     ensures { λ r. ⌜ SetsUp (now (engine .entry)) ring memory common (ruleOf reset) r (now (engine .exit)) ⌝ }
 {
-    client_calls::set_up(engine, ring, memory, common, ResetRule::from_number(reset))
+    if engine.len() != 272 {
+        return 11;
+    }
+    let reply = clients::set_up(ring, memory, common, ResetRule::from_number(reset));
+    let mut none: u32 = 0;
+    results::write_value(engine, reply, &mut none)
 }
 
 // Opens a client with a window; answers its id.
@@ -66,7 +71,9 @@ pub extern "C" fn wenditsal_set_up(
 pub extern "C" fn wenditsal_open(engine: &mut [u8], start: u32, size: u32, client: &mut u32) -> u32
     ensures { λ r. ⌜ Opens (now (engine .entry)) (record { start = start; length = size }) r (now (client .exit)) (now (engine .exit)) ⌝ }
 {
-    client_calls::open(engine, start, size, client)
+    let record = record_decoder::decode(engine);
+    let reply = clients::open(record, start, size);
+    results::write_value(engine, reply, client)
 }
 
 // Puts a client's batch into the ring and the queue; answers its ticket.
@@ -81,7 +88,9 @@ pub extern "C" fn wenditsal_submit(
     ensures { λ r. ⌜ Submits (now (engine .entry)) (now (ring .entry)) client (now (batch .entry))
         r (now (ticket .exit)) (now (engine .exit)) (now (ring .exit)) ⌝ }
 {
-    batch_calls::submit(engine, ring, client, batch, ticket)
+    let record = record_decoder::decode(engine);
+    let reply = submission::submit(record, ring, client, batch);
+    results::write_value(engine, reply, ticket)
 }
 
 // Begins a batch of a total length that a client hands over by pieces.
@@ -89,7 +98,10 @@ pub extern "C" fn wenditsal_submit(
 pub extern "C" fn wenditsal_begin(engine: &mut [u8], ring: &[u8], client: u32, total: usize) -> u32
     ensures { λ r. ⌜ Begins (now (engine .entry)) (now (ring .entry)) client total r (now (engine .exit)) ⌝ }
 {
-    batch_calls::begin(engine, ring, client, total)
+    let record = record_decoder::decode(engine);
+    let reply = submission::begin(record, ring, client, total);
+    let mut none: u32 = 0;
+    results::write_value(engine, reply, &mut none)
 }
 
 // Hands over a piece of it; answers 0 and the bytes still to come, or, of the last, 1 and the ticket. The header has these two as a structure.
@@ -104,7 +116,9 @@ pub extern "C" fn wenditsal_piece(
     ensures { λ r. ⌜ HandsOver (now (engine .entry)) (now (ring .entry)) client (now (piece .entry))
         r (now (progress .exit)) (now (engine .exit)) (now (ring .exit)) ⌝ }
 {
-    batch_calls::piece(engine, ring, client, piece, progress)
+    let record = record_decoder::decode(engine);
+    let reply = submission::piece(record, ring, client, piece);
+    results::write_progress(engine, reply, progress)
 }
 
 // Drops it.
@@ -112,7 +126,10 @@ pub extern "C" fn wenditsal_piece(
 pub extern "C" fn wenditsal_cancel(engine: &mut [u8], client: u32) -> u32
     ensures { λ r. ⌜ Cancels (now (engine .entry)) client r (now (engine .exit)) ⌝ }
 {
-    batch_calls::cancel(engine, client)
+    let record = record_decoder::decode(engine);
+    let reply = submission::cancel(record, client);
+    let mut none: u32 = 0;
+    results::write_value(engine, reply, &mut none)
 }
 
 // Closes a client: its window is filled with zeros, and its id and window are free.
@@ -120,7 +137,10 @@ pub extern "C" fn wenditsal_cancel(engine: &mut [u8], client: u32) -> u32
 pub extern "C" fn wenditsal_close(engine: &mut [u8], memory: &mut [u8], client: u32) -> u32
     ensures { λ r. ⌜ Closes (now (engine .entry)) (now (memory .entry)) client r (now (engine .exit)) (now (memory .exit)) ⌝ }
 {
-    client_calls::close(engine, memory, client)
+    let record = record_decoder::decode(engine);
+    let reply = closing::close(record, memory, client);
+    let mut none: u32 = 0;
+    results::write_value(engine, reply, &mut none)
 }
 
 // Takes the oldest batch; answers client, ticket, status, fault and place. The header has these five as a structure.
@@ -134,7 +154,9 @@ pub extern "C" fn wenditsal_run(
     ensures { λ r. ⌜ Runs (now (engine .entry)) (now (ring .entry)) (now (memory .entry))
         r (now (completion .exit)) (now (engine .exit)) (now (memory .exit)) ⌝ }
 {
-    batch_calls::run(engine, ring, memory, completion)
+    let record = record_decoder::decode(engine);
+    let ran = run::run(record, ring, memory);
+    results::write_completion(engine, ran, completion)
 }
 
 // Answers how many batches of a client are ready.
@@ -142,7 +164,10 @@ pub extern "C" fn wenditsal_run(
 pub extern "C" fn wenditsal_pending(engine: &[u8], client: u32, count: &mut u32) -> u32
     ensures { λ r. ⌜ Pends (now (engine .entry)) client r (now (count .exit)) ⌝ }
 {
-    client_calls::pending(engine, client, count)
+    let record = record_decoder::decode(engine);
+    let words = answers::answer_words(clients::pending(record, client));
+    *count = words[1];
+    words[0]
 }
 
 // Writes the 80 bytes of the batch of the one task with these fields to a buffer.

@@ -9,7 +9,7 @@ use Rattle.replay.proofs.after_found.Tie as tie
 use Rattle.replay.proofs.after_found.Reads as reads
 use Rattle.replay.proofs.after_found.Lts as lts
 use Rattle.record_lines.proofs.bad_version.Reads as bad-version-reads
-use Rattle.serving.proofs.serve_record.Reads as serve-record-reads
+use Rattle.replay.proofs.serving.serve_record.Reads as serve-record-reads
 use Rattle.text.proofs.line.copy.Reads as copy-reads
 
 serve-record-requires : tie.Need-serve-record-requires

@@ -6,6 +6,9 @@ use Rattle.replay_io.proofs.replay_argument.Tie as tie
 returns : tie.Need-returns
 returns c = unread _ _ _
 
+returns-2 : tie.Need-returns-2
+returns-2 c = search needs
+
 pub replay-argument-spec : {M : Type 1} → statement M
 replay-argument-spec =
     tie.close
@@ -19,4 +22,4 @@ replay-argument-spec =
     (λ c κs. search needs)
     (λ c κs. search needs)
     (λ c. search needs)
-    (λ c. search needs))
+    returns-2)

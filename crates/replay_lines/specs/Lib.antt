@@ -1,2 +1,0 @@
--- Lines gathered in one buffer.
-pub mod Gather

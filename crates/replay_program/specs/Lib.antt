@@ -1,0 +1,2 @@
+-- Words that the programs' arguments may be.
+pub mod Arguments

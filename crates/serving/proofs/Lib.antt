@@ -1,2 +1,0 @@
--- Laws of a record submitted and run.
-pub mod Serving

@@ -1,2 +1,0 @@
--- What the call that serves a record leaves.
-pub mod SubmitRunContract
