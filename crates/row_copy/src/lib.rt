@@ -5,7 +5,7 @@ ghost use Prim.Native.Nat.{_+_, _*_, _≤_};
 ghost use lib.ListN.{length};
 ghost use Rattle.pixel.specs.Formats.{bytesPerPixel};
 ghost use Rattle.surface.specs.Drawn.{loadPixel};
-ghost use Rattle.row_pixels.specs.Row.{colourAt, sourcePixelOf, FetchInBounds, rowStored, RowIsWide};
+ghost use Rattle.row_pixels.specs.Row.{colourAt, sourcePixelOf, FetchInBounds};
 ghost use Rattle.row_copy.specs.Held.{HoldsPixels};
 use byte_rows::copy;
 use pixel::Format;
@@ -42,12 +42,4 @@ pub fn fetch_bytes(
     }
     let format = s.format;
     load_row(buffer, width, memory, origin(s, transform, 0, y), format);
-}
-
-// Stores the pixels of a buffer of the same format in all of a row.
-pub fn store_bytes(row: &mut [u8], width: usize, format: Format, source: &[u8])
-    requires { ⌜ (RowIsWide (now row) width format) × (width * bytesPerPixel format ≤ length (now source)) ⌝ }
-    ensures { λ _. ⌜ now (row .exit) ≡ rowStored format (λ x. loadPixel format (now (source .entry)) (x * bytesPerPixel format)) (now (row .entry)) ⌝ }
-{
-    copy(row, source);
 }

@@ -9,6 +9,7 @@ ghost use Rattle.kinds.specs.Kinds.{kindOf};
 ghost use Rattle.raster.specs.Task.{drawTask};
 ghost use Rattle.raster.specs.Preconditions.{Drawable};
 ghost use Rattle.raster.specs.Row.{rowDrawn, drawRow, uniformColour, RowFits, RowDrawable, HoldsRow};
+use byte_rows::copy;
 use byte_rows::copy_within;
 use gradient::colour_at;
 use kinds::Kind;
@@ -18,7 +19,6 @@ use register::Source;
 use register::SourceMode;
 use register::Task;
 use row_copy::fetch_bytes;
-use row_copy::store_bytes;
 use row_pixels::identity_row_start;
 use scanline::fill_row;
 use surface::Surface;
@@ -93,9 +93,8 @@ fn store_at(window: &mut [u8], at: usize, output: Surface, source: &[u8])
     requires { ⌜ RowFits output at (now window) (now source) ⌝ }
     ensures { λ _. ⌜ now (window .exit) ≡ rowDrawn output at (λ x. loadPixel (output .format) (now (source .entry)) (x * bytesPerPixel (output .format))) (now (window .entry)) ⌝ }
 {
-    let format = output.format;
     let end = at + output.row_length();
-    store_bytes(&mut window[at..end], output.width as usize, format, source);
+    copy(&mut window[at..end], source);
 }
 
 // Draws row y of a task: the source row as it is, fetched before the window is lent.

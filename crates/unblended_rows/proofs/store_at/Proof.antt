@@ -1,31 +1,36 @@
-use mathlib.Core.Path.{_≡_, _∙_}
+use mathlib.Core.Path.{_≡_, sym, _∙_}
 use Prim.Native.Nat.{ℕ, _+_, _-_}
 use native.Mathlib.Omega.{arith}
 use denote.Ref.{now}
 use Rattle.surface.specs.Surface.{rowLength}
 use Rattle.surface.proofs.Parts.{length-mid}
-use Rattle.row_copy.proofs.Bytes.{narrower}
+use Rattle.row_copy.proofs.Bytes.{narrower, row-copied}
 use Rattle.raster.proofs.Slices.{row-lent}
 use borrow.Author.Needs.{needs}
 use Rattle.unblended_rows.proofs.store_at.Statement.{statement}
 use Rattle.unblended_rows.proofs.store_at.Tie as tie
 
-store-bytes-requires : tie.Need-store-bytes-requires
-store-bytes-requires c κs =
-    let r = c .before .before in
+copy-requires : tie.Need-copy-requires
+copy-requires c κs =
+    let r = c .before in
     let s = r .before .before .before in
     let a = s .args in
     let k : ℕ = a .at + r .row-length .result - a .at in
     let e : k ≡ rowLength (a .output) = omega (arith, r .row-length .ensures) in
-    (length-mid (a .at) k (now (a .window)) (omega (arith, s .pre .inside)) ∙ e, narrower (a .output .format) (a .output .width) _ (s .pre .room))
+    omega (arith, length-mid (a .at) k (now (a .window)) (omega (arith, s .pre .inside)), narrower (a .output .format) (a .output .width) _ (s .pre .room))
 
 returns : tie.Need-returns
 returns c =
-    let r = c .before .before .before .before .before in
-    let a = r .before .before .before .args in
-    let f = c .before .before .store-bytes in
-    let e : a .at + r .row-length .result - a .at ≡ rowLength (a .output) = omega (arith, r .row-length .ensures) in
-    row-lent (a .output) _ (now (a .window)) (f .last .0) (a .at) _ e (r .before .before .before .pre .inside) (f .ensures)
+    let r = c .before .before .before .before in
+    let s = r .before .before .before in
+    let a = s .args in
+    let f = c .before .before .copy in
+    let k : ℕ = a .at + r .row-length .result - a .at in
+    let e : k ≡ rowLength (a .output) = omega (arith, r .row-length .ensures) in
+    let long = length-mid (a .at) k (now (a .window)) (omega (arith, s .pre .inside)) in
+    row-lent (a .output) _ (now (a .window)) (f .last .0) (a .at) _ e (s .pre .inside)
+    (row-copied (a .output .format) (now (a .source)) _ (f .last .0) (a .output .width) (λ j. omega (arith, r .before .shared-slice-known .given j))
+    (narrower (a .output .format) (a .output .width) _ (s .pre .room)) (long ∙ e) (f .kept .0) (f .ensures))
 
 pub store-at-spec : {M : Type 1} → statement M
 store-at-spec =
@@ -36,7 +41,6 @@ store-at-spec =
     (λ c. search needs)
     (λ c. search needs)
     (λ c. search needs)
-    (λ c. search needs)
-    store-bytes-requires
+    copy-requires
     (λ c. search needs)
     returns)
