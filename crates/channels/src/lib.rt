@@ -92,6 +92,14 @@ pub fn blend_two(p: Plan, s: u16, d: u16, x: u16, y: u16) -> u16
     two_by_factors(s, factor(fs, x, y), d, factor(fd, x, y))
 }
 
+// One channel by two factors.
+pub fn mix_one(s: u8, fs: u16, d: u8, fd: u16) -> u8
+    requires { ⌜ (fs ≤ 255) × (fd ≤ 255) ⌝ }
+    ensures { λ r. ⌜ r ≡ blendedChannel s fs d fd ⌝ }
+{
+    two_products(wide(s), fs, wide(d), fd) as u8
+}
+
 // One channel under any rule; x and y are the alphas of the two pixels.
 pub fn blend_one(p: Plan, s: u8, d: u8, x: u8, y: u8) -> u8
     requires { ⌜ Planned p ⌝ }
@@ -101,7 +109,7 @@ pub fn blend_one(p: Plan, s: u8, d: u8, x: u8, y: u8) -> u8
     let fd = p.destination;
     let u = wide(x);
     let v = wide(y);
-    two_products(wide(s), factor(fs, u, v), wide(d), factor(fd, u, v)) as u8
+    mix_one(s, factor(fs, u, v), d, factor(fd, u, v))
 }
 
 // The sum of two bytes, held at 255: one channel where both factors are 255.

@@ -1,12 +1,14 @@
 -- The colours of a buffer by its bytes: a pass over the bytes is a pass over the colours.
 use mathlib.Core.Path.{_≡_, sym, ap, _∙_}
-use mathlib.Core.Bool.{Bool, true, false, cond}
+use mathlib.Core.Bool.{Bool, true, false, cond, false≢true}
 use mathlib.Core.List.{List}
-use Prim.Native.Nat.{ℕ, _+_, _*_, _≤_, _<_}
+use Prim.Native.Nat.{ℕ, _+_, _*_, _/_, _≤_, _<_}
 use native.Mathlib.Omega.{arith}
 use lib.ListN.{length, getD}
+use borrow.Author.Tests.{eqb-true}
 use Rattle.pixel.specs.Alpha.{withAlpha}
 use Rattle.pixel.specs.declared.blend.AlphaMode.{AlphaMode}
+use Rattle.pixel.specs.declared.blend.AlphaMode.the-variants.{Pixel, Global, Mixed}
 use Rattle.pixel.specs.declared.blend.BlendFactors.{BlendFactors}
 use Rattle.pixel.specs.declared.format.Format.the-variants.{Argb8888}
 use Rattle.register.specs.declared.task.Alpha.{Alpha}
@@ -14,14 +16,17 @@ use Rattle.register.specs.declared.task.Blending.{Blending}
 use Rattle.row_pixels.specs.Row.{colourIn, rowStored}
 use Rattle.row_pixels.specs.Composite.{composite}
 use Rattle.lanes.specs.Lanes.{Done}
+use Rattle.lanes.proofs.Laws.{both}
 use Rattle.lanes.proofs.Passes.{to-end}
 use Rattle.alpha_modes.specs.Mode.{modeAt}
 use Rattle.alpha_modes.proofs.Alphas.{at-alpha, at-other}
-use Rattle.plan.specs.Blend.{blendAt}
+use Rattle.plan.specs.Blend.{alphaAt, blendAt}
+use Rattle.plan.specs.declared.Plan.{Plan}
 use Rattle.unpremultiply.specs.Unpremultiply.{unpremultiplied}
 use Rattle.unpremultiply.specs.Prepared.{dividedAt, preparedAt}
 use Rattle.unpremultiply.proofs.Pixels.{at-alpha as alpha-kept, at-colour}
 use Rattle.row_colours.proofs.Colours.{Row, colour-is, blend-colour, row-is}
+use Rattle.composite.specs.Buffer.{hasConstantAlpha}
 
 module _ (d e : List ℕ) (width : ℕ) (in-d : Row d) (in-e : Row e) (long-d : width * 4 ≤ length d) (long-e : width * 4 ≤ length e) where
   pub mode-colour : (mode : AlphaMode) (g : ℕ) → Done (modeAt mode g d) d e 0 (width * 4) → (x : ℕ) → x < width → colourIn e x ≡ withAlpha mode g (colourIn d x)
@@ -55,6 +60,22 @@ module _ (d e : List ℕ) (width : ℕ) (in-d : Row d) (in-e : Row e) (long-d : 
   unfolding preparedAt
   prepared-colour true = divided-colour
   prepared-colour false = kept-colour
+
+-- ---- a source of one alpha
+
+pub constant-factors : (mode : AlphaMode) (p : Plan) → hasConstantAlpha mode p ≡ true → (p .source .destination ≡ 0) × (p .destination .destination ≡ 0)
+constant-factors Pixel p h = absurd (false≢true h)
+constant-factors Global p h =
+    let b = both _ _ (both _ _ (both _ _ h .0) .0) in
+    (eqb-true (p .source .destination) 0 (b .0), eqb-true (p .destination .destination) 0 (b .1))
+constant-factors Mixed p h = absurd (false≢true h)
+
+-- after the pass that sets its alphas
+pub constant-alphas : (mode : AlphaMode) (p : Plan) (g : ℕ) (t s : List ℕ) (width : ℕ) → hasConstantAlpha mode p ≡ true → Done (modeAt mode g t) t s 0 (width * 4) →
+    (j : ℕ) → j < width * 4 → alphaAt s j ≡ g
+constant-alphas Pixel p g t s width h did j l = absurd (false≢true h)
+constant-alphas Global p g t s width h did j l = did .done (j / 4 * 4 + 3) (omega arith) (omega arith) ∙ at-alpha Global g t (j / 4 * 4 + 3) (omega arith)
+constant-alphas Mixed p g t s width h did j l = absurd (false≢true h)
 
 -- the passes of a row: a premultiplied source divided, alpha modes on both rows, then the rule
 pub mix-is : (blending : Blending) (source destination : Alpha) (rule : BlendFactors) (s t s′ d d′ e : List ℕ) (width : ℕ) → Row s → Row t → Row s′ → Row d → Row d′ → Row e →

@@ -3,13 +3,31 @@ ghost use mathlib.Core.Path.{_≡_};
 ghost use Rattle.pixel.specs.declared.format.Format.the-variants.{Argb8888};
 ghost use Rattle.row_pixels.specs.Row.{colourIn, rowStored};
 ghost use Rattle.row_pixels.specs.Composite.{composite};
-ghost use Rattle.composite.specs.Buffer.{Mixes};
+ghost use Rattle.composite.specs.Buffer.{Mixes, hasConstantAlpha};
 use alpha_modes::alpha_row;
 use combine::blend_row;
+use constant_rows::constant_alpha_row;
+use pixel::AlphaMode;
 use plan::Plan;
 use register::Alpha;
 use register::Blending;
 use unpremultiply::prepare_row;
+
+// Whether all pixels of a source go by the same two factors, because it has one alpha and the rule looks at no other. Rules that have rows of their own,
+// which are as fast or faster, are left to those.
+fn has_constant_alpha(mode: AlphaMode, p: Plan) -> bool
+    ensures { λ r. ⌜ r ≡ hasConstantAlpha mode p ⌝ }
+{
+    let fs = p.source;
+    let fd = p.destination;
+    match mode {
+        AlphaMode::Pixel => false,
+        AlphaMode::Global => {
+            (fs.destination == 0) & (fd.destination == 0) & !p.over & !p.constant
+        }
+        AlphaMode::Mixed => false,
+    }
+}
 
 pub fn mix_row(
     d: &mut [u8],
@@ -28,5 +46,9 @@ pub fn mix_row(
     prepare_row(s, width, blending.premultiplied);
     alpha_row(s, width, sm, source.global);
     alpha_row(d, width, dm, destination.global);
+    if has_constant_alpha(sm, p) {
+        constant_alpha_row(d, s, source.global, p);
+        return;
+    }
     blend_row(d, s, p);
 }

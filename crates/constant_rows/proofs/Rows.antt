@@ -35,6 +35,14 @@ module _ (rule : BlendFactors) (s d e : List ℕ) (n : ℕ) where
       Done (λ j. 0) d e 0 n → Done (blendAt rule s d) d e 0 n
   cleared-row is-s is-d did = by-factors 0 0 (λ j. 0) is-s is-d (λ j. sym (emptied (getD s j 0) (getD d j 0))) did
 
+-- a row of one alpha, under a rule that does not go by the alphas of the other row
+pub constant-alpha-row : (rule : BlendFactors) (s d e : List ℕ) (n a fs fd : ℕ) → ((j : ℕ) → j < n → alphaAt s j ≡ a) →
+    ((y : ℕ) → factorValue (rule .source) a y ≡ fs) → ((y : ℕ) → factorValue (rule .destination) a y ≡ fd) →
+    Done (λ j. blendedChannel (getD s j 0) fs (getD d j 0) fd) d e 0 n → Done (blendAt rule s d) d e 0 n
+unfolding blendAt
+constant-alpha-row rule s d e n a fs fd alphas is-s is-d did =
+    same-done _ (blendAt rule s d) d e 0 n (λ j h l. sym (rw (alphas j l, is-s (alphaAt d j), is-d (alphaAt d j)))) did
+
 pub left-row : (rule : BlendFactors) (s d : List ℕ) (n : ℕ) → Bytes d → ((x y : ℕ) → factorValue (rule .source) x y ≡ 0) → ((x y : ℕ) → factorValue (rule .destination) x y ≡ 255) →
     Done (blendAt rule s d) d d 0 n
 left-row rule s d n in-d is-s is-d =

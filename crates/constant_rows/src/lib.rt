@@ -1,17 +1,21 @@
-// A row under a rule whose factors do not go by alpha: each is 0 or 255.
+// Rows under a rule whose factors are the same all along: because they do not go by alpha, and so are 0 or 255 each, or because the source has one alpha.
 ghost use mathlib.Core.Path.{_≡_};
 ghost use mathlib.Core.Bool.{true};
-ghost use Prim.Native.Nat.{_≤_};
-ghost use lib.ListN.{length};
+ghost use Prim.Native.Nat.{ℕ, _≤_, _<_};
+ghost use lib.ListN.{length, getD};
+ghost use Rattle.pixel.specs.Blending.{blendedChannel};
 ghost use Rattle.pixel.specs.Rules.{blendModeFactors};
 ghost use Rattle.pixel.specs.declared.blend.BlendMode.the-variants.{Add};
 ghost use Rattle.lanes.specs.Lanes.{Done};
-ghost use Rattle.plan.specs.Blend.{blendAt};
+ghost use Rattle.plan.specs.Blend.{alphaAt, blendAt};
 ghost use Rattle.plan.specs.Plan.{Planned};
 use byte_rows::clear;
 use byte_rows::copy;
 use channels::held_sum;
+use channels::mix_one;
+use lanes::wide;
 use plan::Plan;
+use plan::factor;
 
 pub fn add_bytes(d: &mut [u8], s: &[u8], a: usize, n: usize)
     requires { ⌜ (a ≤ n) × ((n ≤ length (now d)) × (n ≤ length (now s))) ⌝ }
@@ -44,4 +48,29 @@ pub fn constant_row(d: &mut [u8], s: &[u8], p: Plan)
         return;
     }
     clear(d, 0, n);
+}
+
+// The row d, mixed with the row s by two factors.
+fn mix_bytes(d: &mut [u8], s: &[u8], fs: u16, fd: u16)
+    requires { ⌜ (length (now d) ≤ length (now s)) × ((fs ≤ 255) × (fd ≤ 255)) ⌝ }
+    ensures { λ _. ⌜ Done (λ j. blendedChannel (getD (now (s .entry)) j 0) fs (getD (now (d .entry)) j 0) fd) (now (d .entry)) (now (d .exit)) 0 (length (now (d .entry))) ⌝ }
+{
+    let n = d.len();
+    let mut j = 0;
+    while j < n {
+        d[j] = mix_one(s[j], fs, d[j], fd);
+        j += 1;
+    }
+}
+
+// The row d, blended with a row s of one alpha, under a rule that does not go by the alphas of d.
+pub fn constant_alpha_row(d: &mut [u8], s: &[u8], alpha: u8, p: Plan)
+    requires { ⌜ ((length (now d) ≤ length (now s)) × ((j : ℕ) → j < length (now d) → alphaAt (now s) j ≡ alpha))
+        × (Planned p × ((p .source .destination ≡ 0) × (p .destination .destination ≡ 0))) ⌝ }
+    ensures { λ _. ⌜ Done (blendAt (p .rule) (now (s .entry)) (now (d .entry))) (now (d .entry)) (now (d .exit)) 0 (length (now (d .entry))) ⌝ }
+{
+    let fs = p.source;
+    let fd = p.destination;
+    let a = wide(alpha);
+    mix_bytes(d, s, factor(fs, a, 0), factor(fd, a, 0));
 }

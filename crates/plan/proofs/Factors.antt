@@ -93,6 +93,15 @@ nothing InverseSourceAlpha x y c n = absurd (false≢true c)
 nothing DestinationAlpha x y c n = absurd (false≢true c)
 nothing InverseDestinationAlpha x y c n = absurd (false≢true c)
 
+-- a factor that does not go by the destination's alpha
+apart : (f : Factor) (x y z : ℕ) → masksOf f .destination ≡ 0 → factorValue f x y ≡ factorValue f x z
+apart Zero x y z e = refl
+apart One x y z e = refl
+apart SourceAlpha x y z e = refl
+apart InverseSourceAlpha x y z e = refl
+apart DestinationAlpha x y z e = absurd (omega arith)
+apart InverseDestinationAlpha x y z e = absurd (omega arith)
+
 -- ---- a plan
 
 pub plan-is : (rule : BlendFactors) (s d : Masks) (o₁ o₂ a₁ a₂ : Bool) (f₁ f₂ e₁ e₂ : ℕ) → s ≡ masksOf (rule .source) → d ≡ masksOf (rule .destination) →
@@ -152,6 +161,14 @@ module _ (p : Plan) (planned : Planned p) where
 
   pub destination-nothing : p .constant ≡ true → (p .destination .flip ≡ 255 → ⊥) → (x y : ℕ) → factorValue (p .rule .destination) x y ≡ 0
   destination-nothing k n x y = nothing (p .rule .destination) x y (constant-are k .1) (λ e. n (destination-flip ∙ e))
+
+  pub source-apart : p .source .destination ≡ 0 → (x y z : ℕ) → factorValue (p .rule .source) x y ≡ factorValue (p .rule .source) x z
+  unfolding planOf
+  source-apart e x y z = apart (p .rule .source) x y z (sym (ap (λ (q : Plan). q .source .destination) planned) ∙ e)
+
+  pub destination-apart : p .destination .destination ≡ 0 → (x y z : ℕ) → factorValue (p .rule .destination) x y ≡ factorValue (p .rule .destination) x z
+  unfolding planOf
+  destination-apart e x y z = apart (p .rule .destination) x y z (sym (ap (λ (q : Plan). q .destination .destination) planned) ∙ e)
 
   pub copies-is : p .copies ≡ true → (y : ℕ) → (factorValue (p .rule .source) 255 y ≡ 255) × (factorValue (p .rule .destination) 255 y ≡ 0)
   unfolding planOf
