@@ -14,7 +14,7 @@ use composite::mix_row;
 use fetch_rows::fetch_row;
 use fetch_rows::fetch_transformed;
 use fetch_rows::fill_buffer;
-use gradient_rows::fetch_gradient;
+use fetch_rows::gradients::fetch_gradient;
 use kinds::Finish;
 use kinds::finish_of;
 use pixel::Format;

@@ -2,3 +2,4 @@
 pub mod Results
 pub mod Reporting
 pub mod RefusedNoChange
+pub mod Serving

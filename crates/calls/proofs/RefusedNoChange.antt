@@ -18,7 +18,7 @@ use Rattle.engine.specs.Run.{runResult, runNumber}
 use Rattle.engine.specs.Close.{closeNumber}
 use Rattle.engine.proofs.Zeros.{close-left}
 use Rattle.engine.proofs.Preservation.{run-number, run-refused-no-op}
-use Rattle.answers.specs.Answers.{lastOf, fiveOf}
+use Rattle.engine.specs.Answers.{lastOf, fiveOf}
 use Rattle.record_bytes.specs.Read.{recordOf}
 use Rattle.record_bytes.specs.Written.{bytesOf}
 use Rattle.calls.specs.Calls.{setUpNumber, SetsUp, ValueWritten, Opens, Submits, NumberWritten, Begins, HandsOver, Cancels, Closes, Pends, Runs}

@@ -11,8 +11,8 @@ use Rattle.engine.specs.Outcome.{runRefusalOf as refusalOf}
 use Rattle.engine.specs.Run.{runResult, runMemory}
 use Rattle.engine.proofs.Refusals.{run-allowed}
 use Rattle.engine.proofs.Preservation.{run-number}
-use Rattle.answers.specs.Answers.{runWords, OutcomeFitsWords}
-use Rattle.answers.proofs.Numbers.{run-small}
+use Rattle.engine.specs.Answers.{runWords, OutcomeFitsWords}
+use Rattle.engine.proofs.answers.Numbers.{run-small}
 use Rattle.record_bytes.specs.Read.{recordOf}
 use Rattle.record_bytes.specs.Written.{bytesOf, written}
 use Rattle.calls.specs.Calls.{Reports, Runs}

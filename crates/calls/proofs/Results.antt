@@ -16,7 +16,7 @@ use Rattle.queue.specs.Calls.{unlessRefused, setUpResult, openResult, submitRes
 use Rattle.queue.proofs.Refusals.{open-allowed, submit-allowed, piece-allowed, cancel-allowed, close-allowed}
 use Rattle.queue.proofs.Preservation.{open-number, submit-number, begin-number, piece-number, cancel-number, close-number}
 use Rattle.engine.specs.Close.{closeMemory}
-use Rattle.answers.specs.Answers.{shortAnswer, pieceWords}
+use Rattle.engine.specs.Answers.{shortAnswer, pieceWords}
 use Rattle.record_bytes.specs.Read.{recordOf}
 use Rattle.record_bytes.specs.Written.{bytesOf, written}
 use Rattle.record_bytes.proofs.Cases.{valid-record, record-size, written-whole}

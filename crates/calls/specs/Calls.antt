@@ -17,7 +17,7 @@ use Rattle.engine.specs.declared.RunResult.{RunResult}
 use Rattle.engine.specs.Outcome.{runRefusalOf as refusalOf}
 use Rattle.engine.specs.Run.{runResult, runMemory}
 use Rattle.engine.specs.Close.{closeMemory}
-use Rattle.answers.specs.Answers.{lastOf, fiveOf}
+use Rattle.engine.specs.Answers.{lastOf, fiveOf}
 use Rattle.record_bytes.specs.Read.{recordOf}
 use Rattle.record_bytes.specs.Written.{bytesOf}
 

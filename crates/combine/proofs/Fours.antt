@@ -14,11 +14,11 @@ use Rattle.pixel.specs.declared.blend.BlendMode.the-variants.{SrcOver, Add}
 use Rattle.lanes.specs.Lanes.{two, Done}
 use Rattle.lanes.proofs.Laws.{under-or, two-low, two-high, two-small}
 use Rattle.lanes.proofs.Passes.{same-done}
-use Rattle.opacity.specs.Alphas.{alphasAre}
-use Rattle.opacity.proofs.Sums.{are}
+use Rattle.lanes.specs.Alphas.{alphasAre}
+use Rattle.lanes.proofs.opacity.Sums.{are}
 use Rattle.plan.specs.Blend.{alphaAt, blendAt, duo, topAt, laneAt}
 use Rattle.plan.proofs.Blends.{Bytes}
-use Rattle.channels.proofs.Channels.{duo-low, duo-high, copied, stayed, cleared}
+use Rattle.plan.proofs.channels.Channels.{duo-low, duo-high, copied, stayed, cleared}
 
 -- lane k of the rows s and d from o on, blended
 unfoldable pub twoAt : BlendFactors → List ℕ → List ℕ → ℕ → ℕ → ℕ

@@ -1,4 +1,7 @@
 // Rows of ARGB8888 pixels blended in place, under any rule: four pixels at a time, and what is left of a row byte by byte.
+pub mod constant;
+pub mod parts;
+
 ghost use mathlib.Core.Path.{_≡_};
 ghost use Prim.Native.Nat.{_+_, _%_, _≤_};
 ghost use lib.ListN.{length};
@@ -7,18 +10,18 @@ ghost use Rattle.pixel.specs.declared.blend.BlendMode.the-variants.{SrcOver};
 ghost use Rattle.lanes.specs.Lanes.{Done};
 ghost use Rattle.plan.specs.Blend.{blendAt};
 ghost use Rattle.plan.specs.Plan.{Planned};
-use combine_parts::blend_bytes;
-use combine_parts::blend8;
-use combine_parts::over8;
-use constant_rows::add_bytes;
-use constant_rows::constant_row;
+use crate::constant::add_bytes;
+use crate::constant::constant_row;
+use crate::parts::blend_bytes;
+use crate::parts::blend8;
+use crate::parts::over8;
 use lanes::copy;
 use lanes::load8;
 use lanes::load8c;
+use lanes::opacity::alphas;
+use lanes::opacity::is_opaque;
+use lanes::opacity::words;
 use lanes::store8;
-use opacity::alphas;
-use opacity::is_opaque;
-use opacity::words;
 use plan::Plan;
 
 // Four pixels, at o.

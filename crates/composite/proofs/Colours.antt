@@ -18,14 +18,14 @@ use Rattle.row_pixels.specs.Composite.{composite}
 use Rattle.lanes.specs.Lanes.{Done}
 use Rattle.lanes.proofs.Laws.{both}
 use Rattle.lanes.proofs.Passes.{to-end}
-use Rattle.alpha_modes.specs.Mode.{modeAt}
-use Rattle.alpha_modes.proofs.Alphas.{at-alpha, at-other}
+use Rattle.composite.specs.Mode.{modeAt}
+use Rattle.composite.proofs.alpha_modes.Alphas.{at-alpha, at-other}
 use Rattle.plan.specs.Blend.{alphaAt, blendAt}
 use Rattle.plan.specs.declared.Plan.{Plan}
 use Rattle.unpremultiply.specs.Unpremultiply.{unpremultiplied}
 use Rattle.unpremultiply.specs.Prepared.{dividedAt, preparedAt}
 use Rattle.unpremultiply.proofs.Pixels.{at-alpha as alpha-kept, at-colour}
-use Rattle.row_colours.proofs.Colours.{Row, colour-is, blend-colour, row-is}
+use Rattle.row_pixels.proofs.RowColours.Colours.{Row, colour-is, blend-colour, row-is}
 use Rattle.composite.specs.Buffer.{hasConstantAlpha}
 
 module _ (d e : List ℕ) (width : ℕ) (in-d : Row d) (in-e : Row e) (long-d : width * 4 ≤ length d) (long-e : width * 4 ≤ length e) where

@@ -1,12 +1,14 @@
 // A row of colours blended with a row of colours, in place: a premultiplied source divided, alpha modes, then the rule.
+pub mod alpha_modes;
+
 ghost use mathlib.Core.Path.{_≡_};
 ghost use Rattle.pixel.specs.declared.format.Format.the-variants.{Argb8888};
 ghost use Rattle.row_pixels.specs.Row.{colourIn, rowStored};
 ghost use Rattle.row_pixels.specs.Composite.{composite};
 ghost use Rattle.composite.specs.Buffer.{Mixes, hasConstantAlpha};
-use alpha_modes::alpha_row;
+use crate::alpha_modes::alpha_row;
 use combine::blend_row;
-use constant_rows::constant_alpha_row;
+use combine::constant::constant_alpha_row;
 use pixel::AlphaMode;
 use plan::Plan;
 use register::Alpha;

@@ -1,4 +1,6 @@
 // The oldest batch of a record: when run is refused, where that batch is, what it may touch and begins with, and the record without it.
+pub mod closing;
+
 ghost use mathlib.Core.Path.{_≡_};
 ghost use mathlib.Core.Bool.{true};
 ghost use Prim.Native.Nat.{_≤_, _<_};
@@ -42,7 +44,7 @@ pub fn bounds_for(engine: EngineRecord, client: u32) -> Bounds
     let setup = engine.setup;
     let clients = engine.clients;
     Bounds {
-        window: clients::window_of(clients, client),
+        window: queue::clients::window_of(clients, client),
         common_length: setup.common,
     }
 }
@@ -79,7 +81,7 @@ pub fn oldest_slot(engine: EngineRecord, ready: usize) -> usize
     ensures { λ r. ⌜ r ≡ slotOfTicket (oldestTicket engine) (engine .slots) ⌝ }
 {
     let slots = engine.slots;
-    slots::slot_of_age(slots, engine.next_ticket, ready)
+    engine_record::slot_table::slot_of_age(slots, engine.next_ticket, ready)
 }
 
 // The slots with one of them free.

@@ -10,7 +10,7 @@ use Rattle.word.proofs.Tests.{and-true}
 use Rattle.pixel.specs.Formats.{isFormat}
 use Rattle.pixel.specs.Alpha.{isAlphaMode}
 use Rattle.pixel.specs.Blending.{isFactor}
-use Rattle.gradient.specs.declared.Steps.{Steps}
+use Rattle.pixel.specs.declared.gradient.Steps.{Steps}
 use Rattle.encoder.specs.declared.fields.SurfaceFields.{SurfaceFields}
 use Rattle.encoder.specs.declared.fields.AlphaFields.{AlphaFields}
 use Rattle.encoder.specs.declared.fields.TransformFields.{TransformFields}

@@ -9,7 +9,7 @@ use lib.ListN.{length, length-append}
 use borrow.Author.Tests.{ne-eqb, le-ltb}
 use Rattle.word.specs.Field.{field}
 use Rattle.register.specs.Table.{registerKindOf, isWritable, acceptsWord, sourceControlAccepts, destinationControlAccepts, outputControlAccepts, sizeAccepts, strideAccepts, stepAccepts, blendingAccepts}
-use Rattle.gradient.specs.declared.Steps.{Steps}
+use Rattle.pixel.specs.declared.gradient.Steps.{Steps}
 use Rattle.register.specs.Bank.{surfaceAfterWrite, stepsAfterWrite, bankAfterWrite, writeRegister}
 use Rattle.register.specs.Task.{taskOf}
 use Rattle.register.specs.declared.bank.Bank.{Bank}

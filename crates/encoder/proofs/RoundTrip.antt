@@ -9,7 +9,7 @@ use lib.ListN.{length}
 use Rattle.word.specs.Word.{words}
 use Rattle.word.proofs.Tests.{and-true}
 use Rattle.word.proofs.Words.{Below32, words-back}
-use Rattle.gradient.specs.declared.Steps.{Steps}
+use Rattle.pixel.specs.declared.gradient.Steps.{Steps}
 use Rattle.register.specs.Bank.{resetSteps}
 use Rattle.register.specs.declared.bank.Bank.{Bank}
 use Rattle.task_check.specs.declared.task.Bounds.{Bounds}

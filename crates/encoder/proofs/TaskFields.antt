@@ -4,7 +4,7 @@ use mathlib.Core.Bool.{true}
 use Prim.Native.Nat.{ℕ, _+_, _*_, _^_, _<_}
 use borrow.Author.Tests.{le-leb}
 use Rattle.word.specs.Field.{field}
-use Rattle.gradient.specs.declared.Steps.{Steps}
+use Rattle.pixel.specs.declared.gradient.Steps.{Steps}
 use Rattle.register.specs.Table.{sourceControlAccepts, destinationControlAccepts, outputControlAccepts, sizeAccepts, strideAccepts, stepAccepts, blendingAccepts}
 use Rattle.register.specs.Task.{surfaceOf, transformOf, alphaOf, sourceOfBank, destinationOf, blendingOf, taskOf}
 use Rattle.encoder.specs.declared.fields.SurfaceFields.{SurfaceFields}

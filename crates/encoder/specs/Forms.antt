@@ -2,7 +2,7 @@
 use Prim.Native.Nat.{ℕ}
 use mathlib.Core.Bool.{Bool, _&&_}
 use mathlib.Core.List.{List}
-use Rattle.gradient.specs.declared.Steps.{Steps}
+use Rattle.pixel.specs.declared.gradient.Steps.{Steps}
 use Rattle.register.specs.Bank.{resetSteps}
 use Rattle.encoder.specs.declared.fields.Fields.{Fields}
 use Rattle.encoder.specs.Fields.{allowed, stepsAllowed}

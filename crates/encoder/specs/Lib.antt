@@ -7,3 +7,6 @@ pub mod Encoder
 pub mod RoundTrip
 pub mod ReadsBack
 pub mod Solid
+-- The task of a tint, what is answered of it, and what it reads back as.
+pub mod Tint
+pub mod TintReadsBack

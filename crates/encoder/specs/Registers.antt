@@ -1,6 +1,6 @@
 -- The registers that fields give (01, "Groups and registers"): each field at its lowest bit.
 use Prim.Native.Nat.{ℕ, _+_, _*_}
-use Rattle.gradient.specs.declared.Steps.{Steps}
+use Rattle.pixel.specs.declared.gradient.Steps.{Steps}
 use Rattle.register.specs.declared.bank.SurfaceRegisters.{SurfaceRegisters}
 use Rattle.register.specs.declared.bank.Bank.{Bank}
 use Rattle.encoder.specs.declared.fields.SurfaceFields.{SurfaceFields}

@@ -9,7 +9,7 @@ use Rattle.pixel.specs.Colours.{unpacked}
 use Rattle.pixel.specs.Alpha.{alphaModeOf}
 use Rattle.pixel.specs.Blending.{factorOf}
 use Rattle.pixel.specs.declared.format.Format.the-variants.{Argb8888}
-use Rattle.gradient.specs.declared.Steps.{Steps}
+use Rattle.pixel.specs.declared.gradient.Steps.{Steps}
 use Rattle.surface.specs.declared.Surface.{Surface}
 use Rattle.transform.specs.declared.Transform.{Transform}
 use Rattle.transform.specs.Transform.{rotationOf}

@@ -1,4 +1,6 @@
 // The encoder (the papers' writer): a task's fields in, the bytes of a batch of that one task out. The first form has 80 bytes and no steps, the second 100.
+pub mod tint;
+
 ghost use mathlib.Core.Path.{_≡_};
 ghost use lib.ListN.{length};
 ghost use Rattle.encoder.specs.Words.{taskWords};
@@ -15,7 +17,7 @@ pub use fields::Fields;
 pub use fields::SourceFields;
 pub use fields::SurfaceFields;
 pub use fields::TransformFields;
-use gradient::Steps;
+use pixel::gradient::Steps;
 use register::Bank;
 pub use shaded::encode_shaded;
 

@@ -7,7 +7,7 @@ ghost use Rattle.encoder.specs.Encoder.{answerOf, bufferAfter};
 use crate::Answer;
 use crate::fields::Fields;
 use crate::fields::steps_allowed;
-use gradient::Steps;
+use pixel::gradient::Steps;
 use register::Bank;
 
 // The words of a batch that writes every register of a bank: as in the first form, and the group of the steps right after the first.

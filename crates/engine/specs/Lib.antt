@@ -2,3 +2,5 @@
 pub mod Run
 pub mod Close
 pub mod Outcome
+-- What the calls answer, as words.
+pub mod Answers

@@ -1,4 +1,6 @@
 // What run answers. What run and close do is said here, by definitions and laws; the code stands above, in `dequeue`, `run` and `closing`.
+pub mod answers;
+
 use batch::Verdict;
 use engine_record::EngineRecord;
 

@@ -1,4 +1,8 @@
 // The engine record: set-up numbers, clients, slots, read offset and next ticket.
+pub mod client_table;
+pub mod slot_table;
+pub mod validity;
+
 ghost use mathlib.Core.Path.{_≡_};
 ghost use Rattle.ring.specs.Segment.{wrapOffset};
 ghost use Rattle.engine_record.specs.Setup.{badRing, badMemory, badLength};

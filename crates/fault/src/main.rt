@@ -29,5 +29,5 @@ fn main() {
         return;
     };
     let mut line = [0u8; 128];
-    inquiry_io::print_fault(&mut line, inquiry_answers::why_faulted(question, inquiry));
+    inquiry_io::print_fault(&mut line, inquiry::answers::why_faulted(question, inquiry));
 }

@@ -1,4 +1,8 @@
 // Rows of colours, fetched into a buffer.
+pub mod gradients;
+pub mod strided;
+pub mod words;
+
 ghost use mathlib.Core.Path.{_≡_};
 ghost use mathlib.Core.Bool.{false};
 ghost use Prim.Native.Nat.{_+_, _*_, _≤_};
@@ -6,18 +10,18 @@ ghost use lib.ListN.{length};
 ghost use Rattle.pixel.specs.Formats.{bytesPerPixel};
 ghost use Rattle.surface.specs.Drawn.{loadPixel};
 ghost use Rattle.row_pixels.specs.Row.{HoldsColours, colourAt, sourcePixelOf, FetchInBounds, rowStored, RowIsWide};
-use argb_words::fill_words;
-use argb_words::word_of;
-use byte_rows::copy;
-use convert_565::from_565;
-use convert_888::from_888;
+use crate::strided::fetch_strided;
+use crate::words::fill_words;
+use crate::words::word_of;
+use convert::rgb565::from_565;
+use convert::rgb888::from_888;
+use lanes::bytes::copy;
 use pixel::Colour;
 use pixel::Format;
 use row_pixels::is_identity_row;
 use row_pixels::is_reversed;
 use row_pixels::origin;
 use row_pixels::pixel_stride;
-use strided_rows::fetch_strided;
 use surface::Surface;
 use transform::Rotation;
 use transform::Transform;

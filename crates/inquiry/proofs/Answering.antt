@@ -25,7 +25,7 @@ use Rattle.records.specs.declared.Taken.{Taken}
 use Rattle.records.specs.Records.{Entry, File, records}
 use Rattle.records.specs.Reading.{fileAt, entryIn, onto, ReaderReady, Takes}
 use Rattle.records.proofs.Onward.{ends-here}
-use Rattle.acceptance.proofs.Taken.{taken-facts, whole-words}
+use Rattle.lines.proofs.acceptance.Taken.{taken-facts, whole-words}
 use Rattle.lines.specs.Answered.{recordRefusal, replayWindow, countAfter}
 use Rattle.provenance.specs.declared.Touched.{Touched}
 use Rattle.provenance.specs.declared.Why.{Why}

@@ -1,5 +1,7 @@
 // Who drew a byte last, and why a batch faulted, of the records of a replay file. The file is handed over in pieces and read in
 // constant memory: no engine is run, and nothing of it is kept but the answers so far.
+pub mod answers;
+
 ghost use mathlib.Core.Path.{_≡_};
 ghost use mathlib.Core.Bool.{cond};
 ghost use mathlib.Core.List.{List, [], _++_};
@@ -14,7 +16,7 @@ ghost use Rattle.records.specs.Reading.{Lies};
 ghost use Rattle.provenance.specs.Faulted.{explained};
 ghost use Rattle.inquiry.specs.declared.Question.{Question};
 ghost use Rattle.inquiry.specs.Inquiry.{findingNext, findingOn, Stands, InquiryFeedContract};
-use acceptance::Submitted;
+use lines::acceptance::Submitted;
 use provenance::Touched;
 use provenance::Why;
 use records::Edition;
@@ -55,7 +57,7 @@ fn after_why(asked: u32, ticket: u32, batch: &[u8], bounds: Bounds, why: Why) ->
     ensures { λ r. ⌜ r ≡ cond (eqb ticket asked) (explained (batchWords (now (batch .entry)) 0 (length (now (batch .entry)))) (decodeBatch bounds (fileReset First) (batchWords (now (batch .entry)) 0 (length (now (batch .entry)))))) why ⌝ }
 {
     if ticket == asked {
-        explanation::explain(batch, 0, batch.len(), bounds)
+        provenance::explain::explain(batch, 0, batch.len(), bounds)
     } else {
         why
     }
@@ -72,7 +74,7 @@ fn after_record(question: Question, finding: Finding, client: u32, batch: &[u8])
     let ticket = finding.accepted;
     let touched = finding.touched;
     let why = finding.why;
-    let submitted = acceptance::accept(client, batch);
+    let submitted = lines::acceptance::accept(client, batch);
     match submitted {
         Submitted::Refused => Finding {
             records: records,
@@ -83,7 +85,15 @@ fn after_record(question: Question, finding: Finding, client: u32, batch: &[u8])
         Submitted::Within(bounds) => {
             let n = batch.len();
             let address = question.address;
-            let last = last_touch::after_batch(batch, 0, n, bounds, ticket, address, touched);
+            let last = provenance::last_touch::after_batch(
+                batch,
+                0,
+                n,
+                bounds,
+                ticket,
+                address,
+                touched,
+            );
             let reason = after_why(question.ticket, ticket, batch, bounds, why);
             Finding {
                 records: records,

@@ -5,7 +5,7 @@ use Rattle.range.specs.declared.Range.{Range}
 use Rattle.range.specs.Range.{containedIn}
 use Rattle.surface.specs.Surface.{span}
 use Rattle.register.specs.declared.task.Task.{Task}
-use Rattle.task_predicates.specs.Predicates.{isUniform, isColour, isPixelMode, isSrcOver, isMoved, isInPlace}
+use Rattle.kinds.specs.Predicates.{isUniform, isColour, isPixelMode, isSrcOver, isMoved, isInPlace}
 use Rattle.kinds.specs.declared.Finish.{Finish}
 use Rattle.kinds.specs.declared.Finish.the-variants.{Copied, InPlace, Blended}
 use Rattle.kinds.specs.declared.Kind.{Kind}

@@ -1,14 +1,16 @@
 // What kind the rows of a task are, and how rows that go by way of buffers become its output's. Both are decided once a task.
+pub mod predicates;
+
 ghost use mathlib.Core.Path.{_≡_};
 ghost use Rattle.kinds.specs.Kinds.{isSolid, isBlendedWithin, blendedKind, unblendedKind, kindOf, finishOf};
+use crate::predicates::is_colour;
+use crate::predicates::is_in_place;
+use crate::predicates::is_moved;
+use crate::predicates::is_pixel_alpha;
+use crate::predicates::is_src_over;
+use crate::predicates::is_uniform;
 use range::Range;
 use register::Task;
-use task_predicates::is_colour;
-use task_predicates::is_in_place;
-use task_predicates::is_moved;
-use task_predicates::is_pixel_alpha;
-use task_predicates::is_src_over;
-use task_predicates::is_uniform;
 
 pub enum Kind {
     // one colour a row, without blending

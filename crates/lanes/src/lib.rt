@@ -1,4 +1,7 @@
 // Bytes sixteen at a time, in eight lanes of 16 bits: what the compiler turns into one vector.
+pub mod bytes;
+pub mod opacity;
+
 ghost use mathlib.Core.Path.{_≡_};
 ghost use Prim.Native.Nat.{ℕ, _+_, _*_, _/_, _%_, _-_, _≤_, _<_};
 ghost use lib.ListN.{length, getD};

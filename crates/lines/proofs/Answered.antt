@@ -26,7 +26,7 @@ use Rattle.claims.proofs.SimulationSteps.{Simulates}
 use Rattle.claims.proofs.Simulation.{step-simulates, at-end}
 use Rattle.records.specs.declared.Edition.{Edition}
 use Rattle.records.specs.Records.{Entry, FileEnd, File}
-use Rattle.editions.specs.Editions.{scoreHolds, submission}
+use Rattle.records.specs.Editions.{scoreHolds, submission}
 use Rattle.lines.specs.Lines.{setup, fileReset, opening, engineOpened, replayStart, submitAndRun, entryLine, endingLine, badScoreLine, printedFrom, lines}
 use Rattle.lines.specs.Answered.{recordRefusal, replayWindow, verdict, ticketOfCount, answerAfter, countAfter, drawnAfter, linesAfter, lineFeeds, OneLine, acceptedFrom, submitAndRunAll, RecordAnswered, ReplayAnswersHold}
 use Rattle.lines.proofs.LineFeeds.{feeds-append, one-feed, answer-one, bad-score-feed}
@@ -204,13 +204,20 @@ module _ (edition : Edition) where
       abbrev own : Entry
       own = submission edition entry
 
+      -- a record with a bad score takes no ticket
+      bad-score-past : scoreHolds edition entry ≡ false
+          → printedFrom edition s entries ending ≡ linesAfter edition count entries ending
+          → printedFrom edition s (entry ∷ entries) ending ≡ linesAfter edition count (entry ∷ entries) ending
+      unfolding printedFrom linesAfter
+      bad-score-past e past = rw (e, past)
+
       text-by : (b : Bool) → scoreHolds edition entry ≡ b
           → printedFrom edition (submitAndRun own s .after) entries ending ≡ linesAfter edition (countAfter count own) entries ending
           → printedFrom edition s entries ending ≡ linesAfter edition count entries ending
           → printedFrom edition s (entry ∷ entries) ending ≡ linesAfter edition count (entry ∷ entries) ending
       unfolding printedFrom linesAfter
       text-by true e on past = rw (e, one count s S own .answers, on)
-      text-by false e on past = rw (e, past)
+      text-by false e on past = bad-score-past e past
 
       count-by : (b : Bool) → scoreHolds edition entry ≡ b
           → lineFeeds (printedFrom edition (submitAndRun own s .after) entries ending) ≡ length entries + lineFeeds (endingLine ending)

@@ -17,8 +17,8 @@ use Rattle.text.specs.Decimal.{digitsIn, decimal}
 use Rattle.records.specs.Records.{whole, badVersion, badRecord, cutRecord, fileEnds, consEntry, recordsFrom, records}
 use Rattle.records.specs.declared.Edition.the-variants.{First, Second}
 use Rattle.score.specs.Coverage.{isScore}
-use Rattle.score_word.specs.ScoreWord.{isScoreWord}
-use Rattle.editions.specs.Editions.{scored, submittedEntries}
+use Rattle.score.specs.ScoreWord.{isScoreWord}
+use Rattle.records.specs.Editions.{scored, submittedEntries}
 use Rattle.lines.specs.Lines.{completionLine, refusalLine, badScoreLine, recordLine, recordAfter, setup, opening}
 
 -- `0 0 00010001 0 0`

@@ -8,7 +8,7 @@ use Rattle.engine_record.specs.declared.EngineRecord.{EngineRecord}
 use Rattle.queue.specs.Calls.{setUpResult, openResult}
 use Rattle.claims.specs.Engine.{mkState, performCall, stateAfter}
 use Rattle.records.specs.declared.Edition.{Edition}
-use Rattle.editions.specs.Editions.{resetRuleOf}
+use Rattle.records.specs.Editions.{resetRuleOf}
 use Rattle.lines.specs.Lines.{engineOpened, replayStart}
 
 abbrev windowFrom : ℕ → Window

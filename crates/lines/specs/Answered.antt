@@ -15,7 +15,7 @@ use Rattle.claims.specs.Engine.{State, CallResult, answerOrRefusal, performCall
 use Rattle.records.specs.declared.Edition.{Edition}
 use Rattle.records.specs.declared.Edition.the-variants.{First}
 use Rattle.records.specs.Records.{Entry, FileEnd, File}
-use Rattle.editions.specs.Editions.{scoreHolds, submission}
+use Rattle.records.specs.Editions.{scoreHolds, submission}
 use Rattle.lines.specs.Lines.{setup, engineOpened, submitAndRun, answerLine, entryLine, endingLine, badScoreLine, lines}
 
 -- ---- a record by itself

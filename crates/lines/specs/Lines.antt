@@ -11,7 +11,7 @@ use Rattle.text.specs.Hex.{hexWord}
 use Rattle.text.specs.Decimal.{decimal}
 use Rattle.records.specs.declared.Edition.{Edition}
 use Rattle.records.specs.Records.{Entry, FileEnd, whole, badVersion, badRecord, cutRecord, File}
-use Rattle.editions.specs.Editions.{resetRuleOf, scoreHolds, submission}
+use Rattle.records.specs.Editions.{resetRuleOf, scoreHolds, submission}
 
 -- ---- one line
 

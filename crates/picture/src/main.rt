@@ -100,7 +100,7 @@ fn usage() {
 }
 
 fn main() {
-    let choice = replay_program::asked();
+    let choice = replay_io::programs::asked();
     let file = choice.file;
     if os::arg_count() != file + 6 {
         command::complain(b"picture", b" takes six arguments, or --slow and six\n");

@@ -4,3 +4,5 @@ pub mod Colours
 pub mod Alpha
 pub mod Blending
 pub mod Rules
+-- Colours that change by even steps.
+pub mod Gradient

@@ -2,6 +2,7 @@
 pub mod blend;
 pub mod colour;
 pub mod format;
+pub mod gradient;
 
 pub use blend::AlphaMode;
 pub use blend::BlendFactors;

@@ -1,4 +1,6 @@
 // How a blending rule is computed for rows of ARGB8888 pixels, found once a task.
+pub mod channels;
+
 ghost use mathlib.Core.Path.{_≡_};
 ghost use Rattle.plan.specs.Plan.{masksOf, factorBy, fullOf, emptyOf, ends, isConstant, planOf};
 use pixel::BlendFactors;

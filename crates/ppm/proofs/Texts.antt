@@ -9,9 +9,9 @@ use lib.Dec.{eqb, ltb}
 use borrow.Author.Tests.{lt-ltb, ltb-true, eq-eqb, ne-eqb}
 use Rattle.word.proofs.Tests.{and-true}
 use Rattle.text.proofs.Typing.{rest-next}
-use Rattle.numerals.specs.declared.Numeral.{Numeral}
-use Rattle.numerals.specs.Numerals.{allDigits, decimalValue, numeralFrom}
-use Rattle.numerals.proofs.Reading.{numeral-whole, numeral-part}
+use Rattle.text.specs.declared.numerals.Numeral.{Numeral}
+use Rattle.text.specs.Numerals.{allDigits, decimalValue, numeralFrom}
+use Rattle.text.proofs.numerals.Reading.{numeral-whole, numeral-part}
 use Rattle.ppm.specs.declared.words.ParsedNumber.the-variants.{Value, Invalid}
 use Rattle.ppm.specs.Words.{parseNumber, toLower, equalsIgnoringCase}
 

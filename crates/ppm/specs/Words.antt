@@ -4,7 +4,7 @@ use mathlib.Core.Bool.{Bool, true, false, cond, _&&_}
 use mathlib.Core.List.{List, [], _∷_}
 use lib.ListN.{length}
 use lib.Dec.{eqb, leb, ltb}
-use Rattle.numerals.specs.Numerals.{allDigits, decimalValue}
+use Rattle.text.specs.Numerals.{allDigits, decimalValue}
 use Rattle.pixel.specs.declared.format.Format.{Format}
 use Rattle.pixel.specs.declared.format.Format.the-variants.{Argb8888, Rgb888, Rgb565}
 use Rattle.ppm.specs.declared.words.ParsedNumber.{ParsedNumber}

@@ -17,7 +17,7 @@ pub enum ParsedFormat {
 pub fn number_of(text: &[u8]) -> ParsedNumber
     ensures { λ r. ⌜ r ≡ parseNumber (now (text .entry)) ⌝ }
 {
-    let numeral = numerals::read(text, 0, 4294967295);
+    let numeral = text::numerals::read(text, 0, 4294967295);
     let whole = (0 < text.len()) & (numeral.end == text.len());
     if !whole {
         return ParsedNumber::Invalid;

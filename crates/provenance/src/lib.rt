@@ -1,5 +1,8 @@
 // Who drew a byte of a replay's memory last, and why a batch faulted: the answers and their refusals. What a task, a fault and an
 // answer are is defined in specs/, and the theorem stands there too; crate inquiry reads a file for the answers.
+pub mod explain;
+pub mod last_touch;
+
 ghost use mathlib.Core.Path.{_≡_};
 ghost use Rattle.provenance.specs.Answers.{refusalNumber, answerTouched, answerWhy, answerFault};
 

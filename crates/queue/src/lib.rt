@@ -1,5 +1,8 @@
 // What the calls of the queue share: what a call answers, and a row of a table of refusals. Definitions and laws of the calls that don't draw stand here;
 // their code stands above, in `clients`, `enqueue` and `submission`.
+pub mod clients;
+pub mod enqueue;
+
 ghost use mathlib.Core.Path.{_≡_};
 ghost use mathlib.Core.Bool.{cond};
 ghost use Rattle.engine_record.specs.Staged.{stagedBy};

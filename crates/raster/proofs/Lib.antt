@@ -19,3 +19,4 @@ pub mod Outside
 pub mod Judged
 -- a batch drawn a step of the walk at a time
 pub mod Fold
+pub mod Composition

@@ -22,7 +22,7 @@ use Rattle.task_check.specs.Rules.{sameFormat}
 use Rattle.task_check.proofs.Passes.{same-format}
 use Rattle.row_pixels.specs.Strided.{isIdentityRow}
 use Rattle.row_pixels.proofs.Straight.{straight}
-use Rattle.task_predicates.specs.Predicates.{isUniform, isColour, isPixelMode, isOne, isInverseSourceAlpha, isSrcOver, isMoved, isInPlace}
+use Rattle.kinds.specs.Predicates.{isUniform, isColour, isPixelMode, isOne, isInverseSourceAlpha, isSrcOver, isMoved, isInPlace}
 use Rattle.kinds.specs.Kinds.{sourceInWindow, isSolid, isBlendedWithin, kindOf, finishOf}
 use Rattle.kinds.specs.declared.Finish.{Finish}
 use Rattle.kinds.specs.declared.Finish.the-variants.{Copied, InPlace, Blended}

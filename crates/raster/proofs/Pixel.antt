@@ -5,7 +5,7 @@ use mathlib.Core.List.{List}
 use Prim.Native.Nat.{ℕ, _≤_, _<_}
 use Rattle.range.specs.declared.Range.{Range}
 use Rattle.pixel.specs.declared.colour.Colour.{Colour as Channels}
-use Rattle.gradient.specs.Gradient.{gradientColour}
+use Rattle.pixel.specs.Gradient.{gradientColour}
 use Rattle.transform.specs.Transform.{InPicture, rotatedSize, mirrored}
 use Rattle.transform.specs.declared.Rotation.the-variants.{Rotate0}
 use Rattle.transform.specs.declared.Point.{Point}
@@ -22,7 +22,7 @@ use Rattle.row_pixels.specs.Composite.{composite}
 use Rattle.row_pixels.proofs.Straight.{upright-x, upright-y}
 use Rattle.raster.specs.Task.{sourceModeColour, sourceColour, destinationColour, pixelColour}
 use Rattle.raster.specs.Preconditions.{TaskInBounds}
-use Rattle.task_predicates.specs.Predicates.{isUniform}
+use Rattle.kinds.specs.Predicates.{isUniform}
 use Rattle.raster.specs.Row.{uniformColour}
 
 colourBy-same : (m : SourceMode) (s : Source) (memory memory′ : List ℕ) (p : Point) →

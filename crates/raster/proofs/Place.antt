@@ -15,7 +15,7 @@ use Rattle.surface.proofs.Parts.{length-mid}
 use Rattle.surface.proofs.Outside.{row-in-span}
 use Rattle.register.specs.declared.task.Task.{Task}
 use Rattle.raster.specs.Task.{pixelColour}
-use Rattle.task_predicates.specs.Predicates.{isUniform}
+use Rattle.kinds.specs.Predicates.{isUniform}
 use Rattle.raster.specs.Row.{RowDrawable, SourceRowInBounds, rowDrawn, drawRow}
 use Rattle.raster.proofs.Pixel.{uniform-unread, upright-down}
 use Rattle.raster.proofs.Slices.{window-lent, row-ext}

@@ -4,3 +4,5 @@ pub mod Batch
 pub mod WriteFrame
 pub mod Preconditions
 pub mod Row
+-- Two drawings as one.
+pub mod Twice

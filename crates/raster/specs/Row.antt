@@ -8,7 +8,7 @@ use Rattle.range.specs.declared.Range.{Range}
 use Rattle.pixel.specs.Formats.{bytesPerPixel, layoutOf}
 use Rattle.pixel.specs.Colours.{packed}
 use Rattle.pixel.specs.declared.colour.Colour.{Colour}
-use Rattle.gradient.specs.Gradient.{gradientColour}
+use Rattle.pixel.specs.Gradient.{gradientColour}
 use Rattle.transform.specs.Transform.{rotatedSize, mirrored}
 use Rattle.transform.specs.declared.Rotation.the-variants.{Rotate0}
 use Rattle.surface.specs.Surface.{rowLength, rowStart, span}

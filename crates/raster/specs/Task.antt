@@ -3,7 +3,7 @@ use mathlib.Core.Bool.{cond}
 use mathlib.Core.List.{List, [], _∷_}
 use Prim.Native.Nat.{ℕ}
 use Rattle.pixel.specs.declared.colour.Colour.{Colour as Channels}
-use Rattle.gradient.specs.Gradient.{gradientColour}
+use Rattle.pixel.specs.Gradient.{gradientColour}
 use Rattle.transform.specs.declared.Point.{Point}
 use Rattle.surface.specs.Drawn.{drawSurface}
 use Rattle.register.specs.declared.task.Source.{Source}

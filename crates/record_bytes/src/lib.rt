@@ -1,4 +1,6 @@
 // An engine record as 272 bytes, for callers that are not Rattle: definitions and laws. The layout is that of specs/Layout.
+pub mod reading;
+pub mod writing;
 
 // The words of a slot.
 pub struct Row {

@@ -1,4 +1,6 @@
 // A replay file of either edition read as records, a piece at a time and in constant memory. The caller lends `held`, for the bytes of one record.
+pub mod editions;
+
 ghost use mathlib.Core.Path.{_≡_};
 ghost use Prim.Native.Nat.{_+_, _≤_, _<_};
 ghost use lib.ListN.{length, take};

@@ -2,7 +2,7 @@
 use Prim.Native.Nat.{ℕ, _+_}
 use mathlib.Core.Bool.{cond}
 use lib.Dec.{eqb}
-use Rattle.gradient.specs.declared.Steps.{Steps}
+use Rattle.pixel.specs.declared.gradient.Steps.{Steps}
 use Rattle.reset.specs.declared.ResetRule.{ResetRule}
 use Rattle.reset.specs.Reset.{blendingAtReset}
 use Rattle.register.specs.declared.bank.SurfaceRegisters.{SurfaceRegisters}

@@ -22,14 +22,14 @@ use Rattle.records.specs.Records.{Entry, File, records}
 use Rattle.records.specs.Reading.{roomOf, entryIn, fileIn, fileAt, onto, EndedIfBad, ReaderReady, Takes, endingAt}
 use Rattle.records.proofs.Bytes.{room-between}
 use Rattle.records.proofs.Onward.{file-ends, ends-here}
-use Rattle.editions.specs.Editions.{scoreHolds, submission, scored, submittedEntries}
+use Rattle.records.specs.Editions.{scoreHolds, submission, scored, submittedEntries}
 use Rattle.lines.specs.Lines.{endingLine, recordAfter, printedFrom, linesFrom, lines, engineOpened, replayStart}
 use Rattle.lines.specs.Answered.{submitAndRunAll}
 use Rattle.lines.proofs.Start.{started-engine, starting-engine, started-state, starting-state}
 use Rattle.replay.specs.declared.Replay.{Replay}
 use Rattle.replay.specs.declared.FeedResult.{FeedResult}
 use Rattle.replay.specs.Calls.{stateOf, atStart, foundText, foundState, fedStep, FeedContract, finishedText}
-use Rattle.record_lines.specs.Prints.{Prints}
+use Rattle.lines.specs.Prints.{Prints}
 use Rattle.replay.specs.Chunking.{Stands, concatChunks, FeedTrace, finish, next-chunk, feed, ChunkingIrrelevant}
 
 -- what was written is the text

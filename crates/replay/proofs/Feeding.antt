@@ -18,9 +18,9 @@ use Rattle.lines.specs.Lines.{endingLine, recordLine, recordAfter}
 use Rattle.replay.specs.declared.Replay.{Replay}
 use Rattle.replay.specs.declared.serving.SubmitRunResult.{SubmitRunResult}
 use Rattle.replay.specs.Calls.{stateOf, foundText, foundState, fedStep, fedHeld, FeedContract, finishedText}
-use Rattle.record_lines.specs.Prints.{Prints}
+use Rattle.lines.specs.Prints.{Prints}
 use Rattle.replay.specs.SubmitRunContract.{SubmitRunContract}
-use Rattle.record_lines.proofs.Printing.{prints-none}
+use Rattle.lines.proofs.record_lines.Printing.{prints-none}
 
 -- ---- what was found
 

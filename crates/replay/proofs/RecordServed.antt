@@ -22,9 +22,9 @@ use lib.ListN.{length, getD, take, drop}
 use Rattle.records.specs.declared.Edition.{Edition}
 use Rattle.records.specs.declared.Edition.the-variants.{First, Second}
 use Rattle.records.specs.Reading.{batchStart, entryIn}
-use Rattle.editions.specs.Editions.{scoreHolds, scoreIn}
-use Rattle.editions.proofs.Records.{score-in, submission-in}
-use Rattle.record_lines.specs.Prints.{Prints}
+use Rattle.records.specs.Editions.{scoreHolds, scoreIn}
+use Rattle.records.proofs.editions.Records.{score-in, submission-in}
+use Rattle.lines.specs.Prints.{Prints}
 use Rattle.replay.specs.SubmitRunContract.{SubmitRunContract}
 
 -- ---- what run answers

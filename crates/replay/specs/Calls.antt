@@ -16,7 +16,7 @@ use Rattle.records.specs.Reading.{entryIn, ReaderReady, Takes, endingAt, nothin
 use Rattle.lines.specs.Lines.{endingLine, recordLine, recordAfter, replayStart}
 use Rattle.replay.specs.declared.Replay.{Replay}
 use Rattle.replay.specs.declared.FeedResult.{FeedResult}
-use Rattle.record_lines.specs.Prints.{Prints}
+use Rattle.lines.specs.Prints.{Prints}
 
 -- the engine of a replay, with the ring and memory that are lent with it
 abbrev pub stateOf : Replay → (ring memory : List ℕ) → State

@@ -8,13 +8,13 @@ use Rattle.claims.specs.Engine.{State}
 use Rattle.records.specs.declared.Edition.{Edition}
 use Rattle.records.specs.Records.{records}
 use Rattle.records.specs.Reading.{roomOf, fileAt, ReaderReady}
-use Rattle.editions.specs.Editions.{submittedEntries}
+use Rattle.records.specs.Editions.{submittedEntries}
 use Rattle.lines.specs.Lines.{engineOpened, linesFrom, lines}
 use Rattle.lines.specs.Answered.{submitAndRunAll}
 use Rattle.replay.specs.declared.Replay.{Replay}
 use Rattle.replay.specs.declared.FeedResult.{FeedResult}
 use Rattle.replay.specs.Calls.{stateOf, atStart, FeedContract, finishedText}
-use Rattle.record_lines.specs.Prints.{Prints}
+use Rattle.lines.specs.Prints.{Prints}
 
 -- ---- where a replay stands
 

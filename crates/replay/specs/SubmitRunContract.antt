@@ -3,7 +3,7 @@ use mathlib.Core.Path.{_≡_}
 use mathlib.Core.List.{List}
 use Prim.Native.Nat.{ℕ}
 use Rattle.claims.specs.Engine.{State}
-use Rattle.record_lines.specs.Prints.{Prints}
+use Rattle.lines.specs.Prints.{Prints}
 use Rattle.replay.specs.declared.serving.SubmitRunResult.{SubmitRunResult}
 
 -- Internal: what the call that serves a record leaves

@@ -8,7 +8,7 @@ ghost use lib.ListN.{length};
 ghost use Rattle.claims.specs.Engine.{mkState};
 ghost use Rattle.records.specs.Reading.{Lies};
 ghost use Rattle.replay.specs.Calls.{atStart, foundText, foundState, FeedContract, finishedText};
-ghost use Rattle.record_lines.specs.Prints.{Prints};
+ghost use Rattle.lines.specs.Prints.{Prints};
 ghost use Rattle.replay.specs.SubmitRunContract.{SubmitRunContract};
 use crate::serving::SubmitRunResult;
 use engine_record::EngineRecord;
@@ -37,15 +37,20 @@ pub struct FeedResult {
 pub fn start(edition: Edition) -> Replay
     ensures { λ r. ⌜ r ≡ atStart edition ⌝ }
 {
-    let none = clients::set_up(32768, 65536, 16384, editions::reset_rule_of(edition));
+    let none = queue::clients::set_up(
+        32768,
+        65536,
+        16384,
+        records::editions::reset_rule_of(edition),
+    );
     let first = none.engine;
-    let one = clients::open(first, 16384, 12288);
+    let one = queue::clients::open(first, 16384, 12288);
     let second = one.engine;
-    let two = clients::open(second, 28672, 12288);
+    let two = queue::clients::open(second, 28672, 12288);
     let third = two.engine;
-    let three = clients::open(third, 40960, 12288);
+    let three = queue::clients::open(third, 40960, 12288);
     let fourth = three.engine;
-    let four = clients::open(fourth, 53248, 12288);
+    let four = queue::clients::open(fourth, 53248, 12288);
     let engine = four.engine;
     Replay {
         edition: edition,
@@ -80,7 +85,7 @@ fn after_found(
         },
         Found::BadVersion => SubmitRunResult {
             engine: engine,
-            written: record_lines::bad_version(line),
+            written: lines::record_lines::bad_version(line),
         },
         Found::BadRecord => SubmitRunResult {
             engine: engine,
@@ -141,7 +146,7 @@ pub fn finish(replay: Replay, line: &mut [u8]) -> usize
     let have = reader.buffered;
     let stage = reader.stage;
     match stage {
-        Stage::Version => record_lines::bad_version(line),
+        Stage::Version => lines::record_lines::bad_version(line),
         Stage::Records => {
             if have == 0 {
                 return 0;

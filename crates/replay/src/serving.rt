@@ -55,7 +55,7 @@ fn submit_and_run(
     if number != 0 {
         return SubmitRunResult {
             engine: waiting,
-            written: record_lines::refusal_line(line, client, number),
+            written: lines::record_lines::refusal_line(line, client, number),
         };
     }
     let ran = run::run_by(waiting, ring, memory, slow);
@@ -63,7 +63,7 @@ fn submit_and_run(
     let after = ran.engine;
     SubmitRunResult {
         engine: after,
-        written: record_lines::outcome_line(line, client, outcome),
+        written: lines::record_lines::outcome_line(line, client, outcome),
     }
 }
 
@@ -83,7 +83,7 @@ pub fn serve_record(
         (recordAfter edition (entryIn (now (held .entry)) end) (mkState engine (now (ring .entry)) (now (memory .entry))))
         (now (line .entry)) r (now (ring .exit)) (now (memory .exit)) (now (line .exit)) ⌝ }
 {
-    if !editions::score_in(edition, held, end) {
+    if !records::editions::score_in(edition, held, end) {
         return SubmitRunResult {
             engine: engine,
             written: line::copy(line, b"bad score\n"),

@@ -3,5 +3,5 @@
 use records::Edition;
 
 fn main() {
-    replay_program::print_lines(Edition::Second, b"usage: replay2 [--slow] [FILE]\n");
+    replay_io::programs::print_lines(Edition::Second, b"usage: replay2 [--slow] [FILE]\n");
 }

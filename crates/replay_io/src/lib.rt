@@ -1,6 +1,8 @@
 // Replay files of either edition read from a descriptor and replayed, and their lines written to standard output. No contract can say
 // which bytes the system reads, or what it does with those that it is to write; that the memory is what some bytes make of it is proved,
 // and how many bytes were handed over to be written: as many as the lines of those bytes have.
+pub mod programs;
+
 ghost use Rattle.claims.specs.Engine.{State};
 ghost use Rattle.records.specs.declared.Edition.{Edition};
 ghost use Rattle.replay_pieces.specs.Reached.{Reached, Replayed};

@@ -3,5 +3,5 @@
 use records::Edition;
 
 fn main() {
-    replay_program::print_lines(Edition::First, b"usage: replay [--slow] [FILE]\n");
+    replay_io::programs::print_lines(Edition::First, b"usage: replay [--slow] [FILE]\n");
 }

@@ -5,7 +5,7 @@ use Prim.Native.Nat.{ℕ, _≤_}
 use native.Mathlib.Omega.{arith}
 use lib.ListN.{length, length-take, length-drop, length-append}
 use Rattle.word.specs.Splice.{spliced}
-use Rattle.record_lines.specs.Prints.{Prints}
+use Rattle.lines.specs.Prints.{Prints}
 
 -- what was printed has room, since a line stays as long as it was
 pub prints-within : (text line : List ℕ) (written : ℕ) (line′ : List ℕ) → Prints text line written line′ → length line′ ≡ length line → written ≤ length line

@@ -16,13 +16,13 @@ use Rattle.records.specs.declared.Edition.{Edition}
 use Rattle.records.specs.declared.Edition.the-variants.{First, Second}
 use Rattle.records.specs.Records.{records}
 use Rattle.records.proofs.Bytes.{room-between}
-use Rattle.editions.specs.Editions.{scored, submittedEntries}
+use Rattle.records.specs.Editions.{scored, submittedEntries}
 use Rattle.lines.specs.Lines.{engineOpened, linesFrom}
 use Rattle.lines.specs.Answered.{submitAndRunAll}
 use Rattle.lines.proofs.Start.{started-state}
 use Rattle.replay.specs.declared.Replay.{Replay}
 use Rattle.replay.specs.declared.FeedResult.{FeedResult}
-use Rattle.record_lines.specs.Prints.{Prints}
+use Rattle.lines.specs.Prints.{Prints}
 use Rattle.replay.specs.Calls.{atStart, finishedText}
 use Rattle.replay.specs.Chunking.{Stands}
 use Rattle.replay.proofs.Chunking.{chunking}

@@ -8,11 +8,11 @@ use lib.ListN.{length, take, replicate}
 use Rattle.claims.specs.Engine.{State}
 use Rattle.records.specs.declared.Edition.{Edition}
 use Rattle.records.specs.Records.{records}
-use Rattle.editions.specs.Editions.{submittedEntries}
+use Rattle.records.specs.Editions.{submittedEntries}
 use Rattle.lines.specs.Lines.{engineOpened, linesFrom}
 use Rattle.lines.specs.Answered.{submitAndRunAll}
 use Rattle.replay.specs.declared.Replay.{Replay}
-use Rattle.record_lines.specs.Prints.{Prints}
+use Rattle.lines.specs.Prints.{Prints}
 use Rattle.replay.specs.Calls.{finishedText}
 use Rattle.replay.specs.Chunking.{Stands}
 

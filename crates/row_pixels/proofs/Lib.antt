@@ -3,3 +3,4 @@
 pub mod Straight
 -- rows of a picture that is turned or flipped
 pub mod Stepping
+pub mod RowColours

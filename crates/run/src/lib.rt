@@ -13,7 +13,7 @@ use engine_record::EngineRecord;
 pub fn run_by(engine: EngineRecord, ring: &[u8], memory: &mut [u8], slow: bool) -> RunResult
     ensures { λ r. ⌜ RunBy slow engine (now (ring .entry)) (now (memory .entry)) r (now (memory .exit)) ⌝ }
 {
-    let found = validity::check(engine);
+    let found = engine_record::validity::check(engine);
     let number = dequeue::run_refusal(engine, found, ring.len(), memory.len());
     if number != 0 {
         return RunResult {

@@ -10,7 +10,7 @@ use Rattle.engine.specs.declared.Outcome.the-variants.{Refused, Completed}
 use Rattle.engine.specs.Outcome.{runRefusalOf as refusalOf, valuesOf}
 use Rattle.model.specs.Calls.{Answer, done}
 use Rattle.claims.specs.Engine.{answerOrRefusal, modelAnswerOf, completion}
-use Rattle.answers.specs.Answers.{shortAnswer, pieceWords, runWords}
+use Rattle.engine.specs.Answers.{shortAnswer, pieceWords, runWords}
 use Rattle.script_player.specs.Answers.{plainWords, pieceAnswerWords}
 
 -- an answer of one number

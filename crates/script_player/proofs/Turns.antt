@@ -13,7 +13,7 @@ use Rattle.queue.specs.Calls.{openResult, submitResult, submitRing, beginResult
 use Rattle.engine.specs.declared.RunResult.{RunResult}
 use Rattle.engine.specs.Run.{runResult, runMemory}
 use Rattle.engine.specs.Close.{closeMemory}
-use Rattle.answers.specs.Answers.{shortAnswer, pieceWords, runWords}
+use Rattle.engine.specs.Answers.{shortAnswer, pieceWords, runWords}
 use Rattle.model.specs.Calls.{opens, submit, run, pending, begin, piece, cancel, close, opened, accepted, ready}
 use Rattle.claims.specs.Engine.{mkState, performCall}
 use Rattle.script.specs.declared.Request.{Request}

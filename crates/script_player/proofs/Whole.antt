@@ -30,7 +30,7 @@ use Rattle.claims.proofs.SimulationRelation.{numbersIn}
 use Rattle.claims.proofs.Ring.{ring-after}
 use Rattle.claims.proofs.Theorem.{promise}
 use Rattle.script.specs.Script.{decode}
-use Rattle.answers.specs.Answers.{shortAnswer}
+use Rattle.engine.specs.Answers.{shortAnswer}
 use Rattle.script_player.specs.Answers.{answerBytes}
 use Rattle.script_player.specs.Contracts.{CallsMatch}
 use Rattle.script_player.specs.Played.{setUpRefusalOf, playedCalls, answerOutput, memoryAfter, ringAfter, ScriptResult}

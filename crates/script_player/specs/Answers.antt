@@ -2,7 +2,7 @@
 use mathlib.Core.List.{List, [], _∷_, _++_}
 use Prim.Native.Nat.{ℕ}
 use Rattle.word.specs.Word.{wordsBytes}
-use Rattle.answers.specs.Answers.{shortAnswer}
+use Rattle.engine.specs.Answers.{shortAnswer}
 use Rattle.model.specs.Calls.{Call, opens, submit, run, pending, begin, piece, cancel, close, Answer, opened, accepted, completed, ready, missing, done, refused}
 
 unfoldable pub plainWords : Answer → List ℕ

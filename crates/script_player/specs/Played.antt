@@ -8,7 +8,7 @@ use lib.ListN.{length, drop}
 use lib.Dec.{ltb, eqb}
 use Rattle.word.specs.Word.{wordsBytes}
 use Rattle.queue.specs.Refusals.{firstRefusal, setUpTable}
-use Rattle.answers.specs.Answers.{shortAnswer}
+use Rattle.engine.specs.Answers.{shortAnswer}
 use Rattle.model.specs.Calls.{Setup, Call}
 use Rattle.model.specs.State.{initialModel}
 use Rattle.model.specs.Model.{answers, modelAfterAll}

@@ -5,7 +5,7 @@ ghost use mathlib.Core.Path.{_≡_};
 ghost use Prim.Native.Nat.{_/_};
 ghost use lib.ListN.{length};
 ghost use Rattle.queue.specs.Answers.{refusalNumberOf, valueOf};
-ghost use Rattle.answers.specs.Answers.{shortAnswer, pieceWords, runWords, OutcomeFitsWords};
+ghost use Rattle.engine.specs.Answers.{shortAnswer, pieceWords, runWords, OutcomeFitsWords};
 ghost use Rattle.claims.specs.Engine.{mkState};
 ghost use Rattle.script.specs.Script.{decode};
 ghost use Rattle.script.specs.Parsing.{callOf, BatchInBounds};
@@ -30,7 +30,7 @@ fn step_of(reply: Reply) -> CallOutput
     let answer = reply.answer;
     let engine = reply.engine;
     CallOutput {
-        words: answers::answer_words(answer),
+        words: engine::answers::answer_words(answer),
         engine: engine,
     }
 }
@@ -41,7 +41,7 @@ fn step_of_piece(reply: Reply) -> CallOutput
     let answer = reply.answer;
     let engine = reply.engine;
     CallOutput {
-        words: answers::piece_words(answer),
+        words: engine::answers::piece_words(answer),
         engine: engine,
     }
 }
@@ -53,7 +53,7 @@ fn step_of_run(ran: RunResult) -> CallOutput
     let outcome = ran.outcome;
     let engine = ran.engine;
     CallOutput {
-        words: answers::run_words(outcome),
+        words: engine::answers::run_words(outcome),
         engine: engine,
     }
 }
@@ -71,7 +71,7 @@ fn play_call(
         (mkState (r .engine) (now (ring .exit)) (now (memory .exit))) (r .words) ⌝ }
 {
     match request {
-        Request::Open(start, size) => step_of(clients::open(engine, start, size)),
+        Request::Open(start, size) => step_of(queue::clients::open(engine, start, size)),
         Request::Submit(client, from, to) => step_of(submission::submit(
             engine,
             ring,
@@ -80,7 +80,7 @@ fn play_call(
         )),
         Request::Run => step_of_run(run::run(engine, ring, memory)),
         Request::Pending(client) => CallOutput {
-            words: answers::answer_words(clients::pending(engine, client)),
+            words: engine::answers::answer_words(queue::clients::pending(engine, client)),
             engine: engine,
         },
         Request::Begin(client, total) => step_of(submission::begin(engine, ring, client, total)),
@@ -91,7 +91,7 @@ fn play_call(
             &bytes[from..to],
         )),
         Request::Cancel(client) => step_of(submission::cancel(engine, client)),
-        Request::Close(client) => step_of(closing::close(engine, memory, client)),
+        Request::Close(client) => step_of(dequeue::closing::close(engine, memory, client)),
     }
 }
 
@@ -149,10 +149,10 @@ pub fn play(
     if answers.len() < 24 {
         return 0;
     }
-    let reply = clients::set_up(ring_length, memory_length, common_length, reset);
+    let reply = queue::clients::set_up(ring_length, memory_length, common_length, reset);
     let engine = reply.engine;
     let answered = reply.answer;
-    let words = answers::answer_words(answered);
+    let words = engine::answers::answer_words(answered);
     answer::write_answer(answers, 0, words);
     if words[0] != 0 {
         return 24;

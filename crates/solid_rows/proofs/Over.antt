@@ -20,7 +20,7 @@ use Rattle.register.specs.declared.task.SourceMode.the-variants.{Colour}
 use Rattle.register.specs.declared.task.Task.{Task}
 use Rattle.row_pixels.specs.Row.{colourIn, rowStored}
 use Rattle.row_pixels.specs.Composite.{composite}
-use Rattle.solid.proofs.Over.{composite-over}
+use Rattle.solid_rows.proofs.solid.Over.{composite-over}
 use Rattle.raster.specs.Task.{sourceColour, destinationColour, pixelColour}
 use Rattle.raster.specs.Row.{rowDrawn}
 use Rattle.raster.proofs.Slices.{row-lent, row-ext}

@@ -1,4 +1,6 @@
 // Tasks that lay one colour over their output by SRC_OVER: what is needed of the colour is found once a task, and no buffer is used.
+pub mod solid;
+
 ghost use mathlib.Core.Path.{_≡_};
 ghost use Prim.Native.Nat.{_+_, _*_};
 ghost use lib.ListN.{length};
@@ -6,20 +8,20 @@ ghost use Rattle.pixel.specs.Blending.{blended};
 ghost use Rattle.pixel.specs.Rules.{blendModeFactors};
 ghost use Rattle.pixel.specs.declared.blend.BlendMode.the-variants.{SrcOver};
 ghost use Rattle.surface.specs.Drawn.{loadPixel};
-ghost use Rattle.solid_colour.specs.Solid.{solidOf, Prepared};
+ghost use Rattle.solid_rows.specs.Solid.{solidOf, Prepared};
 ghost use Rattle.kinds.specs.Kinds.{kindOf};
 ghost use Rattle.raster.specs.Task.{drawTask};
 ghost use Rattle.raster.specs.Preconditions.{Drawable};
 ghost use Rattle.raster.specs.Row.{rowDrawn, drawRow, RowDrawable};
 ghost use Rattle.solid_rows.specs.Row.{solidColour, SolidFits};
+use crate::solid::colour::Solid;
+use crate::solid::colour::solid_of;
+use crate::solid::solid_row;
 use kinds::Kind;
 use pixel::Format;
 use range::Range;
 use register::Task;
 use row_pixels::blending_colour;
-use solid::solid_row;
-use solid_colour::Solid;
-use solid_colour::solid_of;
 use surface::Surface;
 
 // The colour that such a task lays over its output.

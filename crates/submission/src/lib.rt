@@ -21,8 +21,8 @@ pub fn submit(engine: EngineRecord, ring: &mut [u8], client: u32, batch: &[u8]) 
         × (now (ring .exit) ≡ submitRing engine (now (ring .entry)) client (now (batch .entry))) ⌝ }
 {
     let size = batch.len();
-    let found = validity::check(engine);
-    let refusal = enqueue::submit_refusal(engine, found, ring.len(), client, size);
+    let found = engine_record::validity::check(engine);
+    let refusal = queue::enqueue::submit_refusal(engine, found, ring.len(), client, size);
     if refusal != 0 {
         return Reply {
             answer: Answer::Refused(refusal),
@@ -30,7 +30,7 @@ pub fn submit(engine: EngineRecord, ring: &mut [u8], client: u32, batch: &[u8]) 
         };
     }
     let next = engine.next_ticket;
-    let offset = enqueue::write_offset(engine, found.bytes);
+    let offset = queue::enqueue::write_offset(engine, found.bytes);
     ring::copy_in(ring, offset, batch);
     let added = Batch {
         client: client,
@@ -39,8 +39,8 @@ pub fn submit(engine: EngineRecord, ring: &mut [u8], client: u32, batch: &[u8]) 
         length: size,
     };
     let slots = engine.slots;
-    let at = slots::lowest_free(slots);
-    let after = enqueue::with_batch(engine, at, added);
+    let at = engine_record::slot_table::lowest_free(slots);
+    let after = queue::enqueue::with_batch(engine, at, added);
     Reply {
         answer: Answer::Accepted(next),
         engine: after,
@@ -60,8 +60,8 @@ fn with_staged(engine: EngineRecord, staged: Staged) -> EngineRecord
 pub fn begin(engine: EngineRecord, ring: &[u8], client: u32, total: usize) -> Reply
     ensures { λ r. ⌜ r ≡ beginResult engine (length (now (ring .entry))) client total ⌝ }
 {
-    let found = validity::check(engine);
-    let number = enqueue::submit_refusal(engine, found, ring.len(), client, total);
+    let found = engine_record::validity::check(engine);
+    let number = queue::enqueue::submit_refusal(engine, found, ring.len(), client, total);
     if number != 0 {
         return Reply {
             answer: Answer::Refused(number),
@@ -69,7 +69,7 @@ pub fn begin(engine: EngineRecord, ring: &[u8], client: u32, total: usize) -> Re
         };
     }
     let slots = engine.slots;
-    let at = slots::lowest_free(slots);
+    let at = engine_record::slot_table::lowest_free(slots);
     let staged = Staged {
         client: client,
         slot: at,
@@ -110,7 +110,11 @@ fn piece_refusal(
     let own = queue::staged_by(staged, client);
     let left = missing_bytes(staged);
     let no14 = queue::first_refusal(!own | (left < size), 14, 0);
-    let no5 = queue::first_refusal(!windows::is_open(engine, client), 5, no14);
+    let no5 = queue::first_refusal(
+        !engine_record::client_table::is_open(engine, client),
+        5,
+        no14,
+    );
     let no10 = queue::first_refusal(!(given == setup.ring), 10, no5);
     queue::first_refusal(!found.valid, 11, no10)
 }
@@ -127,7 +131,7 @@ fn finished(engine: EngineRecord, offset: usize) -> EngineRecord
         offset: offset,
         length: staged.total,
     };
-    enqueue::with_batch(engine, staged.slot, added)
+    queue::enqueue::with_batch(engine, staged.slot, added)
 }
 
 // The record with so many bytes of the staged batch.
@@ -145,7 +149,7 @@ pub fn piece(engine: EngineRecord, ring: &mut [u8], client: u32, piece: &[u8]) -
         × (now (ring .exit) ≡ pieceRing engine (now (ring .entry)) client (now (piece .entry))) ⌝ }
 {
     let size = piece.len();
-    let found = validity::check(engine);
+    let found = engine_record::validity::check(engine);
     let number = piece_refusal(engine, found, ring.len(), client, size);
     if number != 0 {
         return Reply {
@@ -155,7 +159,7 @@ pub fn piece(engine: EngineRecord, ring: &mut [u8], client: u32, piece: &[u8]) -
     }
     let setup = engine.setup;
     let staged = engine.staged;
-    let offset = enqueue::write_offset(engine, found.bytes);
+    let offset = queue::enqueue::write_offset(engine, found.bytes);
     let at = engine_record::wrap_offset(setup.ring, offset + staged.received);
     ring::copy_in(ring, at, piece);
     let received = staged.received + size;
@@ -179,8 +183,12 @@ fn cancel_refusal(engine: EngineRecord, client: u32) -> u32
 {
     let staged = engine.staged;
     let no14 = queue::first_refusal(!queue::staged_by(staged, client), 14, 0);
-    let no5 = queue::first_refusal(!windows::is_open(engine, client), 5, no14);
-    queue::first_refusal(!validity::is_valid(engine), 11, no5)
+    let no5 = queue::first_refusal(
+        !engine_record::client_table::is_open(engine, client),
+        5,
+        no14,
+    );
+    queue::first_refusal(!engine_record::validity::is_valid(engine), 11, no5)
 }
 
 // Drops the staged batch. Bytes that were copied stay in the ring.

@@ -1,4 +1,6 @@
 // Rectangles of pixels in bytes, and one pixel loaded or stored.
+pub mod overlap;
+
 ghost use mathlib.Core.Path.{_≡_};
 ghost use Prim.Native.Nat.{_+_, _≤_};
 ghost use lib.ListN.{length};

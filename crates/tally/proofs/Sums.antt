@@ -20,7 +20,7 @@ use Rattle.records.specs.declared.Found.{Found}
 use Rattle.records.specs.declared.Found.the-variants.{Nothing, Record, BadVersion, BadRecord}
 use Rattle.records.specs.Records.{Entry}
 use Rattle.records.specs.Reading.{entryIn}
-use Rattle.editions.specs.Editions.{scoreHolds, submission}
+use Rattle.records.specs.Editions.{scoreHolds, submission}
 use Rattle.lines.specs.Answered.{recordRefusal}
 use Rattle.totals.specs.Totals.{largest}
 use Rattle.tally.specs.declared.Running.{Running}

@@ -13,7 +13,7 @@ use Rattle.claims.specs.BatchSemantics.{boundsOf}
 use Rattle.records.specs.declared.Edition.{Edition}
 use Rattle.records.specs.declared.Edition.the-variants.{First, Second}
 use Rattle.records.specs.Records.{Entry, records}
-use Rattle.editions.specs.Editions.{scoreHolds, submission}
+use Rattle.records.specs.Editions.{scoreHolds, submission}
 use Rattle.lines.specs.Lines.{fileReset}
 use Rattle.lines.specs.Answered.{recordRefusal, replayWindow}
 

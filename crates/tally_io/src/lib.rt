@@ -1,5 +1,7 @@
 // Replay files read and added to a tally. No contract can say which bytes are read; that the counts grow by what some bytes add to them is
 // proved, and that nothing is added where a file can't be read.
+pub mod files;
+
 ghost use Rattle.totals.specs.declared.Totals.{Totals};
 ghost use Rattle.totals.specs.Files.{AddsFile};
 ghost use Rattle.tally.specs.Tally.{Adds};

@@ -2,8 +2,8 @@
 // from counts that were printed before; `tally --add FILE..` adds such lines, of lots that were tallied apart, and prints the sums in the same form. Where
 // a count would pass the largest 64-bit number the last line is `refused 19`: then the counts are those before the file that was too much, and no file
 // after it is read. How many files are done is shown on descriptor 4 if that is a terminal.
-use tally_lines::Reading;
 use totals::Totals;
+use totals::lines::Reading;
 
 // The totals to start with: zeros, or those of the file that the second argument names. That it holds none is reported.
 fn start(from: bool) -> Reading {
@@ -50,7 +50,7 @@ fn main() {
         return;
     }
     let totals = reading.totals;
-    let sum = tally_files::add_arguments(lots, first, count, totals);
+    let sum = tally_io::files::add_arguments(lots, first, count, totals);
     let answer = sum.answer;
     totals_io::print_answer(answer);
 }

@@ -25,13 +25,13 @@ use Rattle.records.specs.declared.Edition.{Edition}
 use Rattle.records.specs.declared.Edition.the-variants.{First, Second}
 use Rattle.records.specs.Records.{Entry}
 use Rattle.records.specs.Reading.{batchStart, entryIn}
-use Rattle.editions.specs.Editions.{resetRuleOf, scoreHolds, submission, scoreIn}
-use Rattle.editions.proofs.Records.{score-in, submission-in}
+use Rattle.records.specs.Editions.{resetRuleOf, scoreHolds, submission, scoreIn}
+use Rattle.records.proofs.editions.Records.{score-in, submission-in}
 use Rattle.lines.specs.Answered.{recordRefusal, replayWindow}
-use Rattle.acceptance.specs.declared.Submitted.{Submitted}
-use Rattle.acceptance.specs.declared.Submitted.the-variants.{Refused, Within}
-use Rattle.acceptance.specs.Submitted.{submittedAs}
-use Rattle.acceptance.proofs.Taken.{taken-facts, whole-words}
+use Rattle.lines.specs.declared.acceptance.Submitted.{Submitted}
+use Rattle.lines.specs.declared.acceptance.Submitted.the-variants.{Refused, Within}
+use Rattle.lines.specs.Submitted.{submittedAs}
+use Rattle.lines.proofs.acceptance.Taken.{taken-facts, whole-words}
 use Rattle.tally.specs.declared.Running.{Running}
 use Rattle.tally.specs.Running.{plus, taskPlus, tasksPlus, restPlus, ranPlus, unscoredPlus, submittedPlus, recordPlus}
 

@@ -14,9 +14,9 @@ ghost use Rattle.totals.specs.declared.Totals.{Totals};
 ghost use Rattle.tally.specs.Counts.{editionOf};
 ghost use Rattle.tally.specs.Running.{plus, taskPlus, ranPlus, unscoredPlus, submittedPlus, recordPlus, foundPlus};
 ghost use Rattle.tally.specs.Tally.{fedBy, heldBy, Stands, TallyFeedContract};
-use acceptance::Submitted;
 use batch::WalkStep;
-use decoder::next_task;
+use batch::decode::next_task;
+use lines::acceptance::Submitted;
 use records::Edition;
 use records::Found;
 use register::Bank;
@@ -112,14 +112,14 @@ fn add_batch(running: Running, batch: &[u8], bounds: Bounds, rule: ResetRule) ->
 fn add_submitted(running: Running, edition: Edition, client: u32, batch: &[u8]) -> Running
     ensures { λ r. ⌜ r ≡ submittedPlus edition (record { client = client; batch = now (batch .entry) }) running ⌝ }
 {
-    let submitted = acceptance::accept(client, batch);
+    let submitted = lines::acceptance::accept(client, batch);
     match submitted {
         Submitted::Refused => running,
         Submitted::Within(bounds) => add_batch(
             running,
             batch,
             bounds,
-            editions::reset_rule_of(edition),
+            records::editions::reset_rule_of(edition),
         ),
     }
 }
@@ -140,7 +140,7 @@ fn add_record(running: Running, edition: Edition, held: &[u8], end: usize) -> Ru
     ensures { λ r. ⌜ r ≡ recordPlus edition (entryIn (now (held .entry)) end) running ⌝ }
 {
     let begun = add_unscored(running, edition);
-    if !editions::score_in(edition, held, end) {
+    if !records::editions::score_in(edition, held, end) {
         return begun;
     }
     let start = edition.batch_start();

@@ -17,10 +17,10 @@ use Rattle.transform.specs.declared.Rotation.{Rotation}
 use Rattle.transform.specs.declared.Rotation.the-variants.{Rotate0, Rotate90, Rotate180, Rotate270}
 use Rattle.transform.specs.declared.Size.{Size}
 use Rattle.surface.specs.Surface.{rowLength, span, DisjointRows}
-use Rattle.overlap.specs.Overlap.{surfacesOverlap}
+use Rattle.surface.specs.Overlap.{surfacesOverlap}
 use Rattle.surface.specs.declared.Surface.{Surface}
 use Rattle.surface.proofs.Sizes.{bytes-some}
-use Rattle.overlap.proofs.Overlap.{separate}
+use Rattle.surface.proofs.overlap.Overlap.{separate}
 use Rattle.register.specs.declared.task.Task.{Task}
 use Rattle.register.specs.Size.{sizeOf}
 use Rattle.task_check.specs.declared.fault.Fault.{Fault}

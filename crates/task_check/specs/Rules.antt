@@ -12,7 +12,7 @@ use Rattle.transform.specs.declared.Rotation.{Rotation}
 use Rattle.transform.specs.declared.Rotation.the-variants.{Rotate0, Rotate90, Rotate180, Rotate270}
 use Rattle.transform.specs.declared.Size.{Size}
 use Rattle.surface.specs.Surface.{rowLength, span}
-use Rattle.overlap.specs.Overlap.{surfacesOverlap}
+use Rattle.surface.specs.Overlap.{surfacesOverlap}
 use Rattle.surface.specs.declared.Surface.{Surface}
 use Rattle.register.specs.Task.{isBuffer}
 use Rattle.register.specs.declared.task.Source.{Source}

@@ -165,8 +165,8 @@ fn overlaps(t: Task) -> bool
     let source = t.source;
     let mode = source.mode;
     let d = t.destination.surface;
-    (mode.is_buffer() & overlap::surfaces_overlap(source.surface, t.output))
-        | (t.blending.on & overlap::surfaces_overlap(d, t.output) & !is_alias(d, t.output))
+    (mode.is_buffer() & surface::overlap::surfaces_overlap(source.surface, t.output))
+        | (t.blending.on & surface::overlap::surfaces_overlap(d, t.output) & !is_alias(d, t.output))
 }
 
 // The first rule, in the order of their numbers, that a task breaks.

@@ -2,3 +2,5 @@
 pub mod Line
 pub mod Hex
 pub mod Decimal
+-- Numbers in decimal digits.
+pub mod Numerals

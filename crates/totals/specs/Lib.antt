@@ -2,3 +2,6 @@
 pub mod Totals
 pub mod Files
 pub mod Sums
+-- The lines of totals; totals read from them.
+pub mod Lines
+pub mod Reading

@@ -1,4 +1,6 @@
 // Totals of the month's tally, and totals added to totals.
+pub mod lines;
+
 ghost use mathlib.Core.Path.{_≡_};
 ghost use mathlib.Core.Bool.{false};
 ghost use Prim.Native.Nat.{_+_};

@@ -15,8 +15,8 @@ use Rattle.totals.specs.declared.Answer.{Answer}
 use Rattle.totals.specs.declared.Outcome.{Outcome}
 use Rattle.totals.specs.Totals.{unchanged, AddsTotals}
 use Rattle.totals.specs.Files.{AddsFile}
-use Rattle.tally_lines.specs.declared.Reading.{Reading}
-use Rattle.tally_lines.specs.Reading.{Reads}
+use Rattle.totals.specs.declared.lines.Reading.{Reading}
+use Rattle.totals.specs.Reading.{Reads}
 use Rattle.totals_io.specs.declared.TotalsFile.{TotalsFile}
 use Rattle.totals_io.specs.Lots.{AddsText, ReadsFile}
 

@@ -7,8 +7,8 @@ use Prim.Native.Nat.{ℕ}
 use Rattle.totals.specs.declared.Totals.{Totals}
 use Rattle.totals.specs.declared.Answer.{Answer}
 use Rattle.totals.specs.Totals.{unchanged, AddsTotals}
-use Rattle.tally_lines.specs.Lines.{totalsText}
-use Rattle.tally_lines.specs.Reading.{FourteenCounts, Reads}
+use Rattle.totals.specs.Lines.{totalsText}
+use Rattle.totals.specs.Reading.{FourteenCounts, Reads}
 use Rattle.totals_io.specs.declared.TotalsFile.{TotalsFile}
 
 -- what a text adds: the totals that print it, fourteen numbers of 64 bits; and any other text nothing

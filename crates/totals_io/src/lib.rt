@@ -4,16 +4,16 @@ ghost use mathlib.Core.Path.{_≡_};
 ghost use mathlib.Core.Bool.{true, false, cond};
 ghost use lib.ListN.{length};
 ghost use Rattle.io.specs.Counts.{Counts};
-ghost use Rattle.tally_lines.specs.Lines.{answerText, progressText};
+ghost use Rattle.totals.specs.Lines.{answerText, progressText};
 ghost use Rattle.totals.specs.Totals.{unchanged, AddsTotals};
 ghost use Rattle.totals.specs.Files.{AddsFile};
 ghost use Rattle.totals_io.specs.Lots.{AddsText, ReadsFile};
 use command::Piece;
 use command::Printed;
-use tally_lines::Reading;
 use totals::Answer;
 use totals::Outcome;
 use totals::Totals;
+use totals::lines::Reading;
 
 // ---- printed
 
@@ -22,7 +22,7 @@ pub fn print_answer(answer: Answer) -> Printed
     ensures { λ r. ⌜ r .size ≡ length (answerText answer) ⌝ }
 {
     let mut line = [0u8; 704];
-    let n = tally_lines::write_answer(&mut line, answer);
+    let n = totals::lines::write_answer(&mut line, answer);
     command::print(&line, n)
 }
 
@@ -43,7 +43,7 @@ pub fn show_progress(fd: i32, files: usize, of: usize) -> Shown
         };
     }
     let mut line = [0u8; 64];
-    let n = tally_lines::write_progress(&mut line, files, of);
+    let n = totals::lines::write_progress(&mut line, files, of);
     io::write_all(fd, &line[..n]);
     Shown {
         terminal: true,
@@ -102,7 +102,7 @@ fn read_from(fd: i32, name: &[u8]) -> TotalsFile
     if !got.ok {
         return no_file();
     }
-    let reading = tally_lines::read(&text[..got.count]);
+    let reading = totals::lines::read(&text[..got.count]);
     if !reading.ok {
         command::complain(name, b" does not hold printed totals\n");
     }

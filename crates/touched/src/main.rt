@@ -70,5 +70,5 @@ fn main() {
         return;
     };
     let mut line = [0u8; 128];
-    inquiry_io::print_touched(&mut line, inquiry_answers::who_touched(question, inquiry));
+    inquiry_io::print_touched(&mut line, inquiry::answers::who_touched(question, inquiry));
 }

@@ -18,8 +18,8 @@ use Rattle.surface.proofs.Loaded.{loaded-shift}
 use Rattle.surface.proofs.Parts.{length-mid, getD-mid}
 use Rattle.surface.proofs.Rows.{next}
 use Rattle.lanes.specs.Lanes.{Done}
-use Rattle.byte_rows.specs.Apart.{Apart, movedByte}
-use Rattle.row_copy.proofs.Bytes.{row-moved}
+use Rattle.lanes.specs.Apart.{Apart, movedByte}
+use Rattle.unblended_rows.proofs.row_copy.Bytes.{row-moved}
 use Rattle.range.specs.declared.Range.{Range}
 use Rattle.range.proofs.Laws.{inside-ends}
 use Rattle.transform.specs.declared.Point.{Point}

@@ -1,4 +1,6 @@
 // Tasks without blending whose rows need no buffer, or only one to carry bytes: filled with one colour a row, or moved as they are.
+pub mod row_copy;
+
 ghost use mathlib.Core.Path.{_≡_};
 ghost use Prim.Native.Nat.{_+_, _*_, _≤_, _<_};
 ghost use lib.ListN.{length};
@@ -9,16 +11,16 @@ ghost use Rattle.kinds.specs.Kinds.{kindOf};
 ghost use Rattle.raster.specs.Task.{drawTask};
 ghost use Rattle.raster.specs.Preconditions.{Drawable};
 ghost use Rattle.raster.specs.Row.{rowDrawn, drawRow, uniformColour, RowFits, RowDrawable, HoldsRow};
-use byte_rows::copy;
-use byte_rows::copy_within;
-use gradient::colour_at;
+use crate::row_copy::fetch_bytes;
 use kinds::Kind;
+use lanes::bytes::copy;
+use lanes::bytes::copy_within;
 use pixel::Colour;
+use pixel::gradient::colour_at;
 use range::Range;
 use register::Source;
 use register::SourceMode;
 use register::Task;
-use row_copy::fetch_bytes;
 use row_pixels::identity_row_start;
 use scanline::fill_row;
 use surface::Surface;

@@ -8,7 +8,7 @@ ghost use Rattle.raster.specs.Batch.{drawBatch};
 ghost use Rattle.raster.specs.Preconditions.{Drawable, BoundsInMemory};
 use batch::Verdict;
 use batch::WalkStep;
-use decoder::next_task;
+use batch::decode::next_task;
 use range::Range;
 use register::Bank;
 use register::Task;

@@ -8,12 +8,12 @@ ghost use Rattle.orientation.specs.Bits.{settingOf, bitsOf};
 ghost use Rattle.encoder.specs.Encoder.{encodeRefusalOf, answerOf, bufferAfter};
 ghost use Rattle.script_player.specs.Played.{ScriptResult};
 ghost use Rattle.calls.specs.Calls.{SetsUp, Opens, Submits, Begins, HandsOver, Cancels, Closes, Pends, Runs};
-ghost use Rattle.tint.specs.Tint.{tintRefusalOf, answerOf as tintAnswer, bufferAfter as tintBuffer};
+ghost use Rattle.encoder.specs.Tint.{tintRefusalOf, answerOf as tintAnswer, bufferAfter as tintBuffer};
 use encoder::Fields;
 use encoder::SurfaceFields;
-use gradient::Steps;
+use encoder::tint::Tint;
+use pixel::gradient::Steps;
 use reset::ResetRule;
-use tint::Tint;
 
 // Sets up an engine and plays a script on the lent ring and memory. Returns how many bytes of answers it wrote. A `reset` of 0 is the old reset
 // rule, any other number the new one, so that nobody can ask for a third.
@@ -61,9 +61,9 @@ pub extern "C" fn wenditsal_set_up(
     if engine.len() != 272 {
         return 11;
     }
-    let reply = clients::set_up(ring, memory, common, ResetRule::from_number(reset));
+    let reply = queue::clients::set_up(ring, memory, common, ResetRule::from_number(reset));
     let mut none: u32 = 0;
-    results::write_value(engine, reply, &mut none)
+    calls::outcomes::write_value(engine, reply, &mut none)
 }
 
 // Opens a client with a window; answers its id.
@@ -71,9 +71,9 @@ pub extern "C" fn wenditsal_set_up(
 pub extern "C" fn wenditsal_open(engine: &mut [u8], start: u32, size: u32, client: &mut u32) -> u32
     ensures { λ r. ⌜ Opens (now (engine .entry)) (record { start = start; length = size }) r (now (client .exit)) (now (engine .exit)) ⌝ }
 {
-    let record = record_decoder::decode(engine);
-    let reply = clients::open(record, start, size);
-    results::write_value(engine, reply, client)
+    let record = record_bytes::reading::decode(engine);
+    let reply = queue::clients::open(record, start, size);
+    calls::outcomes::write_value(engine, reply, client)
 }
 
 // Puts a client's batch into the ring and the queue; answers its ticket.
@@ -88,9 +88,9 @@ pub extern "C" fn wenditsal_submit(
     ensures { λ r. ⌜ Submits (now (engine .entry)) (now (ring .entry)) client (now (batch .entry))
         r (now (ticket .exit)) (now (engine .exit)) (now (ring .exit)) ⌝ }
 {
-    let record = record_decoder::decode(engine);
+    let record = record_bytes::reading::decode(engine);
     let reply = submission::submit(record, ring, client, batch);
-    results::write_value(engine, reply, ticket)
+    calls::outcomes::write_value(engine, reply, ticket)
 }
 
 // Begins a batch of a total length that a client hands over by pieces.
@@ -98,10 +98,10 @@ pub extern "C" fn wenditsal_submit(
 pub extern "C" fn wenditsal_begin(engine: &mut [u8], ring: &[u8], client: u32, total: usize) -> u32
     ensures { λ r. ⌜ Begins (now (engine .entry)) (now (ring .entry)) client total r (now (engine .exit)) ⌝ }
 {
-    let record = record_decoder::decode(engine);
+    let record = record_bytes::reading::decode(engine);
     let reply = submission::begin(record, ring, client, total);
     let mut none: u32 = 0;
-    results::write_value(engine, reply, &mut none)
+    calls::outcomes::write_value(engine, reply, &mut none)
 }
 
 // Hands over a piece of it; answers 0 and the bytes still to come, or, of the last, 1 and the ticket. The header has these two as a structure.
@@ -116,9 +116,9 @@ pub extern "C" fn wenditsal_piece(
     ensures { λ r. ⌜ HandsOver (now (engine .entry)) (now (ring .entry)) client (now (piece .entry))
         r (now (progress .exit)) (now (engine .exit)) (now (ring .exit)) ⌝ }
 {
-    let record = record_decoder::decode(engine);
+    let record = record_bytes::reading::decode(engine);
     let reply = submission::piece(record, ring, client, piece);
-    results::write_progress(engine, reply, progress)
+    calls::outcomes::write_progress(engine, reply, progress)
 }
 
 // Drops it.
@@ -126,10 +126,10 @@ pub extern "C" fn wenditsal_piece(
 pub extern "C" fn wenditsal_cancel(engine: &mut [u8], client: u32) -> u32
     ensures { λ r. ⌜ Cancels (now (engine .entry)) client r (now (engine .exit)) ⌝ }
 {
-    let record = record_decoder::decode(engine);
+    let record = record_bytes::reading::decode(engine);
     let reply = submission::cancel(record, client);
     let mut none: u32 = 0;
-    results::write_value(engine, reply, &mut none)
+    calls::outcomes::write_value(engine, reply, &mut none)
 }
 
 // Closes a client: its window is filled with zeros, and its id and window are free.
@@ -137,10 +137,10 @@ pub extern "C" fn wenditsal_cancel(engine: &mut [u8], client: u32) -> u32
 pub extern "C" fn wenditsal_close(engine: &mut [u8], memory: &mut [u8], client: u32) -> u32
     ensures { λ r. ⌜ Closes (now (engine .entry)) (now (memory .entry)) client r (now (engine .exit)) (now (memory .exit)) ⌝ }
 {
-    let record = record_decoder::decode(engine);
-    let reply = closing::close(record, memory, client);
+    let record = record_bytes::reading::decode(engine);
+    let reply = dequeue::closing::close(record, memory, client);
     let mut none: u32 = 0;
-    results::write_value(engine, reply, &mut none)
+    calls::outcomes::write_value(engine, reply, &mut none)
 }
 
 // Takes the oldest batch; answers client, ticket, status, fault and place. The header has these five as a structure.
@@ -154,9 +154,9 @@ pub extern "C" fn wenditsal_run(
     ensures { λ r. ⌜ Runs (now (engine .entry)) (now (ring .entry)) (now (memory .entry))
         r (now (completion .exit)) (now (engine .exit)) (now (memory .exit)) ⌝ }
 {
-    let record = record_decoder::decode(engine);
+    let record = record_bytes::reading::decode(engine);
     let ran = run::run(record, ring, memory);
-    results::write_completion(engine, ran, completion)
+    calls::outcomes::write_completion(engine, ran, completion)
 }
 
 // Answers how many batches of a client are ready.
@@ -164,8 +164,8 @@ pub extern "C" fn wenditsal_run(
 pub extern "C" fn wenditsal_pending(engine: &[u8], client: u32, count: &mut u32) -> u32
     ensures { λ r. ⌜ Pends (now (engine .entry)) client r (now (count .exit)) ⌝ }
 {
-    let record = record_decoder::decode(engine);
-    let words = answers::answer_words(clients::pending(record, client));
+    let record = record_bytes::reading::decode(engine);
+    let words = engine::answers::answer_words(queue::clients::pending(record, client));
     *count = words[1];
     words[0]
 }
@@ -222,7 +222,7 @@ pub extern "C" fn wenditsal_encode_tint(
         × (now (buffer .exit) ≡ tintBuffer score (record { red = red; green = green; blue = blue }) output (now (buffer .entry)))
         ⌝ }
 {
-    let answer = tint::encode_tint(score, Tint { red, green, blue }, output, buffer);
+    let answer = encoder::tint::encode_tint(score, Tint { red, green, blue }, output, buffer);
     answer.number()
 }
 

@@ -28,10 +28,10 @@ use Rattle.lanes.specs.Lanes.{Done}
 use Rattle.lanes.proofs.Laws.{under-or}
 use Rattle.lanes.proofs.Passes.{to-end}
 use Rattle.plan.specs.Blend.{blendAt}
-use Rattle.row_colours.proofs.Colours.{Row, colour-is, blend-colour, row-is}
-use Rattle.byte_rows.specs.Apart.{Apart}
-use Rattle.bytes_within.specs.Within.{blendWithin}
-use Rattle.bytes_within.proofs.Within.{in-drop}
+use Rattle.row_pixels.proofs.RowColours.Colours.{Row, colour-is, blend-colour, row-is}
+use Rattle.lanes.specs.Apart.{Apart}
+use Rattle.within_rows.specs.Within.{blendWithin}
+use Rattle.within_rows.proofs.blend.bytes.Within.{in-drop}
 use Rattle.raster.specs.Task.{pixelColour}
 use Rattle.raster.specs.Row.{rowDrawn}
 use Rattle.raster.proofs.InPlace.{argb-length, mixedFrom, mixed-lent, mixed-pixel}

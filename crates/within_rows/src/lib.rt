@@ -1,5 +1,7 @@
 // Tasks whose rows are blended inside the window: the output is its own destination, and the source's rows lie in the window as they are blended. Neither
 // row is fetched into a buffer.
+pub mod blend;
+
 ghost use mathlib.Core.Path.{_≡_};
 ghost use lib.ListN.{length};
 ghost use Rattle.plan.specs.Plan.{planOf};
@@ -7,7 +9,7 @@ ghost use Rattle.kinds.specs.Kinds.{kindOf};
 ghost use Rattle.raster.specs.Task.{drawTask};
 ghost use Rattle.raster.specs.Preconditions.{Drawable};
 ghost use Rattle.raster.specs.Row.{drawRow, RowDrawable};
-use combine_within::blend_within;
+use crate::blend::blend_within;
 use kinds::Kind;
 use plan::Plan;
 use plan::plan_of;

@@ -4,7 +4,7 @@ use Rattle.register.specs.Task.{isBuffer}
 use Rattle.register.specs.declared.task.SourceMode.{SourceMode}
 use Rattle.row_pixels.specs.Row.{sourcePixelOf}
 use Rattle.raster.specs.Task.{sourceModeColour, sourceColour}
-use Rattle.task_predicates.specs.Predicates.{isUniform}
+use Rattle.kinds.specs.Predicates.{isUniform}
 use Rattle.raster.specs.Row.{uniformColour}
 use Rattle.raster.proofs.Pixel.{upright-across, upright-down, source-across, source-uniform}
 use borrow.Author.Needs.{needs}

@@ -4,7 +4,7 @@ use Rattle.combine.proofs.Fours.{copy-done, clear-done, add-done}
 use mathlib.Core.Path.{refl, sym, _∙_}
 use denote.Ref.{now}
 use borrow.Author.Tests.{eq-eqb}
-use Rattle.opacity.proofs.Sums.{full-sum, empty-sum}
+use Rattle.lanes.proofs.opacity.Sums.{full-sum, empty-sum}
 use Rattle.plan.proofs.Blends.{Bytes}
 use native.Mathlib.Omega.{arith}
 use borrow.Author.Needs.{needs}

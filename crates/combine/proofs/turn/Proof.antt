@@ -1,6 +1,6 @@
 use Rattle.combine.proofs.Fours.{copy-done, leave-done}
 use Rattle.lanes.proofs.Laws.{both}
-use Rattle.opacity.proofs.Sums.{full-sum, empty-sum}
+use Rattle.lanes.proofs.opacity.Sums.{full-sum, empty-sum}
 use Rattle.plan.proofs.Blends.{Bytes}
 use Rattle.plan.proofs.Factors.{copies-is, leaves-is}
 use mathlib.Core.Path.{sym, _∙_}

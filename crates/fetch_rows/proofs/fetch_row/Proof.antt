@@ -5,7 +5,7 @@ use lib.ListN.{length}
 use denote.Ref.{now}
 use borrow.Rule.Slice.PartMut.{midOf}
 use Rattle.surface.proofs.Parts.{length-mid}
-use Rattle.row_colours.proofs.Parts.{part-fetched}
+use Rattle.row_pixels.proofs.RowColours.Parts.{part-fetched}
 use borrow.Author.Needs.{needs}
 use Rattle.fetch_rows.proofs.fetch_row.Statement.{statement}
 use Rattle.fetch_rows.proofs.fetch_row.Tie as tie

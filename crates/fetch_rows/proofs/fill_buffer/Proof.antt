@@ -7,10 +7,13 @@ use borrow.Rule.Slice.PartMut.{midOf}
 use Rattle.pixel.specs.declared.format.Format.the-variants.{Argb8888}
 use Rattle.surface.proofs.Parts.{length-mid}
 use Rattle.row_pixels.specs.Row.{wordColour}
-use Rattle.row_colours.proofs.Parts.{unpacked-small, holds-part}
+use Rattle.row_pixels.proofs.RowColours.Parts.{unpacked-small, holds-part}
 use borrow.Author.Needs.{needs}
 use Rattle.fetch_rows.proofs.fill_buffer.Statement.{statement}
 use Rattle.fetch_rows.proofs.fill_buffer.Tie as tie
+
+fill-words-requires : tie.Need-fill-words-requires
+fill-words-requires c κs = search needs
 
 returns : tie.Need-returns
 returns c =
@@ -33,6 +36,6 @@ fill-buffer-spec =
     (λ c. search needs)
     (λ c. search needs)
     (λ c κs. search needs)
-    (λ c κs. search needs)
+    fill-words-requires
     (λ c. search needs)
     returns)

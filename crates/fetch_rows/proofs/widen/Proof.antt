@@ -1,6 +1,6 @@
 use native.Mathlib.Omega.{arith}
 use denote.Ref.{now}
-use Rattle.row_colours.proofs.Parts.{copied-row}
+use Rattle.row_pixels.proofs.RowColours.Parts.{copied-row}
 use borrow.Author.Needs.{needs}
 use Rattle.fetch_rows.proofs.widen.Statement.{statement}
 use Rattle.fetch_rows.proofs.widen.Tie as tie

@@ -5,7 +5,7 @@ use lib.Dec.{ltb}
 use borrow.Author.Tests.{ltb-false}
 use Rattle.word.proofs.Tests.{or-false}
 use Rattle.records.specs.Records.{Entry}
-use Rattle.acceptance.proofs.Taken.{refused-none, within-taken}
+use Rattle.lines.proofs.acceptance.Taken.{refused-none, within-taken}
 use Rattle.inquiry.proofs.Answering.{after-refused, after-accepted}
 use borrow.Author.Needs.{needs}
 use Rattle.inquiry.proofs.after_record.Statement.{statement}

@@ -1,14 +1,14 @@
 use native.Mathlib.Omega.{arith}
 use Rattle.records.specs.Records.{badRecord}
 use Rattle.lines.specs.Lines.{endingLine}
-use Rattle.record_lines.proofs.Printing.{prints-typed}
+use Rattle.lines.proofs.record_lines.Printing.{prints-typed}
 use Rattle.replay.proofs.Feeding.{found-nothing, found-record, found-version, found-bad}
 use borrow.Author.Needs.{needs}
 use Rattle.replay.proofs.after_found.Statement.{statement}
 use Rattle.replay.proofs.after_found.Tie as tie
 use Rattle.replay.proofs.after_found.Reads as reads
 use Rattle.replay.proofs.after_found.Lts as lts
-use Rattle.record_lines.proofs.bad_version.Reads as bad-version-reads
+use Rattle.lines.proofs.record_lines.bad_version.Reads as bad-version-reads
 use Rattle.replay.proofs.serving.serve_record.Reads as serve-record-reads
 use Rattle.text.proofs.line.copy.Reads as copy-reads
 

@@ -1,7 +1,7 @@
 use native.Mathlib.Omega.{arith}
 use Rattle.records.specs.Records.{cutRecord}
 use Rattle.lines.specs.Lines.{endingLine}
-use Rattle.record_lines.proofs.Printing.{prints-none, prints-typed}
+use Rattle.lines.proofs.record_lines.Printing.{prints-none, prints-typed}
 use Rattle.replay.proofs.Feeding.{finishes-short, finishes-version, finishes-whole, finishes-cut, finishes-ended}
 use borrow.Author.Needs.{needs}
 use Rattle.replay.proofs.finish.Statement.{statement}

@@ -8,7 +8,7 @@ use Rattle.surface.proofs.Parts.{length-mid}
 use Rattle.row_pixels.specs.Row.{colourIn}
 use Rattle.row_pixels.specs.Composite.{composite}
 use Rattle.plan.proofs.Factors.{planned-is}
-use Rattle.row_colours.proofs.Parts.{part-colour, mixed-small, holds-part}
+use Rattle.row_pixels.proofs.RowColours.Parts.{part-colour, mixed-small, holds-part}
 use borrow.Author.Needs.{needs}
 use Rattle.scanline.proofs.blend_row.Statement.{statement}
 use Rattle.scanline.proofs.blend_row.Tie as tie

@@ -1,6 +1,6 @@
 use native.Mathlib.Omega.{arith}
 use denote.Ref.{now}
-use Rattle.row_colours.proofs.Parts.{copied-row}
+use Rattle.row_pixels.proofs.RowColours.Parts.{copied-row}
 use borrow.Author.Needs.{needs}
 use Rattle.scanline.proofs.blit_row.Statement.{statement}
 use Rattle.scanline.proofs.blit_row.Tie as tie

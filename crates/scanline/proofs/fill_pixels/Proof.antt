@@ -6,7 +6,7 @@ use denote.Ref.{now}
 use borrow.Author.Needs.{needs}
 use Rattle.pixel.specs.Formats.{bytesPerPixel}
 use Rattle.surface.proofs.Rows.{next}
-use Rattle.argb_words.proofs.RowPrefix.{prefix, none-begun, prefix-step, prefix-all}
+use Rattle.fetch_rows.proofs.words.RowPrefix.{prefix, none-begun, prefix-step, prefix-all}
 use Rattle.scanline.proofs.fill_pixels.Statement.{statement}
 use Rattle.scanline.proofs.fill_pixels.Tie as tie
 

@@ -1,7 +1,7 @@
 use Prim.Native.Nat.{_≤_}
 use native.Mathlib.Omega.{arith}
 use lib.ListN.{length}
-use Rattle.answers.proofs.Numbers.{run-small}
+use Rattle.engine.proofs.answers.Numbers.{run-small}
 use Rattle.script_player.proofs.Turns.{batch-lies, piece-lies, open-plays, submit-plays, run-plays, pending-plays, begin-plays, piece-plays, cancel-plays, close-plays}
 use borrow.Author.Needs.{needs}
 use Rattle.script_player.proofs.play_call.Statement.{statement}

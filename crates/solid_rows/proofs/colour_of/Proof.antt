@@ -1,5 +1,5 @@
 use mathlib.Core.Path.{ap, _∙_}
-use Rattle.solid_colour.specs.Solid.{solidOf}
+use Rattle.solid_rows.specs.Solid.{solidOf}
 use borrow.Author.Needs.{needs}
 use Rattle.solid_rows.proofs.colour_of.Statement.{statement}
 use Rattle.solid_rows.proofs.colour_of.Tie as tie

@@ -17,7 +17,7 @@ use Rattle.tally_pieces.proofs.add_batch.Statement.{statement}
 use Rattle.tally_pieces.proofs.add_batch.Tie as tie
 use Rattle.tally_pieces.proofs.add_batch.Reads as reads
 use Rattle.tally_pieces.proofs.add_batch.Lts as lts
-use Rattle.decoder.proofs.next_task.Reads as next-task-reads
+use Rattle.batch.proofs.decode.next_task.Reads as next-task-reads
 use Rattle.register.proofs.bank.Bank.reset.Reads as reset-reads
 use Rattle.tally_pieces.proofs.add.Reads as add-reads
 use Rattle.tally_pieces.proofs.add_fault.Reads as add-fault-reads

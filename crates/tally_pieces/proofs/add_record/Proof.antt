@@ -7,7 +7,7 @@ use Rattle.tally_pieces.proofs.add_record.Statement.{statement}
 use Rattle.tally_pieces.proofs.add_record.Tie as tie
 use Rattle.tally_pieces.proofs.add_record.Reads as reads
 use Rattle.tally_pieces.proofs.add_record.Lts as lts
-use Rattle.editions.proofs.score_in.Reads as score-in-reads
+use Rattle.records.proofs.editions.score_in.Reads as score-in-reads
 use Rattle.records.proofs.Edition.batch_start.Reads as batch-start-reads
 use Rattle.tally_pieces.proofs.add_submitted.Reads as add-submitted-reads
 use Rattle.tally_pieces.proofs.add_unscored.Reads as add-unscored-reads

@@ -4,8 +4,8 @@ use Rattle.tally_pieces.proofs.add_submitted.Statement.{statement}
 use Rattle.tally_pieces.proofs.add_submitted.Tie as tie
 use Rattle.tally_pieces.proofs.add_submitted.Reads as reads
 use Rattle.tally_pieces.proofs.add_submitted.Lts as lts
-use Rattle.acceptance.proofs.accept.Reads as accept-reads
-use Rattle.editions.proofs.reset_rule_of.Reads as reset-rule-of-reads
+use Rattle.lines.proofs.acceptance.accept.Reads as accept-reads
+use Rattle.records.proofs.editions.reset_rule_of.Reads as reset-rule-of-reads
 use Rattle.tally_pieces.proofs.add_batch.Reads as add-batch-reads
 
 returns : tie.Need-returns

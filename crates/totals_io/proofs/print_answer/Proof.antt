@@ -9,7 +9,7 @@ use Rattle.totals_io.proofs.print_answer.Tie as tie
 use Rattle.totals_io.proofs.print_answer.Reads as reads
 use Rattle.totals_io.proofs.print_answer.Lts as lts
 use Rattle.command.proofs.print.Reads as print-reads
-use Rattle.tally_lines.proofs.write_answer.Reads as write-answer-reads
+use Rattle.totals.proofs.lines.write_answer.Reads as write-answer-reads
 
 -- src/lib.rt:21:39
 -- src/lib.rt:21:9

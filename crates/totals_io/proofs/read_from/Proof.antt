@@ -5,7 +5,7 @@ use Rattle.totals_io.proofs.read_from.Tie as tie
 use Rattle.totals_io.proofs.read_from.Reads as reads
 use Rattle.totals_io.proofs.read_from.Lts as lts
 use Rattle.command.proofs.complain.Reads as complain-reads
-use Rattle.tally_lines.proofs.read.Reads as read-reads
+use Rattle.totals.proofs.lines.read.Reads as read-reads
 use Rattle.totals_io.proofs.no_file.Reads as no-file-reads
 use Rattle.totals_io.proofs.read_text.Reads as read-text-reads
 

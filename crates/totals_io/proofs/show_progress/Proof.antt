@@ -9,7 +9,7 @@ use Rattle.totals_io.proofs.show_progress.Reads as reads
 use Rattle.totals_io.proofs.show_progress.Lts as lts
 use Rattle.io.proofs.write_all.Reads as write-all-reads
 use Rattle.libc.proofs.isatty.Reads as isatty-reads
-use Rattle.tally_lines.proofs.write_progress.Reads as write-progress-reads
+use Rattle.totals.proofs.lines.write_progress.Reads as write-progress-reads
 
 -- src/lib.rt:35:8
 -- src/lib.rt:36:9

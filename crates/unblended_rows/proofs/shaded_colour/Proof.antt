@@ -2,7 +2,7 @@ use mathlib.Core.Path.{ap, _∙_}
 use Prim.Native.Nat.{ℕ}
 use native.Mathlib.Omega.{arith}
 use Rattle.transform.proofs.Inside.{mirrored-below}
-use Rattle.gradient.specs.Gradient.{gradientColour}
+use Rattle.pixel.specs.Gradient.{gradientColour}
 use borrow.Author.Needs.{needs}
 use Rattle.unblended_rows.proofs.shaded_colour.Statement.{statement}
 use Rattle.unblended_rows.proofs.shaded_colour.Tie as tie

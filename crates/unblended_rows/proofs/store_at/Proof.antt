@@ -4,7 +4,7 @@ use native.Mathlib.Omega.{arith}
 use denote.Ref.{now}
 use Rattle.surface.specs.Surface.{rowLength}
 use Rattle.surface.proofs.Parts.{length-mid}
-use Rattle.row_copy.proofs.Bytes.{narrower, row-copied}
+use Rattle.unblended_rows.proofs.row_copy.Bytes.{narrower, row-copied}
 use Rattle.raster.proofs.Slices.{row-lent}
 use borrow.Author.Needs.{needs}
 use Rattle.unblended_rows.proofs.store_at.Statement.{statement}

@@ -15,7 +15,7 @@ use Rattle.ppm.proofs.words.number_of.Statement.{statement}
 use Rattle.ppm.proofs.words.number_of.Tie as tie
 use Rattle.ppm.proofs.words.number_of.Reads as reads
 use Rattle.ppm.proofs.words.number_of.Lts as lts
-use Rattle.numerals.proofs.read.Reads as read-reads
+use Rattle.text.proofs.numerals.read.Reads as read-reads
 
 -- src/words.rt:20:9
 -- src/words.rt:23:9

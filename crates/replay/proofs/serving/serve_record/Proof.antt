@@ -2,14 +2,14 @@ use native.Mathlib.Omega.{arith}
 use lib.ListN.{length}
 use borrow.Author.Tests.{not-true, not-false}
 use Rattle.lines.specs.Lines.{badScoreLine}
-use Rattle.record_lines.proofs.Printing.{prints-typed}
+use Rattle.lines.proofs.record_lines.Printing.{prints-typed}
 use Rattle.replay.proofs.RecordServed.{lies-some, record-bad, record-good}
 use borrow.Author.Needs.{needs}
 use Rattle.replay.proofs.serving.serve_record.Statement.{statement}
 use Rattle.replay.proofs.serving.serve_record.Tie as tie
 use Rattle.replay.proofs.serving.serve_record.Reads as reads
 use Rattle.replay.proofs.serving.serve_record.Lts as lts
-use Rattle.editions.proofs.score_in.Reads as score-in-reads
+use Rattle.records.proofs.editions.score_in.Reads as score-in-reads
 use Rattle.records.proofs.Edition.batch_start.Reads as batch-start-reads
 use Rattle.replay.proofs.serving.submit_and_run.Reads as serve-reads
 use Rattle.text.proofs.line.copy.Reads as copy-reads

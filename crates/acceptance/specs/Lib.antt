@@ -1,2 +1,0 @@
--- What comes of a record that is submitted.
-pub mod Submitted

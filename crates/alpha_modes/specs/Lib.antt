@@ -1,2 +1,0 @@
--- Alpha modes of a row.
-pub mod Mode

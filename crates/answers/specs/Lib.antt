@@ -1,2 +1,0 @@
--- What the calls answer, as words.
-pub mod Answers

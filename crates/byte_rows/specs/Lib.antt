@@ -1,2 +1,0 @@
--- Bytes copied inside one slice.
-pub mod Apart

@@ -1,0 +1,16 @@
+use native.Mathlib.Nat.{mul-le-mul}
+use mathlib.Core.Path.{refl}
+use native.Mathlib.Omega.{arith}
+use Rattle.composite.proofs.alpha_modes.prod.Statement.{statement}
+use Rattle.composite.proofs.alpha_modes.prod.Tie as tie
+
+-- src/alpha.rt:32:5
+mul-result : tie.Need-mul-result
+mul-result c = omega (arith, mul-le-mul (c .pre .0) (c .pre .1))
+
+-- src/alpha.rt:28:1
+returns : tie.Need-returns
+returns c = (refl, mul-le-mul (c .pre .0) (c .pre .1))
+
+pub prod-spec : {M : Type 1} → statement M
+prod-spec = tie.close (tie.spec mul-result returns)

@@ -1,2 +1,0 @@
--- Two drawings as one.
-pub mod Twice

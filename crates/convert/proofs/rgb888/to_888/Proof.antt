@@ -1,0 +1,75 @@
+use Rattle.pixel.specs.declared.format.Format.the-variants.{Rgb888}
+use Rattle.lanes.specs.Lanes.{Done}
+use Rattle.lanes.proofs.Passes.{none-done}
+use Rattle.row_pixels.specs.Row.{colourIn}
+use Rattle.row_pixels.proofs.RowColours.Colours.{Row}
+use Rattle.row_pixels.specs.Line.{pixelByte}
+use Rattle.row_pixels.proofs.RowColours.Stored.{row-done}
+use Rattle.convert.proofs.rgb888.Pixels.{three-more}
+use Prim.Native.Nat.{_*_, _-_, _≤_}
+use mathlib.Core.Path.{_≡_}
+use native.Mathlib.Omega.{arith}
+use borrow.Author.Needs.{needs}
+use lib.ListN.{length}
+use Rattle.convert.proofs.rgb888.to_888.Statement.{statement}
+use Rattle.convert.proofs.rgb888.to_888.Tie as tie
+
+abbrev Inv-loop : tie.InvT-loop
+Inv-loop d₀ s width x₀ d x = ((x ≤ width) × (length d ≡ length d₀)) × Done (pixelByte Rgb888 (λ k. colourIn s k)) d₀ d 0 (x * 3)
+
+abbrev μ-loop : tie.MeasureT-loop
+μ-loop d₀ s width x₀ d x = width - x
+
+-- src/lib.rt:102:5
+loop-holds : tie.Need-loop-holds Inv-loop μ-loop
+loop-holds c = (search needs, none-done _ _ _)
+
+-- src/lib.rt:103:22
+-- src/lib.rt:103:31
+-- src/lib.rt:103:29
+-- src/lib.rt:103:41
+-- src/lib.rt:103:41
+-- src/lib.rt:103:39
+-- src/lib.rt:103:55
+-- src/lib.rt:103:55
+-- src/lib.rt:103:53
+-- src/lib.rt:103:9
+-- src/lib.rt:104:9
+-- src/lib.rt:102:5
+-- src/lib.rt:102:5
+loop-again : tie.Need-loop-again Inv-loop μ-loop
+loop-again c =
+    let c₉ = c .before .before .before .before .before .before .before .before .before in
+    let a = c₉ .before .before in
+    let b = c .before .before .before .before .before .before .before .before in
+    let p = c .before .before .put-three in
+    let in-s : Row (a .args .s .now) = λ j. omega (arith, c₉ .shared-slice-known .given j) in
+    (search needs, three-more (a .args .s .now) (a .args .d .now) (b .loop .d) _ (b .loop .x) in-s (omega arith) (p .ensures) (b .loop .inv .1))
+
+-- src/lib.rt:97:1
+-- src/lib.rt:97:1
+returns : tie.Need-returns Inv-loop μ-loop
+returns c = row-done _ _ _ _ _ (c .before .loop .inv .0 .1) (omega arith) (c .before .loop .inv .1)
+
+pub to-888-spec : {M : Type 1} → statement M
+to-888-spec =
+    tie.close
+    (tie.spec
+    Inv-loop
+    μ-loop
+    loop-holds
+    (λ c. search needs)
+    (λ c. search needs)
+    (λ c. search needs)
+    (λ c. search needs)
+    (λ c. search needs)
+    (λ c. search needs)
+    (λ c. search needs)
+    (λ c. search needs)
+    (λ c. search needs)
+    (λ c κs. search needs)
+    (λ c. search needs)
+    (λ c. search needs)
+    loop-again
+    (λ c. search needs)
+    returns)

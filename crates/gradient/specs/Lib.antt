@@ -1,2 +1,0 @@
--- Colours that change by even steps.
-pub mod Gradient

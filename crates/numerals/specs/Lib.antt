@@ -1,2 +1,0 @@
--- Numbers in decimal digits.
-pub mod Numerals

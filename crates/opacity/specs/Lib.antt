@@ -1,2 +1,0 @@
--- The alphas of four pixels.
-pub mod Alphas

@@ -1,2 +1,0 @@
--- Whether two surfaces share a byte.
-pub mod Overlap

@@ -1,0 +1,23 @@
+use Rattle.plan.proofs.channels.Channels.{over-duo}
+use borrow.Author.Needs.{needs}
+use Rattle.plan.proofs.channels.over_two.Statement.{statement}
+use Rattle.plan.proofs.channels.over_two.Tie as tie
+
+-- src/lane.rt:31:14
+-- src/lane.rt:31:42
+-- src/lane.rt:31:42
+-- src/lane.rt:31:14
+-- src/lane.rt:31:5
+-- src/lane.rt:27:1
+returns : tie.Need-returns
+returns c = over-duo _ _ _ _ _ (search needs) (c .before .left .ensures .0) (c .left2 .ensures .0)
+
+pub over-two-spec : {M : Type 1} → statement M
+over-two-spec =
+    tie.close (tie.spec
+    (λ c κs. search needs)
+    (λ c κs. search needs)
+    (λ c. search needs)
+    (λ c. search needs)
+    (λ c. search needs)
+    returns)

@@ -1,2 +1,0 @@
--- A line printed into a buffer that is lent.
-pub mod Prints

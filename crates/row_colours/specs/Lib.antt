@@ -1,2 +1,0 @@
--- A byte of a row of pixels.
-pub mod Line

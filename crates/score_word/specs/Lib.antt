@@ -1,2 +1,0 @@
--- The bits of a score.
-pub mod ScoreWord

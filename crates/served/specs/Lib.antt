@@ -1,2 +1,0 @@
--- Calls on bytes, one after the other.
-pub mod Served

@@ -1,2 +1,0 @@
--- One colour over a row of ARGB8888 pixels.
-pub mod Over

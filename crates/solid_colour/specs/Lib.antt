@@ -1,2 +1,0 @@
--- A colour, prepared.
-pub mod Solid

@@ -1,3 +1,0 @@
--- The lines of totals; totals read from them.
-pub mod Lines
-pub mod Reading

@@ -1,2 +1,0 @@
--- What is asked of a task's parts.
-pub mod Predicates
