@@ -64,7 +64,8 @@ fn mix_bytes(d: &mut [u8], s: &[u8], fs: u16, fd: u16)
     }
 }
 
-// The same. Where the factors only copy or leave it goes by whole rows: an alpha of 0 or 255 is the common one.
+// The row d, mixed with the row s by two factors. Factors that only copy (255 and 0) or only leave (0 and 255) need no product: under NONE those are the two
+// ends of a fade.
 fn row_by_factors(d: &mut [u8], s: &[u8], fs: u16, fd: u16)
     requires { ⌜ (length (now d) ≤ length (now s)) × ((fs ≤ 255) × (fd ≤ 255)) ⌝ }
     ensures { λ _. ⌜ Done (λ j. blendedChannel (getD (now (s .entry)) j 0) fs (getD (now (d .entry)) j 0) fd) (now (d .entry)) (now (d .exit)) 0 (length (now (d .entry))) ⌝ }
@@ -79,7 +80,8 @@ fn row_by_factors(d: &mut [u8], s: &[u8], fs: u16, fd: u16)
     mix_bytes(d, s, fs, fd);
 }
 
-// The row d, blended with a row s of one alpha, under a rule that does not go by the alphas of d. So 0 stands for those.
+// The row d, blended with a row s of one alpha, under a rule that does not go by the alphas of d. So the factors are found with 0 in their
+// place.
 pub fn constant_alpha_row(d: &mut [u8], s: &[u8], alpha: u8, p: Plan)
     requires { ⌜ ((length (now d) ≤ length (now s)) × ((j : ℕ) → j < length (now d) → alphaAt (now s) j ≡ alpha))
         × (Planned p × ((p .source .destination ≡ 0) × (p .destination .destination ≡ 0))) ⌝ }

@@ -1,4 +1,4 @@
--- Rows whose factors do not go by alpha.
+-- Rows whose factors are the same all along: they do not go by alpha, or the source has one alpha.
 use mathlib.Core.Path.{_≡_, refl, sym, _∙_}
 use mathlib.Core.Bool.{true, _&&_}
 use mathlib.Core.List.{List}
