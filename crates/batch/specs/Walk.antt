@@ -1,4 +1,4 @@
--- Internal: a batch read a task at a time: one step of the reading (`stepAt`, the contract of `decoder::next_task`), and what it says of the whole
+-- Internal: a batch read a task at a time: one step of the reading (`stepAt`, the contract of `batch::decode::next_task`), and what it says of the whole
 -- (`StepSimulates`, which holds of every step: proofs/Simulates). A caller that takes step after step, from bank to bank and position to position, meets
 -- the tasks of `decodeBatch` in order, and then its ending.
 use Prim.Native.Nat.{ℕ, zero, suc, _+_, _*_, _<_, _≤_}

@@ -1,4 +1,4 @@
-// What a batch says, whole and a task at a time: the types. Crate decoder reads one.
+// What a batch says, whole and a task at a time: the types. `decode` reads one.
 pub mod decode;
 pub mod verdict;
 pub mod walk;

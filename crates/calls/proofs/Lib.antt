@@ -2,4 +2,5 @@
 pub mod Results
 pub mod Reporting
 pub mod RefusedNoChange
-pub mod Serving
+-- a server's loop
+pub mod ServerLoop

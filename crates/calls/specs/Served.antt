@@ -1,5 +1,5 @@
 -- A server's loop: set up, and then any calls one at a time, each given the record's bytes, the ring and the memory as the call before it left
--- them, and each as its contract (crate calls) says. proofs/Served.antt proves the promise.
+-- them, and each as its contract (specs/Calls) says. proofs/ServerLoop/Served.antt proves the promise.
 use mathlib.Core.Path.{_≡_}
 use mathlib.Core.List.{List, [], _∷_}
 use Prim.Native.Nat.{ℕ, zero, suc, _<_, _^_}

@@ -1,2 +1,2 @@
--- Laws of rows whose factors do not go by alpha.
+-- Laws of rows whose factors are the same all along.
 pub mod Rows

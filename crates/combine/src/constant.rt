@@ -1,4 +1,5 @@
-// Rows under a rule whose factors are the same all along: because they do not go by alpha, and so are 0 or 255 each, or because the source has one alpha.
+// Rows under a rule whose factors are the same all along: because they do not go by alpha, and so are 0 or 255 each, or
+// because the source has one alpha and the rule looks at no other.
 ghost use mathlib.Core.Path.{_≡_};
 ghost use mathlib.Core.Bool.{true};
 ghost use Prim.Native.Nat.{ℕ, _≤_, _<_};
@@ -63,7 +64,24 @@ fn mix_bytes(d: &mut [u8], s: &[u8], fs: u16, fd: u16)
     }
 }
 
-// The row d, blended with a row s of one alpha, under a rule that does not go by the alphas of d.
+// The row d, mixed with the row s by two factors. Factors that only copy (255 and 0) or only leave (0 and 255) need no product: under NONE those are the two
+// ends of a fade.
+fn row_by_factors(d: &mut [u8], s: &[u8], fs: u16, fd: u16)
+    requires { ⌜ (length (now d) ≤ length (now s)) × ((fs ≤ 255) × (fd ≤ 255)) ⌝ }
+    ensures { λ _. ⌜ Done (λ j. blendedChannel (getD (now (s .entry)) j 0) fs (getD (now (d .entry)) j 0) fd) (now (d .entry)) (now (d .exit)) 0 (length (now (d .entry))) ⌝ }
+{
+    if (fs == 255) & (fd == 0) {
+        copy(d, s);
+        return;
+    }
+    if (fs == 0) & (fd == 255) {
+        return;
+    }
+    mix_bytes(d, s, fs, fd);
+}
+
+// The row d, blended with a row s of one alpha, under a rule that does not go by the alphas of d. So the factors are found with 0 in their
+// place.
 pub fn constant_alpha_row(d: &mut [u8], s: &[u8], alpha: u8, p: Plan)
     requires { ⌜ ((length (now d) ≤ length (now s)) × ((j : ℕ) → j < length (now d) → alphaAt (now s) j ≡ alpha))
         × (Planned p × ((p .source .destination ≡ 0) × (p .destination .destination ≡ 0))) ⌝ }
@@ -72,5 +90,5 @@ pub fn constant_alpha_row(d: &mut [u8], s: &[u8], alpha: u8, p: Plan)
     let fs = p.source;
     let fd = p.destination;
     let a = wide(alpha);
-    mix_bytes(d, s, factor(fs, a, 0), factor(fd, a, 0));
+    row_by_factors(d, s, factor(fs, a, 0), factor(fd, a, 0));
 }

@@ -1,5 +1,5 @@
 -- The colours of a buffer by its bytes: a pass over the bytes is a pass over the colours.
-use mathlib.Core.Path.{_≡_, sym, ap, _∙_}
+use mathlib.Core.Path.{_≡_, refl, sym, ap, _∙_}
 use mathlib.Core.Bool.{Bool, true, false, cond, false≢true}
 use mathlib.Core.List.{List}
 use Prim.Native.Nat.{ℕ, _+_, _*_, _/_, _≤_, _<_}
@@ -26,7 +26,7 @@ use Rattle.unpremultiply.specs.Unpremultiply.{unpremultiplied}
 use Rattle.unpremultiply.specs.Prepared.{dividedAt, preparedAt}
 use Rattle.unpremultiply.proofs.Pixels.{at-alpha as alpha-kept, at-colour}
 use Rattle.row_pixels.proofs.RowColours.Colours.{Row, colour-is, blend-colour, row-is}
-use Rattle.composite.specs.Buffer.{hasConstantAlpha}
+use Rattle.composite.specs.Buffer.{HasItsAlphas, hasConstantAlpha}
 
 module _ (d e : List ℕ) (width : ℕ) (in-d : Row d) (in-e : Row e) (long-d : width * 4 ≤ length d) (long-e : width * 4 ≤ length e) where
   pub mode-colour : (mode : AlphaMode) (g : ℕ) → Done (modeAt mode g d) d e 0 (width * 4) → (x : ℕ) → x < width → colourIn e x ≡ withAlpha mode g (colourIn d x)
@@ -70,12 +70,15 @@ constant-factors Global p h =
     (eqb-true (p .source .destination) 0 (b .0), eqb-true (p .destination .destination) 0 (b .1))
 constant-factors Mixed p h = absurd (false≢true h)
 
+pub is-global : (mode : AlphaMode) (p : Plan) → hasConstantAlpha mode p ≡ true → mode ≡ Global
+is-global Pixel p h = absurd (false≢true h)
+is-global Global p h = refl
+is-global Mixed p h = absurd (false≢true h)
+
 -- after the pass that sets its alphas
-pub constant-alphas : (mode : AlphaMode) (p : Plan) (g : ℕ) (t s : List ℕ) (width : ℕ) → hasConstantAlpha mode p ≡ true → Done (modeAt mode g t) t s 0 (width * 4) →
-    (j : ℕ) → j < width * 4 → alphaAt s j ≡ g
-constant-alphas Pixel p g t s width h did j l = absurd (false≢true h)
-constant-alphas Global p g t s width h did j l = did .done (j / 4 * 4 + 3) (omega arith) (omega arith) ∙ at-alpha Global g t (j / 4 * 4 + 3) (omega arith)
-constant-alphas Mixed p g t s width h did j l = absurd (false≢true h)
+pub global-alphas : (alpha : Alpha) (t s : List ℕ) (width : ℕ) → Done (modeAt (alpha .mode) (alpha .global) t) t s 0 (width * 4) → HasItsAlphas alpha s (width * 4)
+global-alphas alpha t s width did is j l =
+    did .done (j / 4 * 4 + 3) (omega arith) (omega arith) ∙ (at-alpha (alpha .mode) (alpha .global) t (j / 4 * 4 + 3) (omega arith) ∙ rw (is))
 
 -- the passes of a row: a premultiplied source divided, alpha modes on both rows, then the rule
 pub mix-is : (blending : Blending) (source destination : Alpha) (rule : BlendFactors) (s t s′ d d′ e : List ℕ) (width : ℕ) → Row s → Row t → Row s′ → Row d → Row d′ → Row e →

@@ -1,4 +1,5 @@
 // The oldest batch of a record: when run is refused, where that batch is, what it may touch and begins with, and the record without it.
+// `closing` is close, which takes a client out of the record and zeroes its window.
 pub mod closing;
 
 ghost use mathlib.Core.Path.{_≡_};

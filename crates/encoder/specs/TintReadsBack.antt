@@ -1,6 +1,6 @@
 -- "Reading it back gives exactly these fields" (02, request 1): from any bank on, so whatever 0x090 was reset to, and within any bounds. It is of
 -- the first form: the steps (02, request 3) stay what they were, and colour mode has no use for them.
--- proofs/ReadsBack.antt proves it out of the encoder's own round trip.
+-- proofs/tint/ReadsBack.antt proves it out of the encoder's own round trip.
 use mathlib.Core.Path.{_≡_}
 use mathlib.Core.Bool.{true, false}
 use mathlib.Core.List.{List, [], _∷_}

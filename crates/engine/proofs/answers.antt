@@ -1,2 +1,2 @@
--- Laws that this crate's proofs and those of the crates above cite.
+-- Laws of the words that answers are, for the crates above.
 pub mod Numbers

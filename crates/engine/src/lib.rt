@@ -1,4 +1,5 @@
-// What run answers. What run and close do is said here, by definitions and laws; the code stands above, in `dequeue`, `run` and `closing`.
+// What run answers. What run and close do is said here, by definitions and laws; their code stands above, in `dequeue` and `run`. `answers` gives what the
+// calls answer as words.
 pub mod answers;
 
 use batch::Verdict;

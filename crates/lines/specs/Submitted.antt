@@ -1,4 +1,4 @@
--- Internal: a record by itself (crate lines): submit refuses it, or its batch is run in its own client's window.
+-- Internal: a record by itself (specs/Answered): submit refuses it, or its batch is run in its own client's window.
 use mathlib.Core.Bool.{cond}
 use lib.Dec.{eqb}
 use Rattle.claims.specs.BatchSemantics.{boundsOf}

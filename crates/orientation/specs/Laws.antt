@@ -1,5 +1,5 @@
 -- The laws of composed settings (02, request 8). proofs/Composed.antt proves `Composes`, proofs/Settings.antt `Settings` and `ReadBack`, proofs/Same.antt `Exactly`.
--- What they say of memory is in crate composition, specs/Twice.antt.
+-- What they say of memory is in crate raster, specs/Twice.antt.
 use mathlib.Core.Path.{_≡_}
 use mathlib.Core.Logic.{_↔_}
 use mathlib.Core.Bool.{false}

@@ -1,5 +1,5 @@
 // What the calls of the queue share: what a call answers, and a row of a table of refusals. Definitions and laws of the calls that don't draw stand here;
-// their code stands above, in `clients`, `enqueue` and `submission`.
+// their code stands in `clients` and `enqueue`, and in crate `submission`.
 pub mod clients;
 pub mod enqueue;
 

@@ -3,6 +3,7 @@ pub mod Task
 pub mod Batch
 pub mod WriteFrame
 pub mod Preconditions
-pub mod Row
 -- Two drawings as one.
 pub mod Twice
+-- A row drawn.
+pub mod Row

@@ -1,7 +1,7 @@
 -- Two turns make one (02, request 8: "for any picture, drawing with the first and then with the second, each into separate rows, same format, blending
 -- off, gives the bytes of one drawing with the composed setting"; "equal drawing for all pictures holds exactly for the same orientation"). What to read
--- is `TwoTasks` and `Orientations`; `TwoTurns` says the same of pictures, with less asked. proofs/Twice.antt proves `Tasks`, `TwoTurns` and `TwoTasks`,
--- proofs/Orientation.antt `Orientations`. That composition is associative and has a neutral setting and inverses is said of the settings themselves, in
+-- is `TwoTasks` and `Orientations`; `TwoTurns` says the same of pictures, with less asked. proofs/Composition/Twice.antt proves `Tasks`, `TwoTurns` and `TwoTasks`,
+-- proofs/Composition/Orientation.antt `Orientations`. That composition is associative and has a neutral setting and inverses is said of the settings themselves, in
 -- crate orientation, specs/Laws.antt.
 use mathlib.Core.Path.{_≡_}
 use mathlib.Core.Bool.{true, false}

@@ -1,4 +1,4 @@
-// An engine record as 272 bytes, for callers that are not Rattle: definitions and laws. The layout is that of specs/Layout.
+// An engine record as 272 bytes, for callers that are not Rattle: definitions and laws; `reading` and `writing` have the code. The layout is that of specs/Layout.
 pub mod reading;
 pub mod writing;
 

@@ -37,7 +37,7 @@ abbrev pub submittedEntries : Edition → List Entry → List Entry
 submittedEntries First entries = entries
 submittedEntries Second entries = scored entries
 
--- ---- of a record that lies in the buffer up to `end` (crate records)
+-- ---- of a record that lies in the buffer up to `end` (specs/Reading)
 
 -- Internal: the score's word stands at 5; bytes that do not lie there have none
 abbrev pub scoreIn : Edition → (held : List ℕ) → (end : ℕ) → Bool

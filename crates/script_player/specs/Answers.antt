@@ -1,4 +1,4 @@
--- The model's answers as bytes: each is six little-endian words of 32 bits, those of crate answers.
+-- The model's answers as bytes: each is six little-endian words of 32 bits, those of crate engine, specs/Answers.
 use mathlib.Core.List.{List, [], _∷_, _++_}
 use Prim.Native.Nat.{ℕ}
 use Rattle.word.specs.Word.{wordsBytes}

@@ -4,7 +4,7 @@ use mathlib.Core.Bool.{cond}
 use Prim.Native.Nat.{ℕ, _+_, _-_, _*_, _%_, _<_}
 use lib.Dec.{eqb}
 use Rattle.pixel.specs.declared.colour.Colour.{Colour}
-use Rattle.solid_rows.specs.declared.solid.colour.Solid.{Solid}
+use Rattle.solid_rows.specs.declared.colour.Solid.{Solid}
 
 -- the complements of its channels, two in a word, and that of its alpha
 unfoldable pub solidOf : Colour → Solid

@@ -1,4 +1,5 @@
 // Tasks that lay one colour over their output by SRC_OVER: what is needed of the colour is found once a task, and no buffer is used.
+pub mod colour;
 pub mod solid;
 
 ghost use mathlib.Core.Path.{_≡_};
@@ -14,8 +15,8 @@ ghost use Rattle.raster.specs.Task.{drawTask};
 ghost use Rattle.raster.specs.Preconditions.{Drawable};
 ghost use Rattle.raster.specs.Row.{rowDrawn, drawRow, RowDrawable};
 ghost use Rattle.solid_rows.specs.Row.{solidColour, SolidFits};
-use crate::solid::colour::Solid;
-use crate::solid::colour::solid_of;
+use crate::colour::Solid;
+use crate::colour::solid_of;
 use crate::solid::solid_row;
 use kinds::Kind;
 use pixel::Format;

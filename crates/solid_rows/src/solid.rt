@@ -1,6 +1,4 @@
 // One colour over a row of ARGB8888 pixels: what is needed of the colour is found once, and no row of it is laid out.
-pub mod colour;
-
 ghost use mathlib.Core.Path.{_≡_};
 ghost use Prim.Native.Nat.{ℕ, _+_, _*_, _%_, _-_, _≤_, _<_};
 ghost use lib.ListN.{length, getD};
@@ -13,8 +11,8 @@ ghost use Rattle.plan.specs.Blend.{duo};
 ghost use Rattle.row_pixels.specs.Row.{colourIn, rowStored, RowIsWide};
 ghost use Rattle.solid_rows.specs.Solid.{halfOf, Prepared};
 ghost use Rattle.solid_rows.specs.Over.{overAt};
-use crate::solid::colour::Solid;
-use crate::solid::colour::half;
+use crate::colour::Solid;
+use crate::colour::half;
 use lanes::get2;
 use lanes::load8;
 use lanes::put2;

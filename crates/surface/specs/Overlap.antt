@@ -1,5 +1,5 @@
 -- Whether two surfaces overlap (02, request 7: "Where two surfaces have equal strides, 28 asks whether a byte lies in rows of both; padding doesn't count.
--- With unequal strides the span rule stays."). That rows overlap exactly where a byte lies in rows of both is shown in proofs/Overlap.antt (`rows-separate`,
+-- With unequal strides the span rule stays."). That rows overlap exactly where a byte lies in rows of both is shown in proofs/overlap/Overlap.antt (`rows-separate`,
 -- `common-byte`).
 use Prim.Native.Nat.{ℕ, zero, suc, _≤_}
 use mathlib.Core.Path.{_≡_}

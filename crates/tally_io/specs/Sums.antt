@@ -1,5 +1,5 @@
 -- The totals after the replay files of the arguments (02, request 14: "Each count equals the sum over the files of a definition, .. if none grows too large").
--- proofs/Sums.antt proves `ArgumentSums`.
+-- proofs/files/Sums.antt proves `ArgumentSums`.
 use mathlib.Core.Path.{_≡_}
 use mathlib.Core.Bool.{false}
 use mathlib.Core.List.{List}

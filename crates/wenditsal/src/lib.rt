@@ -63,7 +63,7 @@ pub extern "C" fn wenditsal_set_up(
     }
     let reply = queue::clients::set_up(ring, memory, common, ResetRule::from_number(reset));
     let mut none: u32 = 0;
-    calls::outcomes::write_value(engine, reply, &mut none)
+    calls::writing::write_value(engine, reply, &mut none)
 }
 
 // Opens a client with a window; answers its id.
@@ -73,7 +73,7 @@ pub extern "C" fn wenditsal_open(engine: &mut [u8], start: u32, size: u32, clien
 {
     let record = record_bytes::reading::decode(engine);
     let reply = queue::clients::open(record, start, size);
-    calls::outcomes::write_value(engine, reply, client)
+    calls::writing::write_value(engine, reply, client)
 }
 
 // Puts a client's batch into the ring and the queue; answers its ticket.
@@ -90,7 +90,7 @@ pub extern "C" fn wenditsal_submit(
 {
     let record = record_bytes::reading::decode(engine);
     let reply = submission::submit(record, ring, client, batch);
-    calls::outcomes::write_value(engine, reply, ticket)
+    calls::writing::write_value(engine, reply, ticket)
 }
 
 // Begins a batch of a total length that a client hands over by pieces.
@@ -101,7 +101,7 @@ pub extern "C" fn wenditsal_begin(engine: &mut [u8], ring: &[u8], client: u32, t
     let record = record_bytes::reading::decode(engine);
     let reply = submission::begin(record, ring, client, total);
     let mut none: u32 = 0;
-    calls::outcomes::write_value(engine, reply, &mut none)
+    calls::writing::write_value(engine, reply, &mut none)
 }
 
 // Hands over a piece of it; answers 0 and the bytes still to come, or, of the last, 1 and the ticket. The header has these two as a structure.
@@ -118,7 +118,7 @@ pub extern "C" fn wenditsal_piece(
 {
     let record = record_bytes::reading::decode(engine);
     let reply = submission::piece(record, ring, client, piece);
-    calls::outcomes::write_progress(engine, reply, progress)
+    calls::writing::write_progress(engine, reply, progress)
 }
 
 // Drops it.
@@ -129,7 +129,7 @@ pub extern "C" fn wenditsal_cancel(engine: &mut [u8], client: u32) -> u32
     let record = record_bytes::reading::decode(engine);
     let reply = submission::cancel(record, client);
     let mut none: u32 = 0;
-    calls::outcomes::write_value(engine, reply, &mut none)
+    calls::writing::write_value(engine, reply, &mut none)
 }
 
 // Closes a client: its window is filled with zeros, and its id and window are free.
@@ -140,7 +140,7 @@ pub extern "C" fn wenditsal_close(engine: &mut [u8], memory: &mut [u8], client: 
     let record = record_bytes::reading::decode(engine);
     let reply = dequeue::closing::close(record, memory, client);
     let mut none: u32 = 0;
-    calls::outcomes::write_value(engine, reply, &mut none)
+    calls::writing::write_value(engine, reply, &mut none)
 }
 
 // Takes the oldest batch; answers client, ticket, status, fault and place. The header has these five as a structure.
@@ -156,7 +156,7 @@ pub extern "C" fn wenditsal_run(
 {
     let record = record_bytes::reading::decode(engine);
     let ran = run::run(record, ring, memory);
-    calls::outcomes::write_completion(engine, ran, completion)
+    calls::writing::write_completion(engine, ran, completion)
 }
 
 // Answers how many batches of a client are ready.

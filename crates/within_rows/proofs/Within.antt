@@ -31,7 +31,7 @@ use Rattle.plan.specs.Blend.{blendAt}
 use Rattle.row_pixels.proofs.RowColours.Colours.{Row, colour-is, blend-colour, row-is}
 use Rattle.lanes.specs.Apart.{Apart}
 use Rattle.within_rows.specs.Within.{blendWithin}
-use Rattle.within_rows.proofs.blend.bytes.Within.{in-drop}
+use Rattle.within_rows.proofs.bytes.Within.{in-drop}
 use Rattle.raster.specs.Task.{pixelColour}
 use Rattle.raster.specs.Row.{rowDrawn}
 use Rattle.raster.proofs.InPlace.{argb-length, mixedFrom, mixed-lent, mixed-pixel}

@@ -1,7 +1,5 @@
 // Rows of ARGB8888 pixels blended inside one slice of bytes: the source's row lies in it too, and no byte lies in both rows. Each of the functions over
 // four pixels has one caller, so that it is compiled in place; the laws of lanes are those of crate combine.
-pub mod bytes;
-
 ghost use mathlib.Core.Path.{_≡_};
 ghost use Prim.Native.Nat.{_+_, _%_, _≤_};
 ghost use lib.ListN.{length};
@@ -11,9 +9,9 @@ ghost use Rattle.lanes.specs.Lanes.{Done};
 ghost use Rattle.plan.specs.Plan.{Planned};
 ghost use Rattle.lanes.specs.Apart.{Apart};
 ghost use Rattle.within_rows.specs.Within.{blendWithin};
-use crate::blend::bytes::add_bytes;
-use crate::blend::bytes::blend_bytes;
-use crate::blend::bytes::constant_within;
+use crate::bytes::add_bytes;
+use crate::bytes::blend_bytes;
+use crate::bytes::constant_within;
 use lanes::bytes::copy_block;
 use lanes::load8;
 use lanes::load8c;

@@ -1,6 +1,7 @@
 // Tasks whose rows are blended inside the window: the output is its own destination, and the source's rows lie in the window as they are blended. Neither
 // row is fetched into a buffer.
 pub mod blend;
+pub mod bytes;
 
 ghost use mathlib.Core.Path.{_≡_};
 ghost use lib.ListN.{length};

@@ -5,12 +5,6 @@ use borrow.Author.Needs.{needs}
 use Rattle.combine.proofs.blend_four.Statement.{statement}
 use Rattle.combine.proofs.blend_four.Tie as tie
 
--- src/lane.rt:75:13
--- src/lane.rt:76:13
--- src/lane.rt:77:13
--- src/lane.rt:78:5
--- src/lane.rt:71:1
--- src/lane.rt:71:1
 returns : tie.Need-returns
 returns c =
     let c₈ = c .before .before .before .before .before .before .before .before in

@@ -1,14 +1,18 @@
--- Rows whose factors do not go by alpha.
+-- Rows whose factors are the same all along: they do not go by alpha, or the source has one alpha.
 use mathlib.Core.Path.{_≡_, refl, sym, _∙_}
+use mathlib.Core.Bool.{true, _&&_}
 use mathlib.Core.List.{List}
 use Prim.Native.Nat.{ℕ, _≤_, _<_}
 use native.Mathlib.Omega.{arith}
 use lib.ListN.{getD}
+use lib.Dec.{eqb}
+use borrow.Author.Tests.{eqb-true}
 use Rattle.pixel.specs.Blending.{factorValue, blendedChannel}
 use Rattle.pixel.specs.Rules.{blendModeFactors}
 use Rattle.pixel.specs.declared.blend.BlendFactors.{BlendFactors}
 use Rattle.pixel.specs.declared.blend.BlendMode.the-variants.{Add}
 use Rattle.lanes.specs.Lanes.{Done}
+use Rattle.lanes.proofs.Laws.{both}
 use Rattle.lanes.proofs.Passes.{same-done}
 use Rattle.plan.specs.Blend.{alphaAt, blendAt}
 use Rattle.plan.proofs.channels.Channels.{copied, stayed, emptied}
@@ -48,3 +52,23 @@ pub left-row : (rule : BlendFactors) (s d : List ℕ) (n : ℕ) → Bytes d → 
 left-row rule s d n in-d is-s is-d =
     by-factors rule s d d n 0 255 (λ j. getD d j 0) is-s is-d (λ j. sym (stayed (getD s j 0) (getD d j 0) (omega (arith, in-d j))))
     (record { done = λ j h l. refl; under = λ j l. refl; past = λ j l. refl })
+
+-- factors that only copy, and factors that only leave
+module _ (s d : List ℕ) (n fs fd : ℕ) where
+  -- what they make of byte j
+  abbrev mixed : ℕ → ℕ
+  mixed j = blendedChannel (getD s j 0) fs (getD d j 0) fd
+
+  pub copied-by : (e : List ℕ) → Bytes s → eqb fs 255 && eqb fd 0 ≡ true → Done (λ j. getD s j 0) d e 0 n → Done mixed d e 0 n
+  copied-by e in-s test did =
+      let h = both (eqb fs 255) (eqb fd 0) test in
+      same-done _ mixed d e 0 n (λ j above l. sym (rw (eqb-true fs 255 (h .0), eqb-true fd 0 (h .1)) (copied (getD s j 0) (getD d j 0) (omega (arith, in-s j))))) did
+
+  pub left-by : Bytes d → eqb fs 0 && eqb fd 255 ≡ true → Done mixed d d 0 n
+  left-by in-d test =
+      let h = both (eqb fs 0) (eqb fd 255) test in
+      record {
+        done = λ j above l. sym (rw (eqb-true fs 0 (h .0), eqb-true fd 255 (h .1)) (stayed (getD s j 0) (getD d j 0) (omega (arith, in-d j))));
+        under = λ j l. refl;
+        past = λ j l. refl;
+      }

@@ -8,12 +8,6 @@ use borrow.Author.Needs.{needs}
 use Rattle.combine.proofs.over_four.Statement.{statement}
 use Rattle.combine.proofs.over_four.Tie as tie
 
--- src/lane.rt:78:13
--- src/lane.rt:79:13
--- src/lane.rt:80:13
--- src/lane.rt:81:5
--- src/lane.rt:74:1
--- src/lane.rt:74:1
 returns : tie.Need-returns
 returns c =
     let c₅ = c .before .before .before .before .before in

@@ -16,22 +16,15 @@ Inv-loop d₀ s n p o₀ d o = ((o ≤ n) × ((o % 16 ≡ 0) × (length d ≡ le
 abbrev μ-loop : tie.MeasureT-loop
 μ-loop d₀ s n p o₀ d o = n - o
 
--- src/row.rt:84:5
 loop-holds : tie.Need-loop-holds Inv-loop μ-loop
 loop-holds c = (search needs, none-done _ _ _)
 
--- src/row.rt:85:9
--- src/row.rt:86:9
--- src/row.rt:84:5
--- src/row.rt:84:5
 loop-again : tie.Need-loop-again Inv-loop μ-loop
 loop-again c =
     let a = c .before .before .before .before .before .before .before .before in
     let b = c .before .before .before .before .before in
     (search needs, part-more (a .args .p .rule) _ _ (b .loop .d) _ _ (b .loop .o) _ (omega arith) (omega arith) (b .loop .inv .1) (c .before .before .turn .ensures))
 
--- src/row.rt:79:1
--- src/row.rt:79:1
 returns : tie.Need-returns Inv-loop μ-loop
 returns c = to-end _ _ _ _ (c .before .loop .o) _ (omega arith) (c .before .loop .inv .1)
 

@@ -5,7 +5,7 @@ use denote.Ref.{now}
 use Rattle.surface.specs.Surface.{rowStart}
 use Rattle.raster.proofs.Place.{starts, ordered, room, length-window, row-fits, row-drawn}
 use Rattle.solid_rows.specs.Solid.{solidOf}
-use Rattle.solid_rows.specs.declared.solid.colour.Solid.{Solid}
+use Rattle.solid_rows.specs.declared.colour.Solid.{Solid}
 use Rattle.kinds.specs.declared.Kind.the-variants.{Solid as Covered}
 use Rattle.raster.proofs.Parts.{of-kind}
 use Rattle.solid_rows.proofs.Over.{solid-pixel}

@@ -26,7 +26,7 @@ use Rattle.plan.specs.Blend.{duo}
 use Rattle.plan.proofs.channels.Channels.{duo-low, duo-high}
 use Rattle.lanes.proofs.Laws.{two-low, two-high}
 use Rattle.row_pixels.proofs.RowColours.Colours.{Row, colour-is, row-is}
-use Rattle.solid_rows.specs.declared.solid.colour.Solid.{Solid}
+use Rattle.solid_rows.specs.declared.colour.Solid.{Solid}
 use Rattle.solid_rows.specs.Solid.{solidOf, halfOf, Prepared}
 use Rattle.solid_rows.specs.Over.{channelAt, overAt}
 

@@ -10,19 +10,9 @@ use Rattle.libc.proofs.close.Reads as close-reads
 use Rattle.tally_io.proofs.add_from.Reads as add-from-reads
 use Rattle.totals.proofs.unread.Reads as unread-reads
 
--- src/lib.rt:102:20
--- src/lib.rt:103:48
--- src/lib.rt:103:9
--- src/lib.rt:106:9
--- src/lib.rt:106:9
 returns : tie.Need-returns
 returns c = file-none _ _ _ (c .unread .ensures)
 
--- src/lib.rt:108:29
--- src/lib.rt:108:29
--- src/lib.rt:108:9
--- src/lib.rt:109:5
--- src/lib.rt:99:1
 pub add-argument-spec : {M : Type 1} → statement M
 add-argument-spec =
     tie.close

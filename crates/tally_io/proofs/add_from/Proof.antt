@@ -10,16 +10,9 @@ use Rattle.tally.proofs.start.Reads as start-reads
 use Rattle.totals.proofs.unread.Reads as unread-reads
 use Rattle.tally_io.proofs.read_all.Reads as read-all-reads
 
--- src/lib.rt:86:9
--- src/lib.rt:87:42
--- src/lib.rt:87:9
--- src/lib.rt:89:9
--- src/lib.rt:89:9
 returns : tie.Need-returns
 returns c = file-none _ _ _ (c .unread .ensures)
 
--- src/lib.rt:93:17
--- src/lib.rt:81:1
 returns-2 : tie.Need-returns-2
 returns-2 c =
     let c₅ = c .before .before .before .before .before in

@@ -1,4 +1,4 @@
--- A number in decimal (crate text) reads as itself.
+-- A number in decimal (specs/Decimal) reads as itself.
 use mathlib.Core.Path.{_≡_, refl, ap, _∙_}
 use mathlib.Core.Bool.{Bool, true, false, _&&_}
 use mathlib.Core.List.{List, [], _∷_, _++_}

@@ -7,9 +7,6 @@ use Rattle.totals_io.proofs.add_argument.Lts as lts
 use Rattle.totals_io.proofs.add_reading.Reads as add-reading-reads
 use Rattle.totals_io.proofs.read_argument.Reads as read-argument-reads
 
--- src/lib.rt:153:9
--- src/lib.rt:157:17
--- src/lib.rt:150:1
 returns : tie.Need-returns
 returns c = lot-of _ _ _ (c .before .before .read-argument .ensures) (c .add-reading .ensures .0) (c .add-reading .ensures .1)
 

@@ -8,12 +8,9 @@ use Rattle.totals_io.proofs.add_reading.Reads as reads
 use Rattle.totals_io.proofs.add_reading.Lts as lts
 use Rattle.totals.proofs.add.Reads as add-reads
 
--- src/lib.rt:140:9
 returns : tie.Need-returns
 returns c = (λ e. absurd (false≢true (sym (not-true _ (c .if1 .taken)) ∙ e)), λ e. refl)
 
--- src/lib.rt:146:5
--- src/lib.rt:136:1
 returns-2 : tie.Need-returns-2
 returns-2 c =
     let good = not-false _ (c .before .before .if1 .left) in

@@ -4,7 +4,6 @@ use Rattle.totals_io.proofs.no_file.Tie as tie
 use Rattle.totals_io.proofs.no_file.Reads as reads
 use Rattle.totals_io.proofs.no_file.Lts as lts
 
--- src/lib.rt:66:1
 returns : tie.Need-returns
 returns c = no-file _
 

@@ -11,11 +11,6 @@ use Rattle.totals_io.proofs.print_answer.Lts as lts
 use Rattle.command.proofs.print.Reads as print-reads
 use Rattle.totals.proofs.lines.write_answer.Reads as write-answer-reads
 
--- src/lib.rt:21:39
--- src/lib.rt:21:9
--- src/lib.rt:22:20
--- src/lib.rt:22:5
--- src/lib.rt:17:1
 returns : tie.Need-returns
 returns c =
     let w = c .before .before .before .write-answer in

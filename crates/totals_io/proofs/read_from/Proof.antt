@@ -9,20 +9,9 @@ use Rattle.totals.proofs.lines.read.Reads as read-reads
 use Rattle.totals_io.proofs.no_file.Reads as no-file-reads
 use Rattle.totals_io.proofs.read_text.Reads as read-text-reads
 
--- src/lib.rt:104:35
--- src/lib.rt:104:9
--- src/lib.rt:106:9
--- src/lib.rt:106:9
--- src/lib.rt:108:37
--- src/lib.rt:108:37
--- src/lib.rt:108:9
--- src/lib.rt:110:33
--- src/lib.rt:110:9
--- src/lib.rt:100:1
 returns-2 : tie.Need-returns-2
 returns-2 c = some-file _ _ (c .before .before .before .before .read .ensures)
 
--- src/lib.rt:100:1
 returns-3 : tie.Need-returns-3
 returns-3 c = some-file _ _ (c .before .before .read .ensures)
 

@@ -16,23 +16,11 @@ Inv-loop fd name text₀ end₀ text end = (end ≤ length text) × (length text
 abbrev μ-loop : tie.MeasureT-loop
 μ-loop fd name text₀ end₀ text end = length text₀ - end
 
--- src/lib.rt:91:5
--- src/lib.rt:92:49
--- src/lib.rt:92:49
--- src/lib.rt:92:49
--- src/lib.rt:92:13
--- src/lib.rt:94:13
--- src/lib.rt:94:13
 returns : tie.Need-returns Inv-loop μ-loop
 returns c =
     let c₇ = c .before .before .before .before .before .before .before in
     counts-of (c₇ .loop .end) _ (search needs)
 
--- src/lib.rt:99:9
--- src/lib.rt:91:5
--- src/lib.rt:91:5
--- src/lib.rt:87:1
--- src/lib.rt:87:1
 returns-2 : tie.Need-returns-2 Inv-loop μ-loop
 returns-2 c = counts-of (c .before .loop .end) (c .before .loop .text) (c .before .loop .inv .0)
 

@@ -11,24 +11,16 @@ use Rattle.io.proofs.write_all.Reads as write-all-reads
 use Rattle.libc.proofs.isatty.Reads as isatty-reads
 use Rattle.totals.proofs.lines.write_progress.Reads as write-progress-reads
 
--- src/lib.rt:35:8
--- src/lib.rt:36:9
--- src/lib.rt:42:41
--- src/lib.rt:42:9
--- src/lib.rt:43:23
 array-share-prefix-line : tie.Need-array-share-prefix-line
 array-share-prefix-line c =
     let w = c .before .write-progress in
     omega (arith, typed-size 64 _ _ _ (w .result) refl (w .ensures .1) (w .ensures .0), w .ensures .1)
 
--- src/lib.rt:43:23
 slice-aggregate-write-all : tie.Need-slice-aggregate-write-all
 slice-aggregate-write-all c =
     let w = c .before .before .write-progress in
     sym (length-take-le (w .result) (w .last .0) (omega (arith, typed-size 64 _ _ _ (w .result) refl (w .ensures .1) (w .ensures .0), w .ensures .1)))
 
--- src/lib.rt:43:5
--- src/lib.rt:32:1
 returns-2 : tie.Need-returns-2
 returns-2 c =
     let w = c .before .before .before .write-progress in

@@ -18,7 +18,7 @@ use Rattle.plan.proofs.Blends.{Bytes}
 use Rattle.combine.proofs.Fours.{twoAt, blend-two, over-two, four-done, copy-done, leave-done, clear-done, add-done}
 use Rattle.lanes.specs.Apart.{movedByte}
 use Rattle.within_rows.specs.Within.{blendWithin}
-use Rattle.within_rows.proofs.blend.bytes.Within.{in-drop, row, within-whole, within-row}
+use Rattle.within_rows.proofs.bytes.Within.{in-drop, row, within-whole, within-row}
 
 two-drop : (m : List ℕ) (a k : ℕ) → two m (a + k * 2) ≡ two (drop a m) (0 + k * 2)
 unfolding two

@@ -7,8 +7,8 @@ use borrow.Author.Needs.{needs}
 use Rattle.combine.proofs.constant.constant_alpha_row.Statement.{statement}
 use Rattle.combine.proofs.constant.constant_alpha_row.Tie as tie
 
-mix-bytes-requires : tie.Need-mix-bytes-requires
-mix-bytes-requires c κs =
+row-by-factors-requires : tie.Need-row-by-factors-requires
+row-by-factors-requires c κs =
     let w = c .before .before .before in
     let s = w .before .before .before .before .before in
     let p = s .args .p in
@@ -27,7 +27,7 @@ returns c =
     let fs = f .before .factor .ensures ∙ source-is p k _ 0 (x .1) (omega arith) in
     let fd = f .factor2 .ensures ∙ destination-is p k _ 0 (x .1) (omega arith) in
     constant-alpha-row (p .rule) _ _ _ _ _ _ _ (λ j l. s .pre .0 .1 j l ∙ sym (x .0))
-    (λ y. source-apart p k (s .pre .1 .1 .0) _ y 0 ∙ sym fs) (λ y. destination-apart p k (s .pre .1 .1 .1) _ y 0 ∙ sym fd) (c .before .before .mix-bytes .ensures)
+    (λ y. source-apart p k (s .pre .1 .1 .0) _ y 0 ∙ sym fs) (λ y. destination-apart p k (s .pre .1 .1 .1) _ y 0 ∙ sym fd) (c .before .before .row-by-factors .ensures)
 
 pub constant-alpha-row-spec : {M : Type 1} → statement M
 constant-alpha-row-spec =
@@ -36,6 +36,6 @@ constant-alpha-row-spec =
     (λ c κs. search needs)
     (λ c κs. search needs)
     (λ c κs. search needs)
-    mix-bytes-requires
+    row-by-factors-requires
     (λ c. search needs)
     returns)

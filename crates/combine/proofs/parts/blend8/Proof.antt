@@ -16,41 +16,19 @@ Inv-loop s d p r₀ i₀ r i = (i ≤ 8) × ((length r ≡ 8) × ((k : ℕ) → 
 abbrev μ-loop : tie.MeasureT-loop
 μ-loop s d p r₀ i₀ r i = 8 - i
 
--- src/lane.rt:51:5
 loop-holds : tie.Need-loop-holds Inv-loop μ-loop
 loop-holds c = (search needs, (search needs, below-none _))
 
--- src/lane.rt:52:24
--- src/lane.rt:52:24
--- src/lane.rt:52:30
--- src/lane.rt:52:30
--- src/lane.rt:52:42
--- src/lane.rt:52:42
--- src/lane.rt:52:40
--- src/lane.rt:52:40
--- src/lane.rt:52:36
--- src/lane.rt:52:65
--- src/lane.rt:52:65
--- src/lane.rt:52:63
--- src/lane.rt:52:63
--- src/lane.rt:52:59
--- src/lane.rt:52:16
 blend-two-requires : tie.Need-blend-two-requires Inv-loop μ-loop
 blend-two-requires c κs =
     let c₈ = c .before .before .before .before .before .before .before .before in
     (c₈ .pre, (search needs, search needs))
 
--- src/lane.rt:52:9
--- src/lane.rt:52:9
--- src/lane.rt:53:9
--- src/lane.rt:51:5
--- src/lane.rt:51:5
 loop-again : tie.Need-loop-again Inv-loop μ-loop
 loop-again c =
     let c₈ = c .before .before .before .before .before .before .before .before in
     (omega arith, (simp length-set (omega arith), grown _ (c₈ .loop .r) (c₈ .loop .i) _ (omega arith) (c₈ .loop .inv .1 .1) (c .blend-two .ensures ∙ lane-by _ _ _ _ _ _ (c .before .before .before .top .ensures .0) (c .before .top2 .ensures .0))))
 
--- src/lane.rt:45:1
 returns : tie.Need-returns Inv-loop μ-loop
 returns c = λ k l. c .before .loop .inv .1 .1 k (omega arith)
 

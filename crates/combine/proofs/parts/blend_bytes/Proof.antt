@@ -16,21 +16,9 @@ Inv-loop d₀ s a n p j₀ d j = (((a ≤ j) × (j ≤ n)) × (length d ≡ leng
 abbrev μ-loop : tie.MeasureT-loop
 μ-loop d₀ s a n p j₀ d j = n - j
 
--- src/row.rt:56:5
 loop-holds : tie.Need-loop-holds Inv-loop μ-loop
 loop-holds c = (search needs, none-done _ _ _)
 
--- src/row.rt:57:17
--- src/row.rt:57:17
--- src/row.rt:58:24
--- src/row.rt:58:30
--- src/row.rt:58:36
--- src/row.rt:58:42
--- src/row.rt:58:16
--- src/row.rt:58:9
--- src/row.rt:59:9
--- src/row.rt:56:5
--- src/row.rt:56:5
 loop-again : tie.Need-loop-again Inv-loop μ-loop
 unfolding blendAt
 loop-again c =
@@ -38,8 +26,6 @@ loop-again c =
     let b = c .before .before .before .before .before .before in
     (((omega arith, omega arith), simp length-set (b .loop .inv .0 .1)), byte-more (a .args .p .rule) (a .args .s .now) _ (b .loop .d) _ (b .loop .j) _ (b .loop .inv .0 .0 .0) (omega arith) (c .blend-one .ensures) (b .loop .inv .1))
 
--- src/row.rt:51:1
--- src/row.rt:51:1
 returns : tie.Need-returns Inv-loop μ-loop
 returns c = to-end _ _ _ _ (c .before .loop .j) _ (omega arith) (c .before .loop .inv .1)
 

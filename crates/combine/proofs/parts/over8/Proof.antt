@@ -15,31 +15,14 @@ Inv-loop d c r₀ i₀ r i = (i ≤ 8) × ((length r ≡ 8) × ((k : ℕ) → k 
 abbrev μ-loop : tie.MeasureT-loop
 μ-loop d c r₀ i₀ r i = 8 - i
 
--- src/lane.rt:56:5
 loop-holds : tie.Need-loop-holds Inv-loop μ-loop
 loop-holds c = (search needs, (search needs, below-none _))
 
--- src/lane.rt:57:21
--- src/lane.rt:57:21
--- src/lane.rt:57:27
--- src/lane.rt:57:27
--- src/lane.rt:57:39
--- src/lane.rt:57:39
--- src/lane.rt:57:37
--- src/lane.rt:57:37
--- src/lane.rt:57:33
--- src/lane.rt:57:16
--- src/lane.rt:57:9
--- src/lane.rt:57:9
--- src/lane.rt:58:9
--- src/lane.rt:56:5
--- src/lane.rt:56:5
 loop-again : tie.Need-loop-again Inv-loop μ-loop
 loop-again c =
     let c₆ = c .before .before .before .before .before .before in
     (omega arith, (simp length-set (omega arith), grown _ (c₆ .loop .r) (c₆ .loop .i) _ (omega arith) (c₆ .loop .inv .1 .1) (c .over-two .ensures ∙ ap (duo _ 255 _) (c .before .top .ensures .0))))
 
--- src/lane.rt:51:1
 returns : tie.Need-returns Inv-loop μ-loop
 returns c = λ k l. c .before .loop .inv .1 .1 k (omega arith)
 

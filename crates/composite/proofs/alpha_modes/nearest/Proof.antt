@@ -3,9 +3,6 @@ use borrow.Author.Needs.{needs}
 use Rattle.composite.proofs.alpha_modes.nearest.Statement.{statement}
 use Rattle.composite.proofs.alpha_modes.nearest.Tie as tie
 
--- src/alpha.rt:40:13
--- src/alpha.rt:41:6
--- src/alpha.rt:36:1
 returns : tie.Need-returns
 unfolding div255
 returns c = search needs

@@ -4,11 +4,9 @@ use native.Mathlib.Omega.{arith}
 use Rattle.composite.proofs.alpha_modes.prod.Statement.{statement}
 use Rattle.composite.proofs.alpha_modes.prod.Tie as tie
 
--- src/alpha.rt:32:5
 mul-result : tie.Need-mul-result
 mul-result c = omega (arith, mul-le-mul (c .pre .0) (c .pre .1))
 
--- src/alpha.rt:28:1
 returns : tie.Need-returns
 returns c = (refl, mul-le-mul (c .pre .0) (c .pre .1))
 

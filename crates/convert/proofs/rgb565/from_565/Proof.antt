@@ -20,22 +20,9 @@ Inv-loop d₀ s width x₀ d x = ((x ≤ width) × (length d ≡ length d₀)) �
 abbrev μ-loop : tie.MeasureT-loop
 μ-loop d₀ s width x₀ d x = width - x
 
--- src/lib.rt:78:5
 loop-holds : tie.Need-loop-holds Inv-loop μ-loop
 loop-holds c = (search needs, none-done _ _ _)
 
--- src/lib.rt:79:25
--- src/lib.rt:79:13
--- src/lib.rt:80:17
--- src/lib.rt:80:24
--- src/lib.rt:80:9
--- src/lib.rt:81:17
--- src/lib.rt:81:17
--- src/lib.rt:81:28
--- src/lib.rt:81:9
--- src/lib.rt:82:9
--- src/lib.rt:78:5
--- src/lib.rt:78:5
 loop-again : tie.Need-loop-again Inv-loop μ-loop
 loop-again c =
     let c₇ = c .before .before .before .before .before .before .before in
@@ -57,8 +44,6 @@ loop-again c =
           (λ j u. q .1 .1 .0 j (omega arith) ∙ p .1 .1 .0 j u) (λ j u. q .1 .1 .1 j (omega arith) ∙ p .1 .1 .1 j (omega arith)) (b .loop .inv .1),
     )
 
--- src/lib.rt:73:1
--- src/lib.rt:73:1
 returns : tie.Need-returns Inv-loop μ-loop
 returns c = row-done _ _ _ _ _ (c .before .loop .inv .0 .1) (omega arith) (c .before .loop .inv .1)
 

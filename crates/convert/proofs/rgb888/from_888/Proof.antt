@@ -20,26 +20,9 @@ Inv-loop d₀ s width x₀ d x = ((x ≤ width) × (length d ≡ length d₀)) �
 abbrev μ-loop : tie.MeasureT-loop
 μ-loop d₀ s width x₀ d x = width - x
 
--- src/lib.rt:114:5
 loop-holds : tie.Need-loop-holds Inv-loop μ-loop
 loop-holds c = (search needs, none-done _ _ _)
 
--- src/lib.rt:115:22
--- src/lib.rt:115:31
--- src/lib.rt:115:29
--- src/lib.rt:115:41
--- src/lib.rt:115:41
--- src/lib.rt:115:39
--- src/lib.rt:115:55
--- src/lib.rt:115:55
--- src/lib.rt:115:53
--- src/lib.rt:115:9
--- src/lib.rt:116:11
--- src/lib.rt:116:11
--- src/lib.rt:116:9
--- src/lib.rt:117:9
--- src/lib.rt:114:5
--- src/lib.rt:114:5
 loop-again : tie.Need-loop-again Inv-loop μ-loop
 loop-again c =
     let c₉ = c .before .before .before .before .before .before .before .before .before in
@@ -49,8 +32,6 @@ loop-again c =
     let in-s : Row (a .args .s .now) = λ j. omega (arith, c₉ .shared-slice-known .given j) in
     ((omega arith, simp length-set (p .kept .0 ∙ b .loop .inv .0 .1)), opaque-more (a .args .s .now) (a .args .d .now) (b .loop .d) (p .last .0) (b .loop .x) in-s (omega arith) (omega (arith, p .kept .0, b .loop .inv .0 .1)) (p .ensures) (b .loop .inv .1))
 
--- src/lib.rt:109:1
--- src/lib.rt:109:1
 returns : tie.Need-returns Inv-loop μ-loop
 returns c = row-done _ _ _ _ _ (c .before .loop .inv .0 .1) (omega arith) (c .before .loop .inv .1)
 

@@ -5,19 +5,12 @@ use lib.ListN.{length-set}
 use Rattle.convert.proofs.rgb888.put_three.Statement.{statement}
 use Rattle.convert.proofs.rgb888.put_three.Tie as tie
 
--- src/lib.rt:91:5
--- src/lib.rt:92:7
--- src/lib.rt:92:5
 slice-write-d-2 : tie.Need-slice-write-d-2
 slice-write-d-2 c = simp length-set (omega arith)
 
--- src/lib.rt:93:7
--- src/lib.rt:93:5
 slice-write-d-3 : tie.Need-slice-write-d-3
 slice-write-d-3 c = simp length-set (omega arith)
 
--- src/lib.rt:87:1
--- src/lib.rt:87:1
 returns : tie.Need-returns
 returns c = three-set _ _ _ _ _ (search needs)
 

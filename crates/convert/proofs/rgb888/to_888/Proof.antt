@@ -20,23 +20,9 @@ Inv-loop d₀ s width x₀ d x = ((x ≤ width) × (length d ≡ length d₀)) �
 abbrev μ-loop : tie.MeasureT-loop
 μ-loop d₀ s width x₀ d x = width - x
 
--- src/lib.rt:102:5
 loop-holds : tie.Need-loop-holds Inv-loop μ-loop
 loop-holds c = (search needs, none-done _ _ _)
 
--- src/lib.rt:103:22
--- src/lib.rt:103:31
--- src/lib.rt:103:29
--- src/lib.rt:103:41
--- src/lib.rt:103:41
--- src/lib.rt:103:39
--- src/lib.rt:103:55
--- src/lib.rt:103:55
--- src/lib.rt:103:53
--- src/lib.rt:103:9
--- src/lib.rt:104:9
--- src/lib.rt:102:5
--- src/lib.rt:102:5
 loop-again : tie.Need-loop-again Inv-loop μ-loop
 loop-again c =
     let c₉ = c .before .before .before .before .before .before .before .before .before in
@@ -46,8 +32,6 @@ loop-again c =
     let in-s : Row (a .args .s .now) = λ j. omega (arith, c₉ .shared-slice-known .given j) in
     (search needs, three-more (a .args .s .now) (a .args .d .now) (b .loop .d) _ (b .loop .x) in-s (omega arith) (p .ensures) (b .loop .inv .1))
 
--- src/lib.rt:97:1
--- src/lib.rt:97:1
 returns : tie.Need-returns Inv-loop μ-loop
 returns c = row-done _ _ _ _ _ (c .before .loop .inv .0 .1) (omega arith) (c .before .loop .inv .1)
 

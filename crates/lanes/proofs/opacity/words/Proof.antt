@@ -3,17 +3,6 @@ use borrow.Author.Needs.{needs}
 use Rattle.lanes.proofs.opacity.words.Statement.{statement}
 use Rattle.lanes.proofs.opacity.words.Tie as tie
 
--- src/lib.rt:201:5
--- src/lib.rt:201:26
--- src/lib.rt:201:18
--- src/lib.rt:201:5
--- src/lib.rt:201:43
--- src/lib.rt:201:35
--- src/lib.rt:201:5
--- src/lib.rt:201:60
--- src/lib.rt:201:52
--- src/lib.rt:201:5
--- src/lib.rt:197:1
 returns : tie.Need-returns
 returns c =
     let c₅ = c .before .before .before .before .before in

@@ -5,9 +5,6 @@ use borrow.Author.Needs.{needs}
 use Rattle.plan.proofs.channels.blend_two.Statement.{statement}
 use Rattle.plan.proofs.channels.blend_two.Tie as tie
 
--- src/lane.rt:42:14
--- src/lane.rt:42:35
--- src/lane.rt:42:5
 two-by-factors-requires : tie.Need-two-by-factors-requires
 two-by-factors-requires c κs =
     let a = c .before .before .before .before in (
@@ -15,7 +12,6 @@ two-by-factors-requires c κs =
       omega (arith, c .factor2 .ensures, destination-small (a .args .p) (a .pre .0) (a .args .x) (a .args .y) (a .pre .1 .0) (a .pre .1 .1)),
     )
 
--- src/lane.rt:36:1
 returns : tie.Need-returns
 returns c =
     let a = c .before .before .before .before .before in

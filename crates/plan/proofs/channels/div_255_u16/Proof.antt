@@ -5,11 +5,6 @@ use Rattle.plan.proofs.channels.div_255_u16.Tie as tie
 use Rattle.plan.proofs.channels.div_255_u16.Reads as reads
 use Rattle.plan.proofs.channels.div_255_u16.Lts as lts
 
--- src/lib.rt:23:14
--- src/lib.rt:23:13
--- src/lib.rt:24:7
--- src/lib.rt:24:5
--- src/lib.rt:19:1
 returns : tie.Need-returns
 returns c = (nearest (c .args .p) (search needs), search needs)
 

@@ -3,12 +3,6 @@ use borrow.Author.Needs.{needs}
 use Rattle.plan.proofs.channels.over_two.Statement.{statement}
 use Rattle.plan.proofs.channels.over_two.Tie as tie
 
--- src/lane.rt:31:14
--- src/lane.rt:31:42
--- src/lane.rt:31:42
--- src/lane.rt:31:14
--- src/lane.rt:31:5
--- src/lane.rt:27:1
 returns : tie.Need-returns
 returns c = over-duo _ _ _ _ _ (search needs) (c .before .left .ensures .0) (c .left2 .ensures .0)
 

@@ -4,11 +4,9 @@ use native.Mathlib.Nat.{mul-le-mul}
 use Rattle.plan.proofs.channels.prod.Statement.{statement}
 use Rattle.plan.proofs.channels.prod.Tie as tie
 
--- src/lib.rt:35:5
 mul-result : tie.Need-mul-result
 mul-result c = omega (arith, mul-le-mul (c .pre .0) (c .pre .1))
 
--- src/lib.rt:31:1
 returns : tie.Need-returns
 returns c = (refl, mul-le-mul (c .pre .0) (c .pre .1))
 

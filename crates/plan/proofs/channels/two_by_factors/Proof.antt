@@ -5,11 +5,6 @@ use borrow.Author.Needs.{needs}
 use Rattle.plan.proofs.channels.two_by_factors.Statement.{statement}
 use Rattle.plan.proofs.channels.two_by_factors.Tie as tie
 
--- src/lane.rt:23:5
--- src/lane.rt:23:46
--- src/lane.rt:23:46
--- src/lane.rt:23:5
--- src/lane.rt:19:1
 returns : tie.Need-returns
 unfolding duo blendedChannel div255
 returns c = search needs

@@ -17,8 +17,6 @@ use Rattle.ppm.proofs.words.number_of.Reads as reads
 use Rattle.ppm.proofs.words.number_of.Lts as lts
 use Rattle.text.proofs.numerals.read.Reads as read-reads
 
--- src/words.rt:20:9
--- src/words.rt:23:9
 returns : tie.Need-returns
 returns c =
     let read = c .before .before .read in
@@ -33,11 +31,9 @@ whole c =
     let good = and-true (ltb 0 size) (eqb (read .result .end) size) (not-false (ltb 0 size && eqb (read .result .end) size) (c .if1 .left)) in
     number-whole _ (read .result) (read .ensures .0) (ltb-true 0 size (good .0)) (eqb-true (read .result .end) size (good .1))
 
--- src/words.rt:25:19
 cast-t8 : tie.Need-cast-t8
 cast-t8 c = omega (arith, whole (c .before) .1)
 
--- src/words.rt:17:1
 returns-2 : tie.Need-returns-2
 returns-2 c = whole (c .before) .0
 

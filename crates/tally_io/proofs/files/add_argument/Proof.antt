@@ -7,14 +7,10 @@ use Rattle.tally_io.proofs.files.add_argument.Lts as lts
 use Rattle.tally_io.proofs.add_argument.Reads as add-argument-reads
 use Rattle.totals_io.proofs.add_argument.Reads as add-argument-reads′
 
--- src/lib.rt:20:9
--- src/lib.rt:20:9
 returns : tie.Need-returns
 unfolding AddsOf
 returns c = rw (c .before .if1 .taken) (c .add-argument .ensures)
 
--- src/lib.rt:22:5
--- src/lib.rt:16:1
 returns-2 : tie.Need-returns-2
 unfolding AddsOf
 returns-2 c = rw (c .before .if1 .left) (c .add-argument2 .ensures)

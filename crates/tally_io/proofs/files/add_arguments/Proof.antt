@@ -20,43 +20,31 @@ Inv-loop lots first count sum₀ refusal₀ index₀ sum refusal index =
 abbrev μ-loop : tie.MeasureT-loop
 μ-loop lots first count sum₀ refusal₀ index₀ sum refusal index = count - index
 
--- src/lib.rt:59:5
 loop-holds : tie.Need-loop-holds Inv-loop μ-loop
 loop-holds c = (search needs, search needs, search needs, files-none _ _ _ (omega arith))
 
--- src/lib.rt:60:9
 add-next-requires : tie.Need-add-next-requires Inv-loop μ-loop
 add-next-requires c κs =
     let l = c .before .before .loop in
     omega (arith, l .inv .3 .all (l .inv .2 ∙ eqb-true (l .refusal) 0 (c .if1 .taken)))
 
--- src/lib.rt:63:9
--- src/lib.rt:66:48
--- src/lib.rt:66:63
--- src/lib.rt:66:13
--- src/lib.rt:59:5
--- src/lib.rt:59:5
 loop-again : tie.Need-loop-again Inv-loop μ-loop
 loop-again c =
     let s = c .before .before .before in
     let l = s .before .before .before .loop in
     (search needs, search needs, search needs, files-turn _ _ _ (l .index) (l .sum) _ (l .inv .0) (l .inv .2 ∙ eqb-true (l .refusal) 0 (s .before .if1 .taken)) (s .add-next .ensures) (l .inv .3))
 
--- src/lib.rt:59:5
--- src/lib.rt:59:5
 loop-again-2 : tie.Need-loop-again-2 Inv-loop μ-loop
 loop-again-2 c =
     let s = c .before .before in
     let l = s .before .before .before .loop in
     (search needs, search needs, search needs, files-turn _ _ _ (l .index) (l .sum) _ (l .inv .0) (l .inv .2 ∙ eqb-true (l .refusal) 0 (s .before .if1 .taken)) (s .add-next .ensures) (l .inv .3))
 
--- src/lib.rt:47:1
 returns : tie.Need-returns Inv-loop μ-loop
 returns c =
     let l = c .before .before .loop in
     files-all _ _ _ _ _ (l .inv .3) (l .inv .1) (λ e. absurd (eqb-false (l .refusal) 0 (c .if1 .left) (sym (l .inv .2) ∙ e)))
 
--- src/lib.rt:47:1
 returns-2 : tie.Need-returns-2 Inv-loop μ-loop
 returns-2 c =
     let l = c .before .loop in

@@ -6,13 +6,9 @@ use Rattle.tally_io.proofs.files.add_next.Reads as reads
 use Rattle.tally_io.proofs.files.add_next.Lts as lts
 use Rattle.tally_io.proofs.files.add_argument.Reads as add-argument-reads
 
--- src/lib.rt:32:9
--- src/lib.rt:35:9
 returns : tie.Need-returns
 returns c = λ totals number zero F. next-read _ totals number _ _ zero F (c .before .before .add-argument .ensures) (c .if1 .taken)
 
--- src/lib.rt:42:17
--- src/lib.rt:26:1
 returns-2 : tie.Need-returns-2
 returns-2 c = λ totals number zero F. next-unread _ totals number _ _ zero F (c .before .before .before .add-argument .ensures) (c .before .if1 .left)
 

@@ -21,19 +21,9 @@ Inv-loop text counts₀ at₀ k₀ counts at k =
 abbrev μ-loop : tie.MeasureT-loop
 μ-loop text counts₀ at₀ k₀ counts at k = 14 - k
 
--- src/lib.rt:94:5
 loop-holds : tie.Need-loop-holds Inv-loop μ-loop
 loop-holds c = (search needs, refl, search needs, λ own O e. going-none _ _ own e)
 
--- src/lib.rt:95:26
--- src/lib.rt:95:21
--- src/lib.rt:96:13
--- src/lib.rt:97:9
--- src/lib.rt:97:9
--- src/lib.rt:98:14
--- src/lib.rt:99:9
--- src/lib.rt:94:5
--- src/lib.rt:94:5
 loop-again : tie.Need-loop-again Inv-loop μ-loop
 loop-again c =
     let c₆ = c .before .before .before .before .before .before in
@@ -46,7 +36,6 @@ loop-again c =
       λ own O e. going-more _ _ own (l .at) (l .k) O (c .before .before .before .loop-test .taken) (l .inv .1) (l .inv .3 own O e) (read .result) (rw (size .0) at (read .ensures .0)),
     )
 
--- src/lib.rt:87:1
 returns : tie.Need-returns Inv-loop μ-loop
 returns c = let l = c .before .loop in λ own O e. going-all _ _ own (l .at) (l .k) (c .loop-test .left) (l .inv .1) O (l .inv .3 own O e)
 

@@ -7,9 +7,6 @@ use Rattle.totals.proofs.lines.label_size.Reads as reads
 use Rattle.totals.proofs.lines.label_size.Lts as lts
 use Rattle.totals.proofs.lines.label.Reads as label-reads
 
--- src/lib.rt:83:11
--- src/lib.rt:83:5
--- src/lib.rt:78:1
 returns : tie.Need-returns
 returns c = label-typed _ _ _ _ (c .before .before .before .pre) refl (c .before .label .ensures)
 

@@ -13,29 +13,21 @@ use Rattle.check.proofs.same.Reads as same-reads
 use Rattle.totals.proofs.lines.find_totals.Reads as find-totals-reads
 use Rattle.totals.proofs.lines.write.Reads as write-reads
 
--- src/lib.rt:109:9
 returns : tie.Need-returns
 returns c = reads-none _ _ (λ own O e. omega (arith, lines-size (own .counts) O, ap length e, c .if1 .taken))
 
--- src/lib.rt:114:9
--- src/lib.rt:116:19
--- src/lib.rt:116:9
--- src/lib.rt:117:28
 array-share-prefix-line : tie.Need-array-share-prefix-line
 array-share-prefix-line c =
     let w = c .before .write in
     let typed = lines-typed _ _ _ _ (w .ensures .1) refl (w .ensures .0) in
     omega (arith, typed .0)
 
--- src/lib.rt:117:28
 slice-aggregate-same : tie.Need-slice-aggregate-same
 slice-aggregate-same c =
     let w = c .before .before .write in
     let typed = lines-typed _ _ _ _ (w .ensures .1) refl (w .ensures .0) in
     sym (length-take-le (w .result) _ (omega (arith, typed .0)))
 
--- src/lib.rt:117:9
--- src/lib.rt:105:1
 returns-2 : tie.Need-returns-2
 returns-2 c =
     let c₅ = c .before .before .before .before .before in

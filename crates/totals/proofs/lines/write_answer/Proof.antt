@@ -9,22 +9,12 @@ use Rattle.text.proofs.line.append.Reads as append-reads
 use Rattle.text.proofs.line.decimal.Reads as decimal-reads
 use Rattle.text.proofs.line.push.Reads as push-reads
 
--- src/lib.rt:76:9
--- src/lib.rt:78:9
--- src/lib.rt:78:9
 returns : tie.Need-returns
 returns c =
     let c₈ = c .before .before .before .before .before .before .before .before in
     let w = c .before .before .before .before .write in
     answer-added _ _ (c₈ .args .answer) (w .ensures .0) (w .ensures .1) (c .if1 .taken)
 
--- src/lib.rt:80:35
--- src/lib.rt:80:9
--- src/lib.rt:81:36
--- src/lib.rt:81:9
--- src/lib.rt:82:5
--- src/lib.rt:72:1
--- src/lib.rt:72:1
 returns-2 : tie.Need-returns-2
 returns-2 c =
     let c₁₁ = c .before .before .before .before .before .before .before .before .before .before .before in

@@ -10,16 +10,6 @@ use Rattle.text.proofs.line.append.Reads as append-reads
 use Rattle.text.proofs.line.decimal.Reads as decimal-reads
 use Rattle.text.proofs.line.push.Reads as push-reads
 
--- src/lib.rt:97:9
--- src/lib.rt:98:35
--- src/lib.rt:98:9
--- src/lib.rt:99:9
--- src/lib.rt:100:35
--- src/lib.rt:100:9
--- src/lib.rt:101:25
--- src/lib.rt:101:5
--- src/lib.rt:94:1
--- src/lib.rt:94:1
 returns : tie.Need-returns
 unfolding progressText
 returns c =

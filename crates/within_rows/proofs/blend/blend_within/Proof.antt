@@ -4,7 +4,7 @@ use native.Mathlib.Omega.{arith}
 use lib.ListN.{length}
 use denote.Ref.{now}
 use Rattle.plan.proofs.Factors.{over-is}
-use Rattle.within_rows.proofs.blend.bytes.Within.{rest-within, by-rule, apart-part}
+use Rattle.within_rows.proofs.bytes.Within.{rest-within, by-rule, apart-part}
 use borrow.Author.Needs.{needs}
 use Rattle.within_rows.proofs.blend.blend_within.Statement.{statement}
 use Rattle.within_rows.proofs.blend.blend_within.Tie as tie

@@ -8,7 +8,7 @@ use Rattle.pixel.specs.declared.blend.BlendMode.the-variants.{SrcOver}
 use Rattle.lanes.specs.Lanes.{Done}
 use Rattle.lanes.proofs.Passes.{to-end}
 use Rattle.within_rows.specs.Within.{blendWithin}
-use Rattle.within_rows.proofs.blend.bytes.Within.{none-within, four-within, apart-part}
+use Rattle.within_rows.proofs.bytes.Within.{none-within, four-within, apart-part}
 use borrow.Author.Needs.{needs}
 use Rattle.within_rows.proofs.blend.over_turns.Statement.{statement}
 use Rattle.within_rows.proofs.blend.over_turns.Tie as tie

@@ -6,7 +6,7 @@ use denote.Ref.{now}
 use Rattle.lanes.specs.Lanes.{Done}
 use Rattle.lanes.proofs.Passes.{to-end}
 use Rattle.within_rows.specs.Within.{blendWithin}
-use Rattle.within_rows.proofs.blend.bytes.Within.{none-within, four-within}
+use Rattle.within_rows.proofs.bytes.Within.{none-within, four-within}
 use borrow.Author.Needs.{needs}
 use Rattle.within_rows.proofs.blend.turns.Statement.{statement}
 use Rattle.within_rows.proofs.blend.turns.Tie as tie

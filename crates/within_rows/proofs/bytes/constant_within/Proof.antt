@@ -1,10 +1,10 @@
 use native.Mathlib.Omega.{arith}
 use denote.Ref.{now}
 use Rattle.plan.proofs.Factors.{source-whole, source-nothing, destination-whole, destination-nothing}
-use Rattle.within_rows.proofs.blend.bytes.Constant.{added-within, copied-within, cleared-within, left-within}
+use Rattle.within_rows.proofs.bytes.Constant.{added-within, copied-within, cleared-within, left-within}
 use borrow.Author.Needs.{needs}
-use Rattle.within_rows.proofs.blend.bytes.constant_within.Statement.{statement}
-use Rattle.within_rows.proofs.blend.bytes.constant_within.Tie as tie
+use Rattle.within_rows.proofs.bytes.constant_within.Statement.{statement}
+use Rattle.within_rows.proofs.bytes.constant_within.Tie as tie
 
 returns : tie.Need-returns
 returns c =

@@ -3,8 +3,8 @@ use mathlib.Core.Bool.{Bool, cond}
 use Prim.Native.Nat.{_%_}
 use borrow.Author.Tests.{ne-eqb}
 use borrow.Author.Needs.{needs}
-use Rattle.solid_rows.proofs.solid.colour.half.Statement.{statement}
-use Rattle.solid_rows.proofs.solid.colour.half.Tie as tie
+use Rattle.solid_rows.proofs.colour.half.Statement.{statement}
+use Rattle.solid_rows.proofs.colour.half.Tie as tie
 
 returns : tie.Need-returns
 returns c = rw (c .if1 .taken)

@@ -8,10 +8,10 @@ use Rattle.pixel.specs.declared.blend.BlendMode.the-variants.{Add}
 use Rattle.lanes.specs.Lanes.{Done}
 use Rattle.lanes.proofs.Passes.{to-end}
 use Rattle.within_rows.specs.Within.{blendWithin}
-use Rattle.within_rows.proofs.blend.bytes.Within.{none-within, within-reads, byte-within}
+use Rattle.within_rows.proofs.bytes.Within.{none-within, within-reads, byte-within}
 use borrow.Author.Needs.{needs}
-use Rattle.within_rows.proofs.blend.bytes.add_bytes.Statement.{statement}
-use Rattle.within_rows.proofs.blend.bytes.add_bytes.Tie as tie
+use Rattle.within_rows.proofs.bytes.add_bytes.Statement.{statement}
+use Rattle.within_rows.proofs.bytes.add_bytes.Tie as tie
 
 abbrev Inv-loop : tie.InvT-loop
 Inv-loop m₀ to from n j₀ m j = (j ≤ n) × (length m ≡ length m₀) × Done (blendWithin (blendModeFactors Add) m₀ to from) m₀ m to (to + j)

@@ -15,7 +15,7 @@ use Rattle.lanes.specs.Apart.{movedByte}
 use Rattle.plan.proofs.Blends.{Bytes}
 use Rattle.combine.proofs.constant.Rows.{added-row, copied-row, cleared-row, left-row}
 use Rattle.within_rows.specs.Within.{blendWithin}
-use Rattle.within_rows.proofs.blend.bytes.Within.{in-drop, row, within-whole, within-row}
+use Rattle.within_rows.proofs.bytes.Within.{in-drop, row, within-whole, within-row}
 
 -- a factor that has this value whatever the alphas are
 abbrev Always : (ℕ → ℕ → ℕ) → ℕ → Type 0

@@ -1,9 +1,9 @@
 use Rattle.solid_rows.specs.Solid.{solidOf}
 use native.Mathlib.Omega.{arith}
-use Rattle.solid_rows.proofs.solid.colour.Made.{solid-made}
+use Rattle.solid_rows.proofs.colour.Made.{solid-made}
 use borrow.Author.Needs.{needs}
-use Rattle.solid_rows.proofs.solid.colour.solid_of.Statement.{statement}
-use Rattle.solid_rows.proofs.solid.colour.solid_of.Tie as tie
+use Rattle.solid_rows.proofs.colour.solid_of.Statement.{statement}
+use Rattle.solid_rows.proofs.colour.solid_of.Tie as tie
 
 returns : tie.Need-returns
 unfolding solidOf

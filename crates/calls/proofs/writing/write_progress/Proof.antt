@@ -1,7 +1,7 @@
 use Rattle.calls.proofs.Results.{two-done, two-refused}
 use borrow.Author.Needs.{needs}
-use Rattle.calls.proofs.outcomes.write_progress.Statement.{statement}
-use Rattle.calls.proofs.outcomes.write_progress.Tie as tie
+use Rattle.calls.proofs.writing.write_progress.Statement.{statement}
+use Rattle.calls.proofs.writing.write_progress.Tie as tie
 
 returns : tie.Need-returns
 returns c =

@@ -1,7 +1,7 @@
 use Rattle.calls.proofs.Reporting.{reported-done, reported-refused}
 use borrow.Author.Needs.{needs}
-use Rattle.calls.proofs.outcomes.write_completion.Statement.{statement}
-use Rattle.calls.proofs.outcomes.write_completion.Tie as tie
+use Rattle.calls.proofs.writing.write_completion.Statement.{statement}
+use Rattle.calls.proofs.writing.write_completion.Tie as tie
 
 returns : tie.Need-returns
 returns c =

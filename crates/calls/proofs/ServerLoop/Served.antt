@@ -36,7 +36,7 @@ use Rattle.record_bytes.proofs.Fitting.{fits}
 use Rattle.calls.specs.Calls.{setUpNumber, SetsUp, ValueWritten, Opens, Submits, NumberWritten, Begins, ProgressWritten, HandsOver, Cancels, Closes, Reports, Runs}
 use Rattle.calls.proofs.Results.{unless-zero}
 use Rattle.calls.specs.Served.{CallBuffers, ServesOpen, ServesSubmit, ServesRun, ServesPending, ServesBegin, ofPiece, ServesPiece, ServesCancel, ServesClose, Serves, ServesAll, nil, cons, CallFits32Bits, CallsFit32Bits, ServedHolds}
-use Rattle.calls.proofs.Serving.Typed.{sized, fresh-typed, open-typed, submit-typed, begin-typed, piece-typed, cancel-typed, close-typed, run-typed}
+use Rattle.calls.proofs.ServerLoop.Typed.{sized, fresh-typed, open-typed, submit-typed, begin-typed, piece-typed, cancel-typed, close-typed, run-typed}
 
 -- the bytes are those of a record that keeps its rules
 record Holds (bytes : List ℕ) (e : EngineRecord) : Type 0 where

@@ -6,10 +6,10 @@ use denote.Ref.{now}
 use Rattle.lanes.specs.Lanes.{Done}
 use Rattle.lanes.proofs.Passes.{none-done, to-end}
 use Rattle.within_rows.specs.Within.{blendWithin}
-use Rattle.within_rows.proofs.blend.bytes.Within.{within-reads, byte-within}
+use Rattle.within_rows.proofs.bytes.Within.{within-reads, byte-within}
 use borrow.Author.Needs.{needs}
-use Rattle.within_rows.proofs.blend.bytes.blend_bytes.Statement.{statement}
-use Rattle.within_rows.proofs.blend.bytes.blend_bytes.Tie as tie
+use Rattle.within_rows.proofs.bytes.blend_bytes.Statement.{statement}
+use Rattle.within_rows.proofs.bytes.blend_bytes.Tie as tie
 
 abbrev Inv-loop : tie.InvT-loop
 Inv-loop m₀ to from a n p j₀ m j = ((a ≤ j) × (j ≤ n)) × (length m ≡ length m₀) × Done (blendWithin (p .rule) m₀ to from) m₀ m (to + a) (to + j)

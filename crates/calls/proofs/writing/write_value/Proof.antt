@@ -1,7 +1,7 @@
 use Rattle.calls.proofs.Results.{value-written-done, value-written-refused}
 use borrow.Author.Needs.{needs}
-use Rattle.calls.proofs.outcomes.write_value.Statement.{statement}
-use Rattle.calls.proofs.outcomes.write_value.Tie as tie
+use Rattle.calls.proofs.writing.write_value.Statement.{statement}
+use Rattle.calls.proofs.writing.write_value.Tie as tie
 
 returns : tie.Need-returns
 returns c =

@@ -2,7 +2,7 @@
 use mathlib.Core.Path.{_≡_, sym, ap, _∙_}
 use Rattle.pixel.specs.declared.colour.Colour.{Colour}
 use Rattle.pixel.proofs.Stored.{Bytes}
-use Rattle.solid_rows.specs.declared.solid.colour.Solid.{Solid}
+use Rattle.solid_rows.specs.declared.colour.Solid.{Solid}
 use Rattle.solid_rows.specs.Solid.{solidOf, Prepared}
 
 pub solid-made : (c : Colour) (s : Solid) → Bytes c → s ≡ solidOf c → (s ≡ solidOf c) × Prepared s
