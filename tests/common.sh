@@ -15,10 +15,7 @@ build() {
 
 # The comparing program, linked with the static library, which is proved and built first if it is missing or stale.
 build_linked() {
-    if [ -z "${WENDITSAL_LIB:-}" ]; then
-        (cd "$root" && rt staticlib wenditsal)
-        WENDITSAL_LIB=$root/target/staticlib
-    fi
+    WENDITSAL_LIB=$("$root/tools/static_library")
     export WENDITSAL_LIB
     build compare
 }

@@ -1,5 +1,5 @@
 //! Links the engine's static library: libwenditsal.a in the folder that WENDITSAL_LIB names, else in the repository's
-//! target/staticlib, where `rt staticlib wenditsal` puts it.
+//! target/staticlib, where tools/static_library puts it.
 use std::path::PathBuf;
 use std::process::ExitCode;
 
@@ -12,7 +12,7 @@ fn main() -> ExitCode {
     let library = folder.join("libwenditsal.a");
     println!("cargo::rerun-if-changed={}", library.display());
     if !library.is_file() {
-        println!("cargo::error=no {}: run `rt staticlib wenditsal`, or name its folder in WENDITSAL_LIB", library.display());
+        println!("cargo::error=no {}: run tools/static_library, or name its folder in WENDITSAL_LIB", library.display());
         return ExitCode::FAILURE;
     }
     println!("cargo::rustc-link-search=native={}", folder.display());

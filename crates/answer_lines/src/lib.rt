@@ -1,5 +1,7 @@
 // The lines of the answers: who drew a byte last, and why a batch faulted, each as text in a lent buffer. 128 bytes have room for
 // any of them; what does not fit is dropped.
+#![tactic(auto)]
+
 ghost use Rattle.std.specs.Prelude.{◌≡◌, ◌≤◌, length};
 ghost use Rattle.text.specs.Line.{line_of, appended};
 ghost use Rattle.answer_lines.specs.Lines.{refused_line, touch_line, touched_line, detail_text, explanation_line, fault_line, Types};

@@ -1,4 +1,6 @@
 // What a batch says, whole and a task at a time: the types. `decode` reads one.
+#![tactic(auto)]
+
 pub mod decode;
 pub mod verdict;
 pub mod walk;

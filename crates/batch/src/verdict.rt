@@ -6,7 +6,7 @@ use register::Bank;
 use task_check::Fault;
 
 // How many tasks a batch has; or how many stand before its first fault, that fault and the offset of it.
-#[derive(Drop)]
+#[derive(Clone, Copy)]
 pub enum Verdict {
     Faultless(usize),
     Faulty(usize, Fault, usize),
@@ -45,7 +45,7 @@ impl Verdict {
 }
 
 // A verdict, and the bank as it stands where judging ended: a word that is refused is not in it.
-#[derive(Drop)]
+#[derive(Clone, Copy)]
 pub struct Validation {
     pub verdict: Verdict,
     pub bank: Bank,

@@ -1,4 +1,6 @@
 // Tasks of any kind, by way of buffers: a row of the source's colours is fetched into one, and stored from there, blended or not.
+#![tactic(auto)]
+
 ghost use Rattle.std.specs.Prelude.{◌≡◌, ◌+◌, ◌*◌, ◌≤◌, length};
 ghost use Rattle.surface.specs.Surface.{row_length};
 ghost use Rattle.surface.specs.Drawn.{load_pixel};

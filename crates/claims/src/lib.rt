@@ -1,1 +1,2 @@
 // What is promised of whole lists of calls, at the real definitions. It has no code.
+#![tactic(auto)]

@@ -1,4 +1,6 @@
 // Rows of ARGB8888 pixels blended in place, under any rule: four pixels at a time, and what is left of a row byte by byte.
+#![tactic(auto)]
+
 pub mod constant;
 pub mod parts;
 

@@ -1,4 +1,6 @@
 // Two settings of flips and quarter turns as one, and the setting that undoes one (02, request 8).
+#![tactic(auto)]
+
 ghost use Rattle.std.specs.Prelude.{◌≡◌};
 ghost use Rattle.transform.specs.Transform.{rotation_of};
 ghost use Rattle.orientation.specs.Bits.{turns, weight, setting_of, bits_of};

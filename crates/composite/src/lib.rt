@@ -1,4 +1,6 @@
 // A row of colours blended with a row of colours, in place: a premultiplied source divided, alpha modes, then the rule.
+#![tactic(auto)]
+
 pub mod alpha_modes;
 
 ghost use Rattle.std.specs.Prelude.{◌≡◌, ◌%◌, ◌≤◌, length};

@@ -1,5 +1,7 @@
 // The oldest batch of a record: when run is refused, where that batch is, what it may touch and begins with, and the record without it.
 // `closing` is close, which takes a client out of the record and zeroes its window.
+#![tactic(auto)]
+
 pub mod closing;
 
 ghost use Rattle.std.specs.Prelude.{◌≡◌, true, ◌≤◌, ◌<◌, length, get_or, set};

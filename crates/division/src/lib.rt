@@ -1,4 +1,6 @@
 // Nearest division by 255, by shifts and adds.
+#![tactic(auto)]
+
 ghost use Rattle.std.specs.Prelude.{◌≡◌, ◌≤◌};
 ghost use Rattle.division.specs.Division.{shifted};
 

@@ -45,11 +45,11 @@ unfolding decode_from
 words-read bounds b k offset ends head [] rest t =
     let e : k + 0 ≡ k = omega arith in
     let o : offset + 4 * 0 ≡ offset = omega arith in
-    rw (e, o)
+    cc
 words-read bounds b k offset ends head (v ∷ vs) rest t =
     let e : k + 1 + length vs ≡ k + suc (length vs) = omega arith in
     let o : offset + 4 + 4 * length vs ≡ offset + 4 * suc (length vs) = omega arith in
-    rw (t.0 b) (words-read bounds (bank_after_write b offset v) (k + 1) (offset + 4) ends head vs rest t.1 ∙ rw (e, o))
+    rw (t.0 b) (words-read bounds (bank_after_write b offset v) (k + 1) (offset + 4) ends head vs rest t.1 ∙ (cc))
 
 fine_length : (vs rest : List ℕ) → 0 < length vs → bad_group_length (length vs) (length (vs ++ rest)) ≡ false
 fine_length vs rest h =

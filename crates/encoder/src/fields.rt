@@ -10,7 +10,7 @@ use register::{Bank, SurfaceRegisters};
 use reset::ResetRule;
 
 #[repr(C)]
-#[derive(Drop)]
+#[derive(Clone, Copy)]
 pub struct SurfaceFields {
     pub width: u32,
     pub height: u32,
@@ -20,14 +20,14 @@ pub struct SurfaceFields {
 }
 
 #[repr(C)]
-#[derive(Drop)]
+#[derive(Clone, Copy)]
 pub struct AlphaFields {
     pub mode: u32,
     pub global: u32,
 }
 
 #[repr(C)]
-#[derive(Drop)]
+#[derive(Clone, Copy)]
 pub struct TransformFields {
     // 1 for a flip
     pub horizontal: u32,
@@ -37,7 +37,7 @@ pub struct TransformFields {
 }
 
 #[repr(C)]
-#[derive(Drop)]
+#[derive(Clone, Copy)]
 pub struct SourceFields {
     pub surface: SurfaceFields,
     pub alpha: AlphaFields,
@@ -47,7 +47,7 @@ pub struct SourceFields {
 }
 
 #[repr(C)]
-#[derive(Drop)]
+#[derive(Clone, Copy)]
 pub struct DestinationFields {
     pub surface: SurfaceFields,
     pub alpha: AlphaFields,
@@ -55,7 +55,7 @@ pub struct DestinationFields {
 }
 
 #[repr(C)]
-#[derive(Drop)]
+#[derive(Clone, Copy)]
 pub struct BlendingFields {
     // the factors
     pub source: u32,
@@ -66,7 +66,7 @@ pub struct BlendingFields {
 }
 
 #[repr(C)]
-#[derive(Drop)]
+#[derive(Clone, Copy)]
 pub struct Fields {
     pub source: SourceFields,
     pub destination: DestinationFields,

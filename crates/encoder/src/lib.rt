@@ -1,4 +1,6 @@
 // The encoder (the papers' writer): a task's fields in, the bytes of a batch of that one task out. The first form has 80 bytes and no steps, the second 100.
+#![tactic(auto)]
+
 pub mod tint;
 
 ghost use Rattle.std.specs.Prelude.{◌≡◌, length};
@@ -18,7 +20,7 @@ use register::Bank;
 pub use shaded::encode_shaded;
 
 // What is answered: the task is written, or why it is refused.
-#[derive(Drop)]
+#[derive(Clone, Copy)]
 pub enum Answer {
     Written,
     // a field that its register's rule forbids

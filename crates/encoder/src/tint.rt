@@ -11,7 +11,7 @@ use crate::{
 use pixel::{Argb8888, Colour};
 
 // The colour of a tint. It has no alpha: that is the coverage.
-#[derive(Drop)]
+#[derive(Clone, Copy)]
 pub struct Tint {
     pub red: u8,
     pub green: u8,
@@ -19,7 +19,7 @@ pub struct Tint {
 }
 
 // What is answered: no score was given, or what the encoder answers of the task.
-#[derive(Drop)]
+#[derive(Clone, Copy)]
 pub enum Answer {
     // NaN, or outside 0 to 1
     BadScore,

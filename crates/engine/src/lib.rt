@@ -1,12 +1,14 @@
 // What run answers. What run and close do is said here, by definitions and laws; their code stands above, in `dequeue` and `run`. `answers` gives what the
 // calls answer as words.
+#![tactic(auto)]
+
 pub mod answers;
 
 use batch::Verdict;
 use engine_record::EngineRecord;
 
 // What run answers of the batch that it took. The verdict holds the fault, if there is one.
-#[derive(Drop)]
+#[derive(Clone, Copy)]
 pub struct Completion {
     pub client: u32,
     pub ticket: u32,
@@ -14,13 +16,13 @@ pub struct Completion {
 }
 
 // The paper's numbers are those of `run_refusal_of` and `values_of` in specs.
-#[derive(Drop)]
+#[derive(Clone, Copy)]
 pub enum Outcome {
     Refused(u32),
     Completed(Completion),
 }
 
-#[derive(Drop)]
+#[derive(Clone, Copy)]
 pub struct RunResult {
     pub outcome: Outcome,
     pub engine: EngineRecord,

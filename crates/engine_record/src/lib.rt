@@ -1,4 +1,6 @@
 // The engine record: set-up numbers, clients, slots, read offset and next ticket.
+#![tactic(auto)]
+
 pub mod client_table;
 pub mod slot_table;
 pub mod validity;
@@ -12,7 +14,7 @@ ghost use Rattle.engine_record.specs.Tickets.{batch_in_state};
 use reset::ResetRule;
 
 // The numbers of set up, in bytes, and the reset rule. No call changes them.
-#[derive(Drop)]
+#[derive(Clone, Copy)]
 pub struct Setup {
     pub ring: usize,
     pub memory: usize,
@@ -21,14 +23,14 @@ pub struct Setup {
 }
 
 // A range of bytes of memory.
-#[derive(Drop)]
+#[derive(Clone, Copy)]
 pub struct Window {
     pub start: u32,
     pub length: u32,
 }
 
 // The place of a client (01: desk): its window, how many of its batches are ready, and whether it is open. What a closed place holds is free.
-#[derive(Drop)]
+#[derive(Clone, Copy)]
 pub struct Client {
     pub window: Window,
     pub pending: u32,
@@ -36,7 +38,7 @@ pub struct Client {
 }
 
 // A ready batch: whose it is, and where it lies in the ring.
-#[derive(Drop)]
+#[derive(Clone, Copy)]
 pub struct Batch {
     pub client: u32,
     pub ticket: u32,
@@ -44,20 +46,20 @@ pub struct Batch {
     pub length: usize,
 }
 
-#[derive(Drop)]
+#[derive(Clone, Copy)]
 pub enum SlotState {
     Free,
     Ready(Batch),
 }
 
-#[derive(Drop)]
+#[derive(Clone, Copy)]
 pub struct Slot {
     pub state: SlotState,
 }
 
 // The staged submission (02, 6: hand-over): whose it is, the slot that it holds, its total length, and how many of its bytes have come. With none
 // all four are 0.
-#[derive(Drop)]
+#[derive(Clone, Copy)]
 pub struct Staged {
     pub client: u32,
     pub slot: usize,
@@ -66,7 +68,7 @@ pub struct Staged {
 }
 
 // The engine record (01: record), handed in and out by value. A client's id is its place; any of the four may be open.
-#[derive(Drop)]
+#[derive(Clone, Copy)]
 pub struct EngineRecord {
     pub setup: Setup,
     pub clients: [Client; 4],
@@ -77,7 +79,7 @@ pub struct EngineRecord {
 }
 
 // What is summed over the ready batches: 1 for each, the length of each, or 1 for each of a client.
-#[derive(Drop)]
+#[derive(Clone, Copy)]
 pub enum Amount {
     One,
     Length,
@@ -85,7 +87,7 @@ pub enum Amount {
 }
 
 // What the check of a record finds: whether it keeps every rule, and, if it does, how many slots are ready and how many ring bytes their batches have.
-#[derive(Drop)]
+#[derive(Clone, Copy)]
 pub struct Checked {
     pub valid: bool,
     pub ready: usize,

@@ -1,33 +1,40 @@
 // Why the batch of a replay with a ticket faulted: `fault FILE TICKET`.
+#![tactic(auto)]
+
 use inquiry::Question;
 use inquiry_io::Asked;
 use ppm::ParsedNumber;
+use std::rt::Env;
 
 // The ticket that the arguments name. What is wrong with them is reported.
-fn ticket_argument() -> ParsedNumber {
-    if os::arg_count() != 3 {
-        command::complain(b"fault", b" takes two arguments\n");
+fn ticket_argument(rt: &(impl Env + Eprint)) -> ParsedNumber {
+    if command::argument_count(rt) != 3 {
+        command::complain(rt, b"fault", b" takes two arguments\n");
         return ParsedNumber::Invalid;
     }
-    let mut text = io::buffer();
-    let n = os::arg(2, &mut text);
-    command::number_in(&text[..n], b"TICKET")
+    let mut text = command::buffer();
+    let n = command::argument(rt, 2, &mut text);
+    command::number_in(rt, &text[..n], b"TICKET")
 }
 
 // How to give the arguments.
-fn usage() {
-    command::complain(b"usage: fault FILE TICKET\n", b"TICKET in decimal\n");
+fn usage(rt: &impl Eprint) {
+    command::complain(rt, b"usage: fault FILE TICKET\n", b"TICKET in decimal\n");
 }
 
-fn main() {
-    let ParsedNumber::Value(ticket) = ticket_argument() else {
-        usage();
+fn main(rt: HostRuntime) {
+    let ParsedNumber::Value(ticket) = ticket_argument(&rt) else {
+        usage(&rt);
         return;
     };
     let question = Question { address: 0, ticket };
-    let Asked::Read(inquiry) = inquiry_io::ask(question) else {
+    let Asked::Read(inquiry) = inquiry_io::ask(&rt, question) else {
         return;
     };
     let mut line = [0u8; 128];
-    inquiry_io::print_fault(&mut line, inquiry::answers::why_faulted(question, inquiry));
+    inquiry_io::print_fault(
+        &rt,
+        &mut line,
+        inquiry::answers::why_faulted(question, inquiry),
+    );
 }

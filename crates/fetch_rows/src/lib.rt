@@ -1,4 +1,6 @@
 // Rows of colours, fetched into a buffer.
+#![tactic(auto)]
+
 pub mod gradients;
 pub mod strided;
 pub mod words;

@@ -28,13 +28,14 @@ use Rattle.records.proofs.Onward.{ends-here}
 use Rattle.lines.proofs.acceptance.Taken.{taken_facts, whole_words}
 use Rattle.lines.specs.Answered.{record_refusal, replay_window, count_after}
 use Rattle.provenance.specs.declared.Touched.{Touched}
+use Rattle.provenance.specs.declared.Touched.TheVariants.{By}
 use Rattle.provenance.specs.declared.Why.{Why}
 use Rattle.inquiry.specs.declared.Question.{Question}
 use Rattle.inquiry.specs.declared.Finding.{Finding}
 use Rattle.inquiry.specs.declared.Inquiry.{Inquiry}
 use Rattle.inquiry.specs.declared.FeedResult.{FeedResult}
 use Rattle.provenance.specs.Drawn.{Drawn, numbered, drawn_by, drawn_from}
-use Rattle.provenance.specs.Touched.{last_from, touched_by}
+use Rattle.provenance.specs.Touched.{holds, touch_of, last_from, touched_by}
 use Rattle.provenance.specs.Faulted.{explained, why_from, faulted_by}
 use Rattle.provenance.specs.Answers.{answer_touched, answer_fault, touched_answer, fault_answer}
 use Rattle.inquiry.specs.Inquiry.{finding_after, finding_from, nothing_yet, Answers, inquiry_answers, Stands, InquiryFeedContract, finding_next, finding_on}
@@ -68,7 +69,7 @@ module _ (q : Question) where
   last-append : (found : Touched) (i : ℕ) (xs ys : List Drawn) → last_from found i (xs ++ ys) ≡ last_from (last_from found i xs) i ys
   unfolding last_from
   last-append found i [] ys = refl
-  last-append found i (x ∷ xs) ys = last-append _ i xs ys
+  last-append found i (x ∷ xs) ys = last-append (cond (holds x.task.output i) (By (touch_of x)) found) i xs ys
 
   found-touched : (f : Finding) (entries : List Entry) → (finding_from q f entries).touched ≡ last_from f.touched q.address (drawn_from f.accepted entries)
   unfolding finding_from drawn_from last_from

@@ -1,5 +1,7 @@
 // Who drew a byte last, and why a batch faulted, of the records of a replay file. The file is handed over in pieces and read in
 // constant memory: no engine is run, and nothing of it is kept but the answers so far.
+#![tactic(auto)]
+
 pub mod answers;
 
 ghost use Rattle.std.specs.Prelude.{◌≡◌, cond, List, [], ◌++◌, ℕ, ◌≤◌, length, eqb};
@@ -18,14 +20,14 @@ use records::{Edition, Found, Reader};
 use task_check::Bounds;
 
 // What is asked: who drew the byte at this address, and why the batch with this ticket faulted.
-#[derive(Drop)]
+#[derive(Clone, Copy)]
 pub struct Question {
     pub address: usize,
     pub ticket: u32,
 }
 
 // What the records so far say: how many they are, how many of them were accepted, and both answers.
-#[derive(Drop)]
+#[derive(Clone, Copy)]
 pub struct Finding {
     pub records: u32,
     pub accepted: u32,
@@ -34,14 +36,14 @@ pub struct Finding {
 }
 
 // A file that is being read for the answers.
-#[derive(Drop)]
+#[derive(Clone, Copy)]
 pub struct Inquiry {
     pub reader: Reader,
     pub finding: Finding,
 }
 
 // An inquiry after some input, and how many bytes of it were used.
-#[derive(Drop)]
+#[derive(Clone, Copy)]
 pub struct FeedResult {
     pub inquiry: Inquiry,
     pub used: usize,

@@ -1,15 +1,19 @@
 // A replay file read for its answers, and the answers written to standard output. No contract can say which bytes the system reads,
 // or what it does with those that it is to write; that the inquiry stands for some bytes is proved, that the lent line holds the text of the
 // answer, and that as many bytes are handed over to be written.
+#![tactic(auto)]
+
 ghost use Rattle.answer_lines.specs.Lines.{touched_line, fault_line, Types};
 ghost use Rattle.inquiry_io.specs.Reached.{Reached, ReachedUnlessFailed};
 
-use command::Printed;
+use command::{Opened, Printed};
 use inquiry::{Inquiry, Question};
 use provenance::{FaultAnswer, TouchedAnswer};
+use std::io::Read;
+use std::rt::{Env, Files};
 
 // An inquiry under way: whether there may be more to read, and whether nothing has failed so far.
-#[derive(Drop)]
+#[derive(Clone, Copy)]
 struct Progress {
     inquiry: Inquiry,
     more: bool,
@@ -18,7 +22,8 @@ struct Progress {
 
 // Reads once, and feeds what came.
 fn read_some(
-    fd: i32,
+    rt: &impl Eprint,
+    file: &mut impl Read,
     name: &[u8],
     question: Question,
     inquiry: Inquiry,
@@ -26,8 +31,8 @@ fn read_some(
 ) -> Progress
     ensures { Reached question inquiry held.old → Reached question result.inquiry held.new }
 {
-    let mut piece = io::large_buffer();
-    let got = command::read_piece(fd, name, &mut piece);
+    let mut piece = command::large_buffer();
+    let got = command::read_piece(rt, file, name, &mut piece);
     if got.count == 0 {
         return Progress {
             inquiry,
@@ -44,7 +49,14 @@ fn read_some(
 }
 
 // A proved loop has to end, and nothing says that a file does. So the turns are counted down, from a number that no run uses up.
-fn read_all(fd: i32, name: &[u8], question: Question, inquiry: Inquiry, held: &mut [u8]) -> Progress
+fn read_all(
+    rt: &impl Eprint,
+    file: &mut impl Read,
+    name: &[u8],
+    question: Question,
+    inquiry: Inquiry,
+    held: &mut [u8],
+) -> Progress
     ensures { Reached question inquiry held.old → Reached question result.inquiry held.new }
 {
     let mut progress = Progress {
@@ -56,7 +68,7 @@ fn read_all(fd: i32, name: &[u8], question: Question, inquiry: Inquiry, held: &m
     let mut more = true;
     while turns > 0 && more {
         let so_far = progress.inquiry;
-        progress = read_some(fd, name, question, so_far, held);
+        progress = read_some(rt, file, name, question, so_far, held);
         more = progress.more;
         turns -= 1;
     }
@@ -64,30 +76,29 @@ fn read_all(fd: i32, name: &[u8], question: Question, inquiry: Inquiry, held: &m
 }
 
 // What the file that the first argument names says.
-#[derive(Drop)]
+#[derive(Clone, Copy)]
 pub enum Asked {
     Failed,
     Read(Inquiry),
 }
 
-pub fn ask(question: Question) -> Asked
+pub fn ask(rt: &(impl Files + Env + Eprint), question: Question) -> Asked
     ensures { ReachedUnlessFailed question result }
 {
     let mut held = [0u8; 32773];
-    let mut path = io::buffer();
-    let opened = command::open_argument(1, &mut path);
-    let fd = opened.fd;
-    if fd < 0 {
+    let mut path = command::buffer();
+    let Opened { file, length } = command::open_argument(rt, 1, &mut path);
+    let Some(mut file) = file else {
         return Asked::Failed;
-    }
+    };
     let done = read_all(
-        fd,
-        &path[..opened.length],
+        rt,
+        &mut file,
+        &path[..length],
         question,
         inquiry::start(),
         &mut held,
     );
-    libc::close(fd);
     if !done.ok {
         return Asked::Failed;
     }
@@ -99,17 +110,17 @@ pub fn ask(question: Question) -> Asked
 
 // Prints the line of an answer to who drew a byte last: what is handed to the system is the first `size` bytes of `line`, which is to
 // be 128 bytes long.
-pub fn print_touched(line: &mut [u8], answer: TouchedAnswer) -> Printed
+pub fn print_touched(rt: &(impl Print + Eprint), line: &mut [u8], answer: TouchedAnswer) -> Printed
     ensures { Types (touched_line answer) line.old result.size line.new }
 {
     let n = answer_lines::touched_line(line, answer);
-    command::print(line, n)
+    command::print(rt, line, n)
 }
 
 // The same of an answer to why a batch faulted.
-pub fn print_fault(line: &mut [u8], answer: FaultAnswer) -> Printed
+pub fn print_fault(rt: &(impl Print + Eprint), line: &mut [u8], answer: FaultAnswer) -> Printed
     ensures { Types (fault_line answer) line.old result.size line.new }
 {
     let size = answer_lines::fault_line(line, answer);
-    command::print(line, size)
+    command::print(rt, line, size)
 }

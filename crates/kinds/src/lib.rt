@@ -1,4 +1,6 @@
 // What kind the rows of a task are, and how rows that go by way of buffers become its output's. Both are decided once a task.
+#![tactic(auto)]
+
 pub mod predicates;
 
 ghost use Rattle.std.specs.Prelude.{◌≡◌};
@@ -10,7 +12,7 @@ use crate::predicates::{
 use range::Range;
 use register::Task;
 
-#[derive(Drop)]
+#[derive(Clone, Copy)]
 pub enum Kind {
     // one colour a row, without blending
     Filled,
@@ -27,7 +29,7 @@ pub enum Kind {
 }
 
 // How a row of the source's colours in a buffer becomes the output's.
-#[derive(Drop)]
+#[derive(Clone, Copy)]
 pub enum Finish {
     // stored as it is
     Copied,

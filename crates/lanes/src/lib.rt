@@ -1,4 +1,6 @@
 // Bytes sixteen at a time, in eight lanes of 16 bits: what the compiler turns into one vector.
+#![tactic(auto)]
+
 pub mod bytes;
 pub mod opacity;
 

@@ -8,7 +8,7 @@ use range::Range;
 use task_check::Bounds;
 
 // Submit refuses the record, or its batch is run within these bounds.
-#[derive(Drop)]
+#[derive(Clone, Copy)]
 pub enum Submitted {
     Refused,
     Within(Bounds),

@@ -2,7 +2,7 @@
 -- closed, and else as at the start.
 use mathlib.Core.Path.{◌≡◌, refl, sym, ap, ◌∙◌}
 use mathlib.Core.List.{List, [], ◌∷◌, ◌++◌, append_assoc, append-nil}
-use mathlib.Core.Bool.{Bool, true, false, cond, or_false, or_true}
+use mathlib.Core.Bool.{Bool, true, false, cond, or-false, or-true}
 use mathlib.Core.Logic.{⊎_elim}
 use Prim.Native.Nat.{ℕ, ◌<◌}
 use native.Mathlib.Omega.{arith}
@@ -130,11 +130,11 @@ module _ (way : BatchSemantics) (L : Confined way) (setup : Setup) (ring : ℕ) 
 
 left_in : (gone : List Window) (w : Window) (m : List ℕ) (i : ℕ) → In w i → left_over (gone ++ (w ∷ [])) m i ≡ 0
 unfolding contains_any
-left_in gone w m i p = rw (contains-append gone (w ∷ []) i, contains_in w i p, or_true (contains_any gone i))
+left_in gone w m i p = rw (contains-append gone (w ∷ []) i, contains_in w i p, or-true (contains_any gone i))
 
 left_out : (gone : List Window) (w : Window) (m : List ℕ) (i : ℕ) → ¬ (In w i) → left_over (gone ++ (w ∷ [])) m i ≡ left_over gone m i
 unfolding contains_any
-left_out gone w m i p = rw (contains-append gone (w ∷ []) i, contains_out w i p, or_false (contains_any gone i))
+left_out gone w m i p = rw (contains-append gone (w ∷ []) i, contains_out w i p, or-false (contains_any gone i))
 
 module _ (way : BatchSemantics) (L : Confined way) (setup : Setup) (ring : ℕ) (m₀ : List ℕ) where
   record Rest (gone : List Window) (places : List Place) (memory : List ℕ) : Type 0 where

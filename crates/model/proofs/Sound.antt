@@ -166,6 +166,7 @@ module _ (way : BatchSemantics) (setup : Setup) (ring : ℕ) where
   -- ---- no batch outlives its tenancy
 
   named-all : (p : ℕ → Bool) (bs : List Batch) → Named p bs → (b : Batch) → Memᴰ b bs → p b.client ≡ true
+  named-all p [] r b x'' = elim x'' [ ]
   named-all p (x ∷ bs) r b (Memᴰ.head e) = rw e r.0
   named-all p (x ∷ bs) r b (Memᴰ.tail m) = named-all p bs r.1 b m
 

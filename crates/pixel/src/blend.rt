@@ -7,14 +7,14 @@ ghost use Rattle.pixel.specs.Rules.{blend_mode_factors};
 use crate::colour::Colour;
 
 // Which alpha a pixel has: its own, its surface's global one, or the product of the two.
-#[derive(Drop)]
+#[derive(Clone, Copy)]
 pub enum AlphaMode {
     Pixel,
     Global,
     Mixed,
 }
 
-#[derive(Drop)]
+#[derive(Clone, Copy)]
 pub enum Factor {
     Zero,
     One,
@@ -25,13 +25,13 @@ pub enum Factor {
 }
 
 // The factor of the source and that of the destination.
-#[derive(Drop)]
+#[derive(Clone, Copy)]
 pub struct BlendFactors {
     pub source: Factor,
     pub destination: Factor,
 }
 
-#[derive(Drop)]
+#[derive(Clone, Copy)]
 pub enum BlendMode {
     None,
     Clear,

@@ -5,7 +5,7 @@ ghost use Rattle.pixel.specs.Colours.{widened, packed, unpacked};
 
 use crate::colour::Colour;
 
-#[derive(Drop)]
+#[derive(Clone, Copy)]
 pub enum Format {
     Argb8888,
     Rgb888,
@@ -13,7 +13,7 @@ pub enum Format {
 }
 
 // A format's constants: its code, its bytes a pixel, and the width in bits of each channel, 0 where it is absent.
-#[derive(Drop)]
+#[derive(Clone, Copy)]
 pub struct Layout {
     pub code: u32,
     pub bytes: usize,
@@ -24,19 +24,19 @@ pub struct Layout {
 }
 
 // A stored pixel of eight bits a channel.
-#[derive(Drop)]
+#[derive(Clone, Copy)]
 pub struct Argb8888 {
     pub word: u32,
 }
 
 // A stored pixel of eight bits a channel, without alpha.
-#[derive(Drop)]
+#[derive(Clone, Copy)]
 pub struct Rgb888 {
     pub word: u32,
 }
 
 // A stored pixel of 16 bits, without alpha.
-#[derive(Drop)]
+#[derive(Clone, Copy)]
 pub struct Rgb565 {
     pub word: u32,
 }

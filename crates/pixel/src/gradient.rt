@@ -5,7 +5,7 @@ ghost use Rattle.pixel.specs.Gradient.{signed_step, rounded_down, held, gradient
 use crate::Colour;
 
 // What each channel changes by from one place to the next, as register words: 25 bits in two's complement, the low 16 a fraction.
-#[derive(Drop)]
+#[derive(Clone, Copy)]
 pub struct Steps {
     pub alpha: u32,
     pub red: u32,

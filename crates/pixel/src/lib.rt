@@ -1,4 +1,6 @@
 // Pixels: what the formats store, and how two colours are blended.
+#![tactic(auto)]
+
 pub mod blend;
 pub mod colour;
 pub mod format;

@@ -1,5 +1,7 @@
 // The slow engine (02, request 13): each output pixel worked out by itself, in plain order, from the memory before the task. What
 // is drawn of a task changes nothing that a later pixel of it reads, so that it may be drawn in place.
+#![tactic(auto)]
+
 ghost use Rattle.std.specs.Prelude.{◌≡◌, length};
 ghost use Rattle.transform.specs.Transform.{InPicture, rotated_size};
 ghost use Rattle.surface.specs.Surface.{pixel_start};

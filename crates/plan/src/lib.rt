@@ -1,4 +1,6 @@
 // How a blending rule is computed for rows of ARGB8888 pixels, found once a task.
+#![tactic(auto)]
+
 pub mod channels;
 
 ghost use Rattle.std.specs.Prelude.{◌≡◌};
@@ -7,14 +9,14 @@ ghost use Rattle.plan.specs.Plan.{masks_of, factor_by, full_of, empty_of, ends, 
 use pixel::{BlendFactors, Factor};
 
 // A factor without a branch: all or nothing of each alpha, and then as it is or taken from 255.
-#[derive(Drop)]
+#[derive(Clone, Copy)]
 pub struct Masks {
     pub source: u16,
     pub destination: u16,
     pub flip: u16,
 }
 
-#[derive(Drop)]
+#[derive(Clone, Copy)]
 pub struct Plan {
     pub rule: BlendFactors,
     pub source: Masks,

@@ -1,4 +1,6 @@
 // A rectangle of memory as a picture (PPM): the words that name it, its header and its rows.
+#![tactic(auto)]
+
 pub mod picture;
 pub mod rectangle;
 pub mod words;

@@ -6,7 +6,7 @@ use pixel::Format;
 use range::Range;
 use surface::Surface;
 
-#[derive(Drop)]
+#[derive(Clone, Copy)]
 pub enum Rectangle {
     Inside(Surface),
     Outside,
@@ -40,7 +40,7 @@ pub fn rectangle_of(address: u32, stride: u32, width: u32, height: u32, format: 
 }
 
 // The address of a pixel of a page, which may lie outside memory, or none.
-#[derive(Drop)]
+#[derive(Clone, Copy)]
 pub enum Pixel {
     At(usize),
     TooFar,

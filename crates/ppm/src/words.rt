@@ -4,13 +4,13 @@ ghost use Rattle.ppm.specs.Words.{parse_number, to_lower as smallOf, equals_igno
 
 use pixel::Format;
 
-#[derive(Drop)]
+#[derive(Clone, Copy)]
 pub enum ParsedNumber {
     Value(u32),
     Invalid,
 }
 
-#[derive(Drop)]
+#[derive(Clone, Copy)]
 pub enum ParsedFormat {
     Known(Format),
     Unknown,

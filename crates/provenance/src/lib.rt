@@ -1,5 +1,7 @@
 // Who drew a byte of a replay's memory last, and why a batch faulted: the answers and their refusals. What a task, a fault and an
 // answer are is defined in specs/, and the theorem stands there too; crate inquiry reads a file for the answers.
+#![tactic(auto)]
+
 pub mod explain;
 pub mod last_touch;
 
@@ -7,28 +9,28 @@ ghost use Rattle.std.specs.Prelude.{◌≡◌};
 ghost use Rattle.provenance.specs.Answers.{refusal_number, answer_touched, answer_why, answer_fault};
 
 // The task that drew a byte: the ticket of its batch, its number there (from 0), and its source mode's number.
-#[derive(Drop)]
+#[derive(Clone, Copy)]
 pub struct Touch {
     pub ticket: u32,
     pub number: usize,
     pub mode: u32,
 }
 
-#[derive(Drop)]
+#[derive(Clone, Copy)]
 pub enum Touched {
     NotDrawn,
     By(Touch),
 }
 
 // What a word that its register does not take (24) was for: the register's offset, and what it held.
-#[derive(Drop)]
+#[derive(Clone, Copy)]
 pub enum Detail {
     Nothing,
     Register(u32, u32),
 }
 
 // A fault: its number, its place, and the word there.
-#[derive(Drop)]
+#[derive(Clone, Copy)]
 pub struct Explanation {
     pub fault: u32,
     pub place: usize,
@@ -36,14 +38,14 @@ pub struct Explanation {
     pub detail: Detail,
 }
 
-#[derive(Drop)]
+#[derive(Clone, Copy)]
 pub enum Why {
     NoFault,
     Faulted(Explanation),
 }
 
 // How many words of a group are to come, and the offset of the register that the next of them is for.
-#[derive(Drop)]
+#[derive(Clone, Copy)]
 pub struct Group {
     pub left: u32,
     pub register: u32,
@@ -51,7 +53,7 @@ pub struct Group {
 
 // Why a question is not answered: the address lies outside memory, there are more than 1,024 records, no faulted batch has the
 // ticket.
-#[derive(Drop)]
+#[derive(Clone, Copy)]
 pub enum Refusal {
     OutsideMemory,
     TooManyRecords,
@@ -71,13 +73,13 @@ impl Refusal {
     }
 }
 
-#[derive(Drop)]
+#[derive(Clone, Copy)]
 pub enum TouchedAnswer {
     Refused(Refusal),
     Answered(Touched),
 }
 
-#[derive(Drop)]
+#[derive(Clone, Copy)]
 pub enum FaultAnswer {
     Refused(Refusal),
     Answered(Explanation),

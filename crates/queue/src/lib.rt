@@ -1,5 +1,7 @@
 // What the calls of the queue share: what a call answers, and a row of a table of refusals. Definitions and laws of the calls that don't draw stand here;
 // their code stands in `clients` and `enqueue`, and in crate `submission`.
+#![tactic(auto)]
+
 pub mod clients;
 pub mod enqueue;
 
@@ -9,7 +11,7 @@ ghost use Rattle.engine_record.specs.Staged.{staged_by};
 use engine_record::{EngineRecord, Staged};
 
 // What a call answers. The paper's numbers are those of `refusal_number_of` and `value_of` in specs.
-#[derive(Drop)]
+#[derive(Clone, Copy)]
 pub enum Answer {
     Refused(u32),
     Done,
@@ -19,7 +21,7 @@ pub enum Answer {
     Missing(u32),
 }
 
-#[derive(Drop)]
+#[derive(Clone, Copy)]
 pub struct Reply {
     pub answer: Answer,
     pub engine: EngineRecord,

@@ -1,8 +1,10 @@
 // Ranges of bytes, by their first byte and the one past their last.
+#![tactic(auto)]
+
 ghost use Rattle.std.specs.Prelude.{◌≡◌, min, max};
 ghost use Rattle.range.specs.Range.{range_of, contained_in, overlaps};
 
-#[derive(Drop)]
+#[derive(Clone, Copy)]
 pub struct Range {
     pub start: usize,
     pub end: usize,

@@ -1,4 +1,6 @@
 // A replay file of either edition read as records, a piece at a time and in constant memory. The caller lends `held`, for the bytes of one record.
+#![tactic(auto)]
+
 pub mod editions;
 
 ghost use Rattle.std.specs.Prelude.{◌≡◌, ◌+◌, ◌≤◌, ◌<◌, length, take};
@@ -8,7 +10,7 @@ ghost use Rattle.word.specs.Splice.{spliced};
 ghost use Rattle.records.specs.Reading.{room_of, batch_start, bytes_wanted, ReaderReady, Takes, Lies, wait_for_more, after_record_bytes, version_taken, kept_in, record_taken, taken_by, held_after};
 
 // The edition of a file. The second has a score in each record.
-#[derive(Drop)]
+#[derive(Clone, Copy)]
 pub enum Edition {
     First,
     Second,
@@ -46,7 +48,7 @@ impl Edition {
 }
 
 // What is to come next: the version byte, a record, or nothing that is looked at.
-#[derive(Drop)]
+#[derive(Clone, Copy)]
 pub enum Stage {
     Version,
     Records,
@@ -54,14 +56,14 @@ pub enum Stage {
 }
 
 // Where the reading stands. The first `held` bytes of the buffer of that name are those of an unfinished record.
-#[derive(Drop)]
+#[derive(Clone, Copy)]
 pub struct Reader {
     pub stage: Stage,
     pub buffered: usize,
 }
 
 // What a step found. A record lies in `held` up to an end: its client at 4, then in edition 2 its score, then its batch.
-#[derive(Drop)]
+#[derive(Clone, Copy)]
 pub enum Found {
     Nothing,
     Record(usize),
@@ -69,7 +71,7 @@ pub enum Found {
     BadRecord,
 }
 
-#[derive(Drop)]
+#[derive(Clone, Copy)]
 pub struct Taken {
     pub reader: Reader,
     pub used: usize,

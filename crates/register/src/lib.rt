@@ -1,4 +1,6 @@
 // The register bank of a batch: which words it takes, and the task that it describes.
+#![tactic(auto)]
+
 pub mod bank;
 pub mod table;
 pub mod task;

@@ -6,7 +6,7 @@ use pixel::{AlphaMode, Factor, Format};
 use word::bits;
 
 // Which row of the table a register's words are held to.
-#[derive(Drop)]
+#[derive(Clone, Copy)]
 pub enum RegisterKind {
     SourceControl,
     DestinationControl,

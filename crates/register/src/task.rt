@@ -11,7 +11,7 @@ use transform::{Flip, Rotation, Transform};
 use word::bits;
 
 // Where the source's pixels come from: a rectangle in memory, one colour, or a colour that changes along x or along y.
-#[derive(Drop)]
+#[derive(Clone, Copy)]
 pub enum SourceMode {
     Buffer,
     Colour,
@@ -20,13 +20,13 @@ pub enum SourceMode {
 }
 
 // An alpha mode, with the surface's global alpha.
-#[derive(Drop)]
+#[derive(Clone, Copy)]
 pub struct Alpha {
     pub mode: AlphaMode,
     pub global: u8,
 }
 
-#[derive(Drop)]
+#[derive(Clone, Copy)]
 pub struct Source {
     pub surface: Surface,
     pub mode: SourceMode,
@@ -37,14 +37,14 @@ pub struct Source {
     pub enabled: bool,
 }
 
-#[derive(Drop)]
+#[derive(Clone, Copy)]
 pub struct Destination {
     pub surface: Surface,
     pub alpha: Alpha,
     pub enabled: bool,
 }
 
-#[derive(Drop)]
+#[derive(Clone, Copy)]
 pub struct Blending {
     pub on: bool,
     pub rule: BlendFactors,
@@ -52,7 +52,7 @@ pub struct Blending {
     pub premultiplied: bool,
 }
 
-#[derive(Drop)]
+#[derive(Clone, Copy)]
 pub struct Task {
     pub source: Source,
     pub destination: Destination,

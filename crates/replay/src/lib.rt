@@ -1,5 +1,7 @@
 // A replay file of either edition read, run and printed, a piece at a time and in constant memory. The caller lends every buffer: `held` for
 // the bytes of an unfinished record, the engine's ring and memory, and `line` for the one line that a call may print.
+#![tactic(auto)]
+
 mod serving;
 
 ghost use Rattle.std.specs.Prelude.{◌≡◌, ◌≤◌, length};
@@ -15,7 +17,7 @@ use records::{Edition, Found, Reader, Stage};
 use text::line;
 
 // Where a replay stands: the edition of the file, the engine, and the reading of the file.
-#[derive(Drop)]
+#[derive(Clone, Copy)]
 pub struct Replay {
     pub edition: Edition,
     pub engine: EngineRecord,
@@ -23,7 +25,7 @@ pub struct Replay {
 }
 
 // What feed used of its input, and how many bytes it printed into `line`.
-#[derive(Drop)]
+#[derive(Clone, Copy)]
 pub struct FeedResult {
     pub replay: Replay,
     pub used: usize,

@@ -13,7 +13,7 @@ use records::Edition;
 use text::line;
 
 // The engine after what was found, and how many bytes were printed.
-#[derive(Drop)]
+#[derive(Clone, Copy)]
 pub struct SubmitRunResult {
     pub engine: EngineRecord,
     pub written: usize,

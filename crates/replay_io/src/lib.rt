@@ -1,20 +1,26 @@
-// Replay files of either edition read from a descriptor and replayed, and their lines written to standard output. No contract can say
+// Replay files of either edition read and replayed, and their lines written to standard output. No contract can say
 // which bytes the system reads, or what it does with those that it is to write; that the memory is what some bytes make of it is proved,
 // and how many bytes were handed over to be written: as many as the lines of those bytes have.
+#![tactic(auto)]
+
 pub mod programs;
 
 ghost use Rattle.claims.specs.Engine.{State};
 ghost use Rattle.records.specs.declared.Edition.{Edition};
 ghost use Rattle.replay_pieces.specs.Reached.{Reached, Replayed};
 
+use command::Opened;
 use records::Edition;
 use replay::Replay;
 use replay_pieces::Progress;
 use replay_pieces::gather::LINE;
+use std::io::Read;
+use std::rt::{Env, Files};
 
 // Reads once, and feeds what came.
 fn read_some(
-    fd: i32,
+    rt: &(impl Print + Eprint),
+    file: &mut impl Read,
     name: &[u8],
     replay: Replay,
     held: &mut [u8],
@@ -27,8 +33,8 @@ fn read_some(
     ensures { (edition : Edition) (engine : State) → Reached edition engine shows handed replay held.old ring.old memory.old
         → Reached edition engine shows result.handed result.replay held.new ring.new memory.new }
 {
-    let mut piece = io::large_buffer();
-    let got = command::read_piece(fd, name, &mut piece);
+    let mut piece = command::large_buffer();
+    let got = command::read_piece(rt, file, name, &mut piece);
     if got.count == 0 {
         return Progress {
             replay,
@@ -38,6 +44,7 @@ fn read_some(
         };
     }
     replay_pieces::feed_piece(
+        rt,
         replay,
         held,
         ring,
@@ -51,7 +58,8 @@ fn read_some(
 
 // A proved loop has to end, and nothing says that a file does. So the turns are counted down, from a number that no run uses up.
 fn read_all(
-    fd: i32,
+    rt: &(impl Print + Eprint),
+    file: &mut impl Read,
     name: &[u8],
     replay: Replay,
     held: &mut [u8],
@@ -74,7 +82,9 @@ fn read_all(
     while turns > 0 && more {
         let so_far = progress.replay;
         let handed = progress.handed;
-        progress = read_some(fd, name, so_far, held, ring, memory, handed, shows, slow);
+        progress = read_some(
+            rt, file, name, so_far, held, ring, memory, handed, shows, slow,
+        );
         more = progress.more;
         turns -= 1;
     }
@@ -82,17 +92,18 @@ fn read_all(
 }
 
 // What a replay came to: how many bytes were handed to the system to write (modulo 2 to the 64th), and whether nothing failed.
-#[derive(Drop)]
+#[derive(Clone, Copy)]
 pub struct Replaying {
     pub handed: u64,
     pub ok: bool,
 }
 
-// Replays what a descriptor reads, to its end, in memory, which is to be 65,536 bytes. Shows the lines or not, by the slow engine
+// Replays what a file holds, to its end, in memory, which is to be 65,536 bytes. Shows the lines or not, by the slow engine
 // or by the fast one. What failed is reported on standard error.
 pub fn replay_from(
+    rt: &(impl Print + Eprint),
     edition: Edition,
-    fd: i32,
+    file: &mut impl Read,
     name: &[u8],
     memory: &mut [u8],
     shows: bool,
@@ -104,7 +115,9 @@ pub fn replay_from(
     let mut held = [0u8; 32777];
     let mut ring = [0u8; 32768];
     let start = replay::start(edition);
-    let done = read_all(fd, name, start, &mut held, &mut ring, memory, shows, slow);
+    let done = read_all(
+        rt, file, name, start, &mut held, &mut ring, memory, shows, slow,
+    );
     let replay = done.replay;
     if !done.ok {
         return Replaying {
@@ -113,7 +126,7 @@ pub fn replay_from(
         };
     }
     let mut line = [0u8; LINE];
-    let last = replay_pieces::finish(replay, &mut line, shows);
+    let last = replay_pieces::finish(rt, replay, &mut line, shows);
     Replaying {
         handed: std::num::wrapping_add_u64(done.handed, last.size as u64),
         ok: last.ok,
@@ -122,6 +135,7 @@ pub fn replay_from(
 
 // The same, of the file that an argument of the program names.
 pub fn replay_argument(
+    rt: &(impl Files + Env + Print + Eprint),
     edition: Edition,
     index: usize,
     memory: &mut [u8],
@@ -130,16 +144,13 @@ pub fn replay_argument(
 ) -> Replaying
     ensures { Replayed edition memory.old shows result.handed result.ok memory.new }
 {
-    let mut path = io::buffer();
-    let opened = command::open_argument(index, &mut path);
-    let fd = opened.fd;
-    if fd < 0 {
+    let mut path = command::buffer();
+    let Opened { file, length } = command::open_argument(rt, index, &mut path);
+    let Some(mut file) = file else {
         return Replaying {
             handed: 0,
             ok: false,
         };
-    }
-    let came = replay_from(edition, fd, &path[..opened.length], memory, shows, slow);
-    libc::close(fd);
-    came
+    };
+    replay_from(rt, edition, &mut file, &path[..length], memory, shows, slow)
 }

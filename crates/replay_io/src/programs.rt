@@ -6,6 +6,8 @@ ghost use Rattle.replay_io.specs.Arguments.{slow_word};
 
 use crate::Replaying;
 use records::Edition;
+use std::io::Input;
+use std::rt::{Env, Files};
 
 // Whether a word asks for the slow engine.
 fn is_slow(text: &[u8]) -> bool
@@ -15,18 +17,18 @@ fn is_slow(text: &[u8]) -> bool
 }
 
 // Which engine the arguments ask for, and which of them comes after that: the file's, where there is one.
-#[derive(Drop)]
+#[derive(Clone, Copy)]
 pub struct Choice {
     pub slow: bool,
     pub file: usize,
 }
 
 // What the first argument asks for. One that is missing or too long for the buffer counts as empty.
-pub fn asked() -> Choice
+pub fn asked(rt: &impl Env) -> Choice
     ensures { (result.file ≡ (if result.slow then 2 else 1)) × (result.file ≤ 2) }
 {
-    let mut text = io::buffer();
-    let n = os::arg(1, &mut text);
+    let mut text = command::buffer();
+    let n = command::argument(rt, 1, &mut text);
     if is_slow(&text[..n]) {
         return Choice {
             slow: true,
@@ -41,6 +43,7 @@ pub fn asked() -> Choice
 
 // Replays standard input, or the file that an argument names, in 65,536 zero bytes. With neither, `usage` is reported on standard error.
 fn replay_one(
+    rt: &(impl Files + Env + Input + Print + Eprint),
     edition: Edition,
     is_input: bool,
     is_file: bool,
@@ -53,8 +56,9 @@ fn replay_one(
     let mut memory = [0u8; 65536];
     if is_input {
         return crate::replay_from(
+            rt,
             edition,
-            libc::STDIN_FILENO,
+            &mut rt.reader(),
             b"standard input",
             &mut memory,
             true,
@@ -62,9 +66,9 @@ fn replay_one(
         );
     }
     if is_file {
-        return crate::replay_argument(edition, index, &mut memory, true, slow);
+        return crate::replay_argument(rt, edition, index, &mut memory, true, slow);
     }
-    io::write_all(libc::STDERR_FILENO, usage);
+    command::complain(rt, usage, b"");
     Replaying {
         handed: 0,
         ok: false,
@@ -73,13 +77,18 @@ fn replay_one(
 
 // Prints the lines of a replay file of an edition: the one that the program's argument names, or standard input. With --slow before it the
 // file is run by the slow engine, which prints the same lines. With other arguments `usage` is reported on standard error.
-pub fn print_lines(edition: Edition, usage: &[u8]) -> Replaying
+pub fn print_lines(
+    rt: &(impl Files + Env + Input + Print + Eprint),
+    edition: Edition,
+    usage: &[u8],
+) -> Replaying
     ensures { ReplayedInZeros edition true result.handed result.ok }
 {
-    let count = os::arg_count();
-    let choice = asked();
+    let count = command::argument_count(rt);
+    let choice = asked(rt);
     let file = choice.file;
     replay_one(
+        rt,
         edition,
         count == file,
         count == file + 1,

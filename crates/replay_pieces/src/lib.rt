@@ -1,4 +1,6 @@
 // A piece of a replay file fed whole, and its lines handed over to be written: as many bytes as the lines have.
+#![tactic(auto)]
+
 pub mod gather;
 
 ghost use Rattle.std.specs.Prelude.{◌≡◌, ℕ, List, length, if◌then◌else◌, nat_le};
@@ -11,7 +13,7 @@ use replay::Replay;
 
 // A replay under way: how many bytes were handed to the system to write (modulo 2 to the 64th), whether there may be more to read,
 // and whether nothing has failed so far.
-#[derive(Drop)]
+#[derive(Clone, Copy)]
 pub struct Progress {
     pub replay: Replay,
     pub handed: u64,
@@ -20,17 +22,18 @@ pub struct Progress {
 }
 
 // Prints the first n bytes of `out`, if lines are to be shown.
-fn show(shows: bool, out: &[u8], n: usize) -> Printed
+fn show(rt: &(impl Print + Eprint), shows: bool, out: &[u8], n: usize) -> Printed
     ensures { result.size ≡ (if shows then (if nat_le n (length out.now) then n else 0) else 0) }
 {
     if shows {
-        return command::print(out, n);
+        return command::print(rt, out, n);
     }
     Printed { size: 0, ok: true }
 }
 
 // Feeds a piece of the file, whole. It fails where nothing is used, which happens only where a buffer is too short.
 pub fn feed_piece(
+    rt: &(impl Print + Eprint),
     replay: Replay,
     held: &mut [u8],
     ring: &mut [u8],
@@ -43,7 +46,7 @@ pub fn feed_piece(
     ensures { (engine : State) (seen text : List ℕ) → Stands engine seen text replay held.old ring.old memory.old
         → handed ≡ handed_of shows text → PieceFed replay.edition engine seen text piece.now shows result.replay result.handed result.ok held.new ring.new memory.new }
 {
-    let mut out = io::large_buffer();
+    let mut out = command::large_buffer();
     let mut now = replay;
     let mut used = 0;
     let mut sum = handed;
@@ -62,7 +65,7 @@ pub fn feed_piece(
         let count = fed.used;
         now = after;
         used += count;
-        let printed = show(shows, &out, fed.written);
+        let printed = show(rt, shows, &out, fed.written);
         sum = std::num::wrapping_add_u64(sum, printed.size as u64);
         ok = printed.ok;
         if count == 0 {
@@ -79,9 +82,9 @@ pub fn feed_piece(
 }
 
 // The end of the file: its last line, if it has one, printed into a lent line and shown or not.
-pub fn finish(replay: Replay, line: &mut [u8], shows: bool) -> Printed
+pub fn finish(rt: &(impl Print + Eprint), replay: Replay, line: &mut [u8], shows: bool) -> Printed
     ensures { Finishes replay shows line.old result.size line.new }
 {
     let n = replay::finish(replay, line);
-    show(shows, line, n)
+    show(rt, shows, line, n)
 }

@@ -1,8 +1,10 @@
 // The reset rule: what register 0x090, blending, holds at the start of every batch. It is chosen once, at set up.
+#![tactic(auto)]
+
 ghost use Rattle.std.specs.Prelude.{◌≡◌};
 ghost use Rattle.reset.specs.Reset.{blending_at_reset, reset_number_of, is_rule_number, rule_of};
 
-#[derive(Drop)]
+#[derive(Clone, Copy)]
 pub enum ResetRule {
     // blending off, the factors those of NONE
     Unblended,

@@ -1,4 +1,6 @@
 // Batches in the ring: one read as a sequence of words, whether or not it wraps, one copied in.
+#![tactic(auto)]
+
 ghost use Rattle.std.specs.Prelude.{◌≡◌, ◌+◌, ◌≤◌, ◌<◌, ◌&&◌, length, get_or, ltb, leb};
 ghost use Rattle.word.specs.Splice.{spliced};
 ghost use Rattle.ring.specs.Segment.{LiesInRing, segment, batch_words};
@@ -6,7 +8,7 @@ ghost use Rattle.ring.specs.Read.{read_word};
 ghost use Rattle.ring.specs.Copied.{copied_in};
 
 // A word of a batch, or that the batch has no such word.
-#[derive(Drop)]
+#[derive(Clone, Copy)]
 pub enum Read {
     Word(u32),
     OutOfRange,
@@ -68,7 +70,7 @@ fn word_at(ring: &[u8], offset: usize, size: usize, k: usize) -> Read
 }
 
 // One batch in the ring, shown as a sequence of words, whether or not it wraps.
-#[derive(Drop)]
+#[derive(Clone, Copy)]
 pub struct Reader<'a> {
     pub ring: &'a [u8],
     pub offset: usize,

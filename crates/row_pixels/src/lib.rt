@@ -1,4 +1,6 @@
 // One pixel of a task: where its source pixel lies, and how two colours are mixed. What a row of pixels is stands in specs.
+#![tactic(auto)]
+
 pub mod colours;
 pub mod source;
 

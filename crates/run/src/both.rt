@@ -6,7 +6,7 @@ use engine::RunResult;
 use engine_record::EngineRecord;
 
 // What either engine answered.
-#[derive(Drop)]
+#[derive(Clone, Copy)]
 pub struct Both {
     pub fast: RunResult,
     pub slow: RunResult,

@@ -1,4 +1,6 @@
 // Run: the oldest batch judged and drawn by either engine, and taken out of the queue. It has no `requires`: any record, ring and memory may be handed in.
+#![tactic(auto)]
+
 pub mod both;
 
 ghost use Rattle.std.specs.Prelude.{◌≡◌};

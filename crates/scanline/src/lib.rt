@@ -1,4 +1,6 @@
 // Rows of bytes drawn from colours, and buffers blended.
+#![tactic(auto)]
+
 ghost use Rattle.std.specs.Prelude.{◌≡◌, ◌*◌, ◌≤◌, length};
 ghost use Rattle.row_pixels.specs.Row.{colour_in, HoldsColours, row_stored, RowIsWide};
 ghost use Rattle.row_pixels.specs.Composite.{composite};

@@ -1,4 +1,6 @@
 // A reader's score, an f32 from 0 to 1, and the coverage that it gives: the surer the reader, the fainter the tint.
+#![tactic(auto)]
+
 pub mod bits;
 
 ghost use Rattle.std.specs.Prelude.{◌≡◌};

@@ -1,11 +1,13 @@
 // A list of calls, given as bytes: the calls of a script, one at a time.
+#![tactic(auto)]
+
 ghost use Rattle.std.specs.Prelude.{◌≡◌, cond};
 ghost use Rattle.model.specs.Calls.{submit, piece};
 ghost use Rattle.script.specs.Script.{parse_open, parse_bytes, parse_client, parse_begin, parse_call};
 ghost use Rattle.script.specs.Parsing.{client_call, request_of, ParsesAs};
 
 // A call, taken from bytes that begin with it. A batch or a piece is the bytes `from` to `to` of them.
-#[derive(Drop)]
+#[derive(Clone, Copy)]
 pub enum Request {
     Open(u32, u32),
     Submit(u32, usize, usize),
@@ -18,7 +20,7 @@ pub enum Request {
 }
 
 // The calls whose only argument is a client.
-#[derive(Drop)]
+#[derive(Clone, Copy)]
 pub enum OfClient {
     Pending,
     Cancel,
@@ -26,13 +28,13 @@ pub enum OfClient {
 }
 
 // A call, and how many bytes it takes.
-#[derive(Drop)]
+#[derive(Clone, Copy)]
 pub struct ParsedCall {
     pub request: Request,
     pub size: usize,
 }
 
-#[derive(Drop)]
+#[derive(Clone, Copy)]
 pub enum ParseResult {
     End,
     Call(ParsedCall),

@@ -1,4 +1,6 @@
 // A list of calls, given as bytes, played on the engine; the answers are written as bytes.
+#![tactic(auto)]
+
 mod answer;
 
 ghost use Rattle.std.specs.Prelude.{◌≡◌, ◌/◌, length};
@@ -17,7 +19,7 @@ use reset::ResetRule;
 use script::{ParseResult, Request};
 
 // An answer's words, and the record after the call.
-#[derive(Drop)]
+#[derive(Clone, Copy)]
 struct CallOutput {
     words: [u32; 6],
     engine: EngineRecord,

@@ -6,7 +6,7 @@ use lanes::wide;
 use pixel::Colour;
 
 // A colour, the complements of its channels, two in a word, and that of its alpha.
-#[derive(Drop)]
+#[derive(Clone, Copy)]
 pub struct Solid {
     pub colour: Colour,
     pub low: u16,

@@ -1,4 +1,6 @@
 // Tasks that lay one colour over their output by SRC_OVER: what is needed of the colour is found once a task, and no buffer is used.
+#![tactic(auto)]
+
 pub mod colour;
 pub mod solid;
 

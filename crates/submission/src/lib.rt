@@ -1,4 +1,6 @@
 // A batch put into the queue, whole or by pieces: submit, begin, piece and cancel.
+#![tactic(auto)]
+
 ghost use Rattle.std.specs.Prelude.{◌≡◌, ◌≤◌, ◌<◌, length};
 ghost use Rattle.engine_record.specs.Clients.{client_at};
 ghost use Rattle.engine_record.specs.Queue.{write_offset};

@@ -1,4 +1,6 @@
 // Rectangles of pixels in bytes, and one pixel loaded or stored.
+#![tactic(auto)]
+
 pub mod overlap;
 
 ghost use Rattle.std.specs.Prelude.{◌≡◌, ◌+◌, ◌≤◌, length};
@@ -13,7 +15,7 @@ use pixel::{Colour, Format};
 use range::Range;
 
 // A rectangle of pixels in memory. The fields are as wide as their registers, so that no sum below wraps in 64 bits.
-#[derive(Drop)]
+#[derive(Clone, Copy)]
 pub struct Surface {
     pub address: u32,
     pub stride: u16,

@@ -1,5 +1,7 @@
 // The month's tally: fourteen counts over many replay files of both editions, definitions and laws; a file begun and ended. Nothing of a file is kept but the
 // counts. Its pieces are read in crate tally_pieces.
+#![tactic(auto)]
+
 ghost use Rattle.std.specs.Prelude.{◌≡◌, List, [], ℕ, ◌≤◌, length};
 ghost use Rattle.totals.specs.declared.Totals.{Totals};
 ghost use Rattle.tally.specs.Tally.{Adds, tally_start, tally_answer, Stands};
@@ -8,14 +10,14 @@ use records::{Edition, Reader};
 use totals::{Answer, Totals};
 
 // The counts while a file is added, and whether none has grown too large.
-#[derive(Drop)]
+#[derive(Clone, Copy)]
 pub struct Running {
     pub fits: bool,
     pub counts: [u64; 14],
 }
 
 // A file that is being added: the totals before it, its edition, once the version byte has come, the reading of it, and the counts.
-#[derive(Drop)]
+#[derive(Clone, Copy)]
 pub struct Tally {
     pub before: Totals,
     pub edition: Edition,
@@ -25,7 +27,7 @@ pub struct Tally {
 }
 
 // A tally after some input, and how many bytes of it were used.
-#[derive(Drop)]
+#[derive(Clone, Copy)]
 pub struct FeedResult {
     pub tally: Tally,
     pub used: usize,

@@ -1,5 +1,7 @@
 // Replay files read and added to a tally. No contract can say which bytes are read; that the counts grow by what some bytes add to them is
 // proved, and that nothing is added where a file can't be read.
+#![tactic(auto)]
+
 pub mod files;
 
 ghost use Rattle.totals.specs.declared.Totals.{Totals};
@@ -7,11 +9,14 @@ ghost use Rattle.totals.specs.Files.{AddsFile};
 ghost use Rattle.tally.specs.Tally.{Adds};
 ghost use Rattle.tally_io.specs.Reached.{Reached};
 
+use command::Opened;
+use std::io::Read;
+use std::rt::{Env, Files};
 use tally::Tally;
 use totals::{Outcome, Totals};
 
 // A file under way: whether there may be more to read, and whether nothing has failed so far.
-#[derive(Drop)]
+#[derive(Clone, Copy)]
 struct Progress {
     tally: Tally,
     more: bool,
@@ -21,11 +26,17 @@ struct Progress {
 // ---- reading
 
 // Reads once, and feeds what came.
-fn read_some(fd: i32, name: &[u8], tally: Tally, held: &mut [u8]) -> Progress
+fn read_some(
+    rt: &impl Eprint,
+    file: &mut impl Read,
+    name: &[u8],
+    tally: Tally,
+    held: &mut [u8],
+) -> Progress
     ensures { (totals : Totals) → Reached totals tally held.old → Reached totals result.tally held.new }
 {
-    let mut piece = io::large_buffer();
-    let got = command::read_piece(fd, name, &mut piece);
+    let mut piece = command::large_buffer();
+    let got = command::read_piece(rt, file, name, &mut piece);
     if got.count == 0 {
         return Progress {
             tally,
@@ -42,7 +53,13 @@ fn read_some(fd: i32, name: &[u8], tally: Tally, held: &mut [u8]) -> Progress
 }
 
 // A proved loop has to end, and nothing says that a file does. So the turns are counted down, from a number that no run uses up.
-fn read_all(fd: i32, name: &[u8], tally: Tally, held: &mut [u8]) -> Progress
+fn read_all(
+    rt: &impl Eprint,
+    file: &mut impl Read,
+    name: &[u8],
+    tally: Tally,
+    held: &mut [u8],
+) -> Progress
     ensures { (totals : Totals) → Reached totals tally held.old → Reached totals result.tally held.new }
 {
     let mut progress = Progress {
@@ -54,21 +71,21 @@ fn read_all(fd: i32, name: &[u8], tally: Tally, held: &mut [u8]) -> Progress
     let mut more = true;
     while turns > 0 && more {
         let so_far = progress.tally;
-        progress = read_some(fd, name, so_far, held);
+        progress = read_some(rt, file, name, so_far, held);
         more = progress.more;
         turns -= 1;
     }
     progress
 }
 
-// Adds what a descriptor reads, to its end. A file that can't be read to its end is reported on standard error, and adds nothing.
-pub fn add_from(fd: i32, name: &[u8], totals: Totals) -> Outcome
+// Adds what a file holds, to its end. A file that can't be read to its end is reported on standard error, and adds nothing.
+pub fn add_from(rt: &impl Eprint, file: &mut impl Read, name: &[u8], totals: Totals) -> Outcome
     ensures { AddsFile Adds totals result }
 {
     // The longest record of either edition has room.
     let mut held = [0u8; 32777];
     let begun = tally::start(totals);
-    let done = read_all(fd, name, begun, &mut held);
+    let done = read_all(rt, file, name, begun, &mut held);
     if !done.ok {
         return totals::unread(totals);
     }
@@ -80,16 +97,13 @@ pub fn add_from(fd: i32, name: &[u8], totals: Totals) -> Outcome
 }
 
 // The same, of the file that an argument of the program names. One that can't be opened is reported and adds nothing.
-pub fn add_argument(index: usize, totals: Totals) -> Outcome
+pub fn add_argument(rt: &(impl Files + Env + Eprint), index: usize, totals: Totals) -> Outcome
     ensures { AddsFile Adds totals result }
 {
-    let mut path = io::buffer();
-    let opened = command::open_argument(index, &mut path);
-    let fd = opened.fd;
-    if fd < 0 {
+    let mut path = command::buffer();
+    let Opened { file, length } = command::open_argument(rt, index, &mut path);
+    let Some(mut file) = file else {
         return totals::unread(totals);
-    }
-    let done = add_from(fd, &path[..opened.length], totals);
-    libc::close(fd);
-    done
+    };
+    add_from(rt, &mut file, &path[..length], totals)
 }

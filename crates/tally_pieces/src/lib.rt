@@ -1,4 +1,6 @@
 // The pieces of a file handed to the tally, in constant memory: its records found, walked and counted. No engine is run.
+#![tactic(auto)]
+
 ghost use Rattle.std.specs.Prelude.{◌≡◌, List, ◌++◌, cond, ℕ, ◌-◌, ◌*◌, ◌≤◌, ◌<◌, length};
 ghost use Rattle.ring.specs.Segment.{batch_words};
 ghost use Rattle.register.specs.Bank.{reset_bank};

@@ -4,7 +4,7 @@ ghost use Rattle.task_check.specs.Faults.{fault_number, fault_status, write_faul
 
 use register::WriteFault;
 
-#[derive(Drop)]
+#[derive(Clone, Copy)]
 pub enum Fault {
     ReservedBits,
     GroupLength,

@@ -1,4 +1,6 @@
 // The faults of a batch, and the rules that a task must keep.
+#![tactic(auto)]
+
 pub mod fault;
 pub mod task;
 

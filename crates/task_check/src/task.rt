@@ -11,14 +11,14 @@ use surface::Surface;
 use transform::{Rotation, Size};
 
 // What a batch may touch: it draws in its client's window, and may read that and common, the first part of memory.
-#[derive(Drop)]
+#[derive(Clone, Copy)]
 pub struct Bounds {
     pub window: Range,
     pub common_length: usize,
 }
 
 // What is wrong with a task.
-#[derive(Drop)]
+#[derive(Clone, Copy)]
 pub enum TaskCheck {
     Valid,
     Invalid(Fault),

@@ -1,4 +1,6 @@
 // A task drawn a row at a time in the client's window, out of the memory before it. What kind its rows are is decided once.
+#![tactic(auto)]
+
 ghost use Rattle.std.specs.Prelude.{◌≡◌, ◌≤◌, length};
 ghost use Rattle.kinds.specs.Kinds.{kind_of};
 ghost use Rattle.raster.specs.Task.{draw_task};

@@ -1,4 +1,6 @@
 // Totals of the month's tally, and totals added to totals.
+#![tactic(auto)]
+
 pub mod lines;
 
 ghost use Rattle.std.specs.Prelude.{◌≡◌, false, ◌+◌, leb};
@@ -6,34 +8,34 @@ ghost use Rattle.totals.specs.Totals.{largest, unchanged, AddsTotals};
 ghost use Rattle.totals.specs.Sums.{Sum};
 
 // The counts: batches, tasks, output pixels, blended pixels, batches with fault 20 to 28, records without a score.
-#[derive(Drop)]
+#[derive(Clone, Copy)]
 pub struct Totals {
     pub counts: [u64; 14],
 }
 
 // What is answered where counts are added to totals: the new totals; or refusal 19, that a count would grow too large, and the totals as before.
-#[derive(Drop)]
+#[derive(Clone, Copy)]
 pub struct Answer {
     pub refusal: u32,
     pub totals: Totals,
 }
 
 // What came of a file that was to be added: whether the system could read it, and what is answered.
-#[derive(Drop)]
+#[derive(Clone, Copy)]
 pub struct Outcome {
     pub read: bool,
     pub answer: Answer,
 }
 
 // What came of many files, one after another: what is answered in the end, and how many of them the system could not read.
-#[derive(Drop)]
+#[derive(Clone, Copy)]
 pub struct FilesOutcome {
     pub answer: Answer,
     pub unread: usize,
 }
 
 // Sums of counts, and whether none is too large.
-#[derive(Drop)]
+#[derive(Clone, Copy)]
 struct Summed {
     fits: bool,
     counts: [u64; 14],

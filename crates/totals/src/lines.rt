@@ -100,7 +100,7 @@ pub fn write_progress(line: &mut [u8], files: usize, of: usize) -> usize
 // ---- read
 
 // Whether a text is the lines of totals, and these.
-#[derive(Drop)]
+#[derive(Clone, Copy)]
 pub struct Reading {
     pub ok: bool,
     pub totals: Totals,

@@ -7,7 +7,7 @@ use Prim.Native.Nat.{ℕ, ◌≤◌}
 use native.Mathlib.Omega.{arith}
 use lib.ListN.{length, take}
 use lib.Seq.{length-take-le}
-use Rattle.io.specs.Counts.{IsPrefixLen}
+use Rattle.command.specs.Counts.{IsPrefixLen}
 use Rattle.text.specs.Line.{Line, line_of, appended}
 use Rattle.text.proofs.Typing.{typed-whole}
 use Rattle.totals.specs.declared.Totals.{Totals}

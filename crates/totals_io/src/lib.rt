@@ -1,39 +1,43 @@
 // Totals printed on standard output, and printed totals read from files, and added. No contract can say which bytes the system reads, or what
 // it does with those that it is to write; what is added, and how many bytes are handed over to be written, is proved.
+#![tactic(auto)]
+
 ghost use Rattle.std.specs.Prelude.{◌≡◌, true, false, cond, length};
-ghost use Rattle.io.specs.Counts.{IsPrefixLen};
+ghost use Rattle.command.specs.Counts.{IsPrefixLen};
 ghost use Rattle.totals.specs.Lines.{answer_text, progress_text};
 ghost use Rattle.totals.specs.Totals.{unchanged, AddsTotals};
 ghost use Rattle.totals.specs.Files.{AddsFile};
 ghost use Rattle.totals_io.specs.Lots.{AddsText, ReadsFile};
 
-use command::{Piece, Printed};
+use command::{Opened, Piece, Printed};
+use std::io::{IsTerminal, Read, Write};
+use std::rt::{Env, Files};
 use totals::lines::Reading;
 use totals::{Answer, Outcome, Totals};
 
 // ---- printed
 
 // Prints the fourteen counts, and `refused 19` after them if so.
-pub fn print_answer(answer: Answer) -> Printed
+pub fn print_answer(rt: &(impl Print + Eprint), answer: Answer) -> Printed
     ensures { result.size ≡ length (answer_text answer) }
 {
     let mut line = [0u8; 704];
     let n = totals::lines::write_answer(&mut line, answer);
-    command::print(&line, n)
+    command::print(rt, &line, n)
 }
 
 // What was shown: whether there is a terminal to show it on, and how many bytes were handed to the system to write.
-#[derive(Drop)]
+#[derive(Clone, Copy)]
 pub struct Shown {
     pub terminal: bool,
     pub size: usize,
 }
 
-// Shows how many files of how many are done, on a descriptor that is a terminal, and else nothing.
-pub fn show_progress(fd: i32, files: usize, of: usize) -> Shown
+// Shows how many files of how many are done, on what is a terminal, and else nothing.
+pub fn show_progress(screen: &mut (impl Write + IsTerminal), files: usize, of: usize) -> Shown
     ensures { result.size ≡ cond result.terminal (length (progress_text files of)) 0 }
 {
-    if libc::isatty(fd) != 1 {
+    if !screen.is_terminal() {
         return Shown {
             terminal: false,
             size: 0,
@@ -41,7 +45,7 @@ pub fn show_progress(fd: i32, files: usize, of: usize) -> Shown
     }
     let mut line = [0u8; 64];
     let n = totals::lines::write_progress(&mut line, files, of);
-    io::write_all(fd, &line[..n]);
+    let _written = screen.write_all(&line[..n]);
     Shown {
         terminal: true,
         size: n,
@@ -51,7 +55,7 @@ pub fn show_progress(fd: i32, files: usize, of: usize) -> Shown
 // ---- read
 
 // A file that is to hold printed totals: whether the system could read it, and what its text is.
-#[derive(Drop)]
+#[derive(Clone, Copy)]
 pub struct TotalsFile {
     pub read: bool,
     pub reading: Reading,
@@ -71,12 +75,12 @@ fn no_file() -> TotalsFile
 }
 
 // Reads a file into a buffer, to its end or until the buffer is full: how many bytes came, and whether it went well.
-fn read_text(fd: i32, name: &[u8], text: &mut [u8]) -> Piece
+fn read_text(rt: &impl Eprint, file: &mut impl Read, name: &[u8], text: &mut [u8]) -> Piece
     ensures { IsPrefixLen result.count text.new }
 {
     let mut end = 0;
     while end < text.len() {
-        let got = command::read_piece(fd, name, &mut text[end..]);
+        let got = command::read_piece(rt, file, name, &mut text[end..]);
         if got.count == 0 {
             return Piece {
                 count: end,
@@ -91,18 +95,18 @@ fn read_text(fd: i32, name: &[u8], text: &mut [u8]) -> Piece
     }
 }
 
-// Reads totals from a descriptor, of which a longer text than that of totals is not read to its end. That it holds none is reported on standard error.
-fn read_from(fd: i32, name: &[u8]) -> TotalsFile
+// Reads totals from a file, of which a longer text than that of totals is not read to its end. That it holds none is reported on standard error.
+fn read_from(rt: &impl Eprint, file: &mut impl Read, name: &[u8]) -> TotalsFile
     ensures { ReadsFile result }
 {
     let mut text = [0u8; 1024];
-    let got = read_text(fd, name, &mut text);
+    let got = read_text(rt, file, name, &mut text);
     if !got.ok {
         return no_file();
     }
     let reading = totals::lines::read(&text[..got.count]);
     if !reading.ok {
-        command::complain(name, b" does not hold printed totals\n");
+        command::complain(rt, name, b" does not hold printed totals\n");
     }
     TotalsFile {
         read: true,
@@ -111,18 +115,15 @@ fn read_from(fd: i32, name: &[u8]) -> TotalsFile
 }
 
 // The same, of the file that an argument of the program names. One that can't be opened is reported too.
-pub fn read_argument(index: usize) -> TotalsFile
+pub fn read_argument(rt: &(impl Files + Env + Eprint), index: usize) -> TotalsFile
     ensures { ReadsFile result }
 {
-    let mut path = io::buffer();
-    let opened = command::open_argument(index, &mut path);
-    let fd = opened.fd;
-    if fd < 0 {
+    let mut path = command::buffer();
+    let Opened { file, length } = command::open_argument(rt, index, &mut path);
+    let Some(mut file) = file else {
         return no_file();
-    }
-    let file = read_from(fd, &path[..opened.length]);
-    libc::close(fd);
-    file
+    };
+    read_from(rt, &mut file, &path[..length])
 }
 
 // ---- added
@@ -142,10 +143,10 @@ pub fn add_reading(totals: Totals, reading: Reading) -> Answer
 }
 
 // Adds the totals of a lot, from the file that an argument names. One without totals is reported, and adds nothing.
-pub fn add_argument(index: usize, totals: Totals) -> Outcome
+pub fn add_argument(rt: &(impl Files + Env + Eprint), index: usize, totals: Totals) -> Outcome
     ensures { AddsFile AddsText totals result }
 {
-    let file = read_argument(index);
+    let file = read_argument(rt, index);
     let reading = file.reading;
     Outcome {
         read: file.read,

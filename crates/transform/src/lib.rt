@@ -1,9 +1,11 @@
 // Flips and rotation by quarter turns: where each output pixel comes from.
+#![tactic(auto)]
+
 ghost use Rattle.std.specs.Prelude.{◌≡◌, ◌<◌};
 ghost use Rattle.transform.specs.Transform.{InPicture, rotated_size, unrotated, mirrored, unflipped, source_pixel};
 
 // A rotation clockwise by 0 to 3 quarter turns.
-#[derive(Drop)]
+#[derive(Clone, Copy)]
 pub enum Rotation {
     Rotate0,
     Rotate90,
@@ -11,26 +13,26 @@ pub enum Rotation {
     Rotate270,
 }
 
-#[derive(Drop)]
+#[derive(Clone, Copy)]
 pub struct Flip {
     pub horizontal: bool,
     pub vertical: bool,
 }
 
 // A flip, then a rotation.
-#[derive(Drop)]
+#[derive(Clone, Copy)]
 pub struct Transform {
     pub flip: Flip,
     pub rotation: Rotation,
 }
 
-#[derive(Drop)]
+#[derive(Clone, Copy)]
 pub struct Size {
     pub width: usize,
     pub height: usize,
 }
 
-#[derive(Drop)]
+#[derive(Clone, Copy)]
 pub struct Point {
     pub x: usize,
     pub y: usize,

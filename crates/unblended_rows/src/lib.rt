@@ -1,4 +1,6 @@
 // Tasks without blending whose rows need no buffer, or only one to carry bytes: filled with one colour a row, or moved as they are.
+#![tactic(auto)]
+
 pub mod row_copy;
 
 ghost use Rattle.std.specs.Prelude.{◌≡◌, ◌+◌, ◌*◌, ◌≤◌, ◌<◌, length};

@@ -1,4 +1,6 @@
 // Premultiplied colours divided by their alpha: one colour, and a row of ARGB8888 bytes.
+#![tactic(auto)]
+
 ghost use Rattle.std.specs.Prelude.{◌≡◌, ◌+◌, ◌*◌, ◌/◌, ◌%◌, ◌≤◌, min, length};
 ghost use Rattle.lanes.specs.Lanes.{Done};
 ghost use Rattle.unpremultiply.specs.Unpremultiply.{Reciprocals, unpremultiplied};

@@ -1,4 +1,6 @@
 // A batch: walked once, each task judged and then drawn before the next is read, by the fast engine or by the slow one (02, request 13).
+#![tactic(auto)]
+
 ghost use Rattle.std.specs.Prelude.{◌≡◌, length};
 ghost use Rattle.ring.specs.Segment.{batch_words};
 ghost use Rattle.batch.specs.Batch.{decode_batch, verdict_of};

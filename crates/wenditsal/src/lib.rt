@@ -1,4 +1,6 @@
-// What other languages link. The header for C is include/wenditsal.h.
+// The calls for other languages, which crate wenditsal_c exports as C symbols. The header for C is include/wenditsal.h.
+#![tactic(auto)]
+
 ghost use Rattle.std.specs.Prelude.{◌≡◌, length};
 ghost use Rattle.encoder.specs.Forms.{first_form, second_form};
 ghost use Rattle.reset.specs.Reset.{rule_of};
@@ -16,8 +18,7 @@ use reset::ResetRule;
 
 // Sets up an engine and plays a script on the lent ring and memory. Returns how many bytes of answers it wrote. A `reset` of 0 is the old reset
 // rule, any other number the new one, so that nobody can ask for a third.
-#[unsafe(no_mangle)]
-pub extern "C" fn wenditsal_play(
+pub fn wenditsal_play(
     ring_length: usize,
     memory_length: usize,
     common_length: usize,
@@ -47,8 +48,7 @@ pub extern "C" fn wenditsal_play(
 // handed in: no call has a `requires`.
 
 // Sets up an engine and writes its record; `reset` as above.
-#[unsafe(no_mangle)]
-pub extern "C" fn wenditsal_set_up(
+pub fn wenditsal_set_up(
     engine: &mut [u8],
     ring: usize,
     memory: usize,
@@ -66,8 +66,7 @@ pub extern "C" fn wenditsal_set_up(
 }
 
 // Opens a client with a window; answers its id.
-#[unsafe(no_mangle)]
-pub extern "C" fn wenditsal_open(engine: &mut [u8], start: u32, size: u32, client: &mut u32) -> u32
+pub fn wenditsal_open(engine: &mut [u8], start: u32, size: u32, client: &mut u32) -> u32
     ensures { Opens engine.old (record { start = start; length = size }) result client.new engine.new }
 {
     let record = record_bytes::reading::decode(engine);
@@ -76,8 +75,7 @@ pub extern "C" fn wenditsal_open(engine: &mut [u8], start: u32, size: u32, clien
 }
 
 // Puts a client's batch into the ring and the queue; answers its ticket.
-#[unsafe(no_mangle)]
-pub extern "C" fn wenditsal_submit(
+pub fn wenditsal_submit(
     engine: &mut [u8],
     ring: &mut [u8],
     client: u32,
@@ -93,8 +91,7 @@ pub extern "C" fn wenditsal_submit(
 }
 
 // Begins a batch of a total length that a client hands over by pieces.
-#[unsafe(no_mangle)]
-pub extern "C" fn wenditsal_begin(engine: &mut [u8], ring: &[u8], client: u32, total: usize) -> u32
+pub fn wenditsal_begin(engine: &mut [u8], ring: &[u8], client: u32, total: usize) -> u32
     ensures { Begins engine.old ring.now client total result engine.new }
 {
     let record = record_bytes::reading::decode(engine);
@@ -104,8 +101,7 @@ pub extern "C" fn wenditsal_begin(engine: &mut [u8], ring: &[u8], client: u32, t
 }
 
 // Hands over a piece of it; answers 0 and the bytes still to come, or, of the last, 1 and the ticket. The header has these two as a structure.
-#[unsafe(no_mangle)]
-pub extern "C" fn wenditsal_piece(
+pub fn wenditsal_piece(
     engine: &mut [u8],
     ring: &mut [u8],
     client: u32,
@@ -121,8 +117,7 @@ pub extern "C" fn wenditsal_piece(
 }
 
 // Drops it.
-#[unsafe(no_mangle)]
-pub extern "C" fn wenditsal_cancel(engine: &mut [u8], client: u32) -> u32
+pub fn wenditsal_cancel(engine: &mut [u8], client: u32) -> u32
     ensures { Cancels engine.old client result engine.new }
 {
     let record = record_bytes::reading::decode(engine);
@@ -132,8 +127,7 @@ pub extern "C" fn wenditsal_cancel(engine: &mut [u8], client: u32) -> u32
 }
 
 // Closes a client: its window is filled with zeros, and its id and window are free.
-#[unsafe(no_mangle)]
-pub extern "C" fn wenditsal_close(engine: &mut [u8], memory: &mut [u8], client: u32) -> u32
+pub fn wenditsal_close(engine: &mut [u8], memory: &mut [u8], client: u32) -> u32
     ensures { Closes engine.old memory.old client result engine.new memory.new }
 {
     let record = record_bytes::reading::decode(engine);
@@ -143,8 +137,7 @@ pub extern "C" fn wenditsal_close(engine: &mut [u8], memory: &mut [u8], client: 
 }
 
 // Takes the oldest batch; answers client, ticket, status, fault and place. The header has these five as a structure.
-#[unsafe(no_mangle)]
-pub extern "C" fn wenditsal_run(
+pub fn wenditsal_run(
     engine: &mut [u8],
     ring: &[u8],
     memory: &mut [u8],
@@ -159,8 +152,7 @@ pub extern "C" fn wenditsal_run(
 }
 
 // Answers how many batches of a client are ready.
-#[unsafe(no_mangle)]
-pub extern "C" fn wenditsal_pending(engine: &[u8], client: u32, count: &mut u32) -> u32
+pub fn wenditsal_pending(engine: &[u8], client: u32, count: &mut u32) -> u32
     ensures { Pends engine.now client result count.new }
 {
     let record = record_bytes::reading::decode(engine);
@@ -170,8 +162,7 @@ pub extern "C" fn wenditsal_pending(engine: &[u8], client: u32, count: &mut u32)
 }
 
 // Writes the 80 bytes of the batch of the one task with these fields to a buffer.
-#[unsafe(no_mangle)]
-pub extern "C" fn wenditsal_encode(fields: Fields, buffer: &mut [u8]) -> u32
+pub fn wenditsal_encode(fields: Fields, buffer: &mut [u8]) -> u32
     ensures { (result ≡ encode_refusal_of (answer_of (first_form fields) (length buffer.old)))
         × (buffer.new ≡ buffer_after (first_form fields) buffer.old) }
 {
@@ -180,8 +171,7 @@ pub extern "C" fn wenditsal_encode(fields: Fields, buffer: &mut [u8]) -> u32
 }
 
 // Writes the 100 bytes of the batch of the one task with these fields and steps to a buffer. The steps of the four channels are register words.
-#[unsafe(no_mangle)]
-pub extern "C" fn wenditsal_encode_shaded(
+pub fn wenditsal_encode_shaded(
     fields: Fields,
     alpha: u32,
     red: u32,
@@ -203,8 +193,7 @@ pub extern "C" fn wenditsal_encode_shaded(
 }
 
 // Writes the 80 bytes of the batch of the one task that tints a rectangle by a score to a buffer.
-#[unsafe(no_mangle)]
-pub extern "C" fn wenditsal_encode_tint(
+pub fn wenditsal_encode_tint(
     score: f32,
     red: u8,
     green: u8,
@@ -220,16 +209,14 @@ pub extern "C" fn wenditsal_encode_tint(
 }
 
 // The one setting for two, drawn one after the other. A setting is bits 7:4 of a source control word.
-#[unsafe(no_mangle)]
-pub extern "C" fn wenditsal_compose(first: u32, second: u32) -> u32
+pub fn wenditsal_compose(first: u32, second: u32) -> u32
     ensures { result ≡ bits_of (compose (setting_of first) (setting_of second)) }
 {
     compose::compose_bits(first, second)
 }
 
 // The setting that undoes one.
-#[unsafe(no_mangle)]
-pub extern "C" fn wenditsal_inverse(setting: u32) -> u32
+pub fn wenditsal_inverse(setting: u32) -> u32
     ensures { result ≡ bits_of (inverse (setting_of setting)) }
 {
     compose::inverse_bits(setting)

@@ -1,5 +1,7 @@
 // Tasks whose rows are blended inside the window: the output is its own destination, and the source's rows lie in the window as they are blended. Neither
 // row is fetched into a buffer.
+#![tactic(auto)]
+
 pub mod blend;
 pub mod bytes;
 

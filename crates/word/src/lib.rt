@@ -1,4 +1,6 @@
 // Numbers in bytes: 32-bit words of either byte order, and fields of a word.
+#![tactic(auto)]
+
 ghost use Rattle.std.specs.Prelude.{◌≡◌, ◌+◌, ◌*◌, ◌≤◌, ◌<◌, [], ◌∷◌, length};
 ghost use Rattle.word.specs.Word.{le32, le32_at, be32_at, le_bytes, words_bytes};
 ghost use Rattle.word.specs.Field.{field};

@@ -1,0 +1,39 @@
+use mathlib.Core.Path.{refl, ◌∙◌}
+use Prim.Native.Nat.{◌-◌}
+use native.Mathlib.Omega.{arith}
+use Rattle.raster.proofs.Upto.{upto_none, upto_length, upto_row, upto_more, upto_all}
+use Rattle.buffered_rows.proofs.draw_buffered.Goals as goal
+
+pub loop-y-init : goal.loop-y-init
+loop-y-init c = (upto_none _ _, refl, refl)
+
+pub buffered_row-requires : goal.buffered_row-requires
+buffered_row-requires c =
+    let l = c.loop-y in (
+      upto_row l.invariant.0 c.requires.0 c.loop-y-test.true,
+      record {
+        source = omega (arith, l.invariant.1, c.requires.1);
+        destination = omega (arith, l.invariant.2, c.requires.2);
+        finish = c.finish_of-finish.ensures;
+        plan = c.plan_of-plan.ensures;
+      },
+    )
+
+pub overflow_add-y : goal.overflow_add-y
+overflow_add-y c =
+    omega (arith, c.loop-y-test.true, c.requires.0.clear.output.height_max)
+
+pub loop-y-preserved : goal.loop-y-preserved
+loop-y-preserved c =
+    let l = c.loop-y in
+    let f = c.buffered_row in (
+      upto_more l.invariant.0 c.requires.0 c.loop-y-test.true f.new.memory f.ensures,
+      f.auto.source ∙ l.invariant.1,
+      f.auto.destination ∙ l.invariant.2,
+    )
+
+pub shape_of-memory : goal.shape_of-memory
+shape_of-memory c = upto_length c.loop-y.invariant.0
+
+pub returns : goal.returns
+returns c = upto_all c.loop-y.invariant.0 (omega arith)

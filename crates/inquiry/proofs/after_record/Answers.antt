@@ -1,0 +1,40 @@
+use Prim.Native.Nat.{◌≤◌}
+use native.Mathlib.Omega.{arith}
+use lib.Dec.{ltb}
+use borrow.Author.Tests.{ltb-false}
+use Rattle.word.proofs.Tests.{or_false}
+use Rattle.records.specs.Records.{Entry}
+use Rattle.lines.proofs.acceptance.Taken.{refused_none, within-taken}
+use Rattle.inquiry.proofs.Answering.{after-refused, after-accepted}
+use Rattle.inquiry.proofs.after_record.Goals.{Else-finding}
+use Rattle.inquiry.proofs.after_record.Goals as goal
+
+-- neither count is over
+few : (c : Else-finding) → let f = c.args.finding in (f.records ≤ 1024) × (f.accepted ≤ 1024)
+few c =
+    let f = c.args.finding in
+    let both = or_false (ltb 1024 f.records) (ltb 1024 f.accepted) c.if-finding.false in
+    (ltb-false 1024 f.records both.0, ltb-false 1024 f.accepted both.1)
+
+pub returns-then-finding : goal.returns-then-finding
+returns-then-finding c = rw c.if-finding.true
+
+pub overflow_add-records : goal.overflow_add-records
+overflow_add-records c = omega (arith, few (goal.at.overflow_add-records c).Else-finding)
+
+pub overflow_add-result : goal.overflow_add-result
+overflow_add-result c =
+    omega (arith, few (goal.at.overflow_add-result c).Else-finding)
+
+pub returns-in-Refused : goal.returns-in-Refused
+returns-in-Refused c =
+    let a = c.args in
+    let entry : Entry = record { client = a.client; batch = a.batch.now } in
+    rw c.if-finding.false (after-refused a.question a.finding entry (refused_none entry _ c.accept-submitted.ensures c.in-Refused.is))
+
+pub returns-in-Within : goal.returns-in-Within
+returns-in-Within c =
+    let a = c.args in
+    let entry : Entry = record { client = a.client; batch = a.batch.now } in
+    let took = within-taken entry _ c.accept-submitted.ensures _ c.in-Within.is in
+    rw c.if-finding.false (after-accepted a.question a.finding entry _ _ _ took.0 (few (goal.at.returns-in-Within c).Else-finding).1 took.1 c.after_batch-last.ensures c.after_why-reason.ensures)

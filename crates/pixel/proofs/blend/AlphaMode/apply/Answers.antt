@@ -1,0 +1,4 @@
+use Rattle.pixel.proofs.blend.AlphaMode.apply.Goals as goal
+
+pub returns : goal.returns
+returns c = simp c.alpha.ensures

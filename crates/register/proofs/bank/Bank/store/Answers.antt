@@ -1,0 +1,101 @@
+use borrow.Author.Tests.{ne_eqb}
+use Rattle.register.specs.Bank.{surface_after_write, steps_after_write, bank_after_write}
+use Rattle.register.proofs.bank.Bank.store.Goals as goal
+
+pub returns-in-16 : goal.returns-in-16
+unfolding bank_after_write surface_after_write steps_after_write
+returns-in-16 c = rw c.in-16.is
+
+pub returns-in-20 : goal.returns-in-20
+unfolding bank_after_write surface_after_write steps_after_write
+returns-in-20 c = rw c.in-20.is
+
+pub returns-in-24 : goal.returns-in-24
+unfolding bank_after_write surface_after_write steps_after_write
+returns-in-24 c = rw c.in-24.is
+
+pub returns-in-28 : goal.returns-in-28
+unfolding bank_after_write surface_after_write steps_after_write
+returns-in-28 c = rw c.in-28.is
+
+pub returns-in-32 : goal.returns-in-32
+unfolding bank_after_write surface_after_write steps_after_write
+returns-in-32 c = rw c.in-32.is
+
+pub returns-in-48 : goal.returns-in-48
+unfolding bank_after_write surface_after_write steps_after_write
+returns-in-48 c = rw c.in-48.is
+
+pub returns-in-52 : goal.returns-in-52
+unfolding bank_after_write surface_after_write steps_after_write
+returns-in-52 c = rw c.in-52.is
+
+pub returns-in-56 : goal.returns-in-56
+unfolding bank_after_write surface_after_write steps_after_write
+returns-in-56 c = rw c.in-56.is
+
+pub returns-in-60 : goal.returns-in-60
+unfolding bank_after_write surface_after_write steps_after_write
+returns-in-60 c = rw c.in-60.is
+
+pub returns-in-80 : goal.returns-in-80
+unfolding bank_after_write surface_after_write steps_after_write
+returns-in-80 c = rw c.in-80.is
+
+pub returns-in-84 : goal.returns-in-84
+unfolding bank_after_write surface_after_write steps_after_write
+returns-in-84 c = rw c.in-84.is
+
+pub returns-in-88 : goal.returns-in-88
+unfolding bank_after_write surface_after_write steps_after_write
+returns-in-88 c = rw c.in-88.is
+
+pub returns-in-96 : goal.returns-in-96
+unfolding bank_after_write surface_after_write steps_after_write
+returns-in-96 c = rw c.in-96.is
+
+pub returns-in-144 : goal.returns-in-144
+unfolding bank_after_write surface_after_write steps_after_write
+returns-in-144 c = rw c.in-144.is
+
+pub returns-in-256 : goal.returns-in-256
+unfolding bank_after_write surface_after_write steps_after_write
+returns-in-256 c = rw c.in-256.is
+
+pub returns-in-260 : goal.returns-in-260
+unfolding bank_after_write surface_after_write steps_after_write
+returns-in-260 c = rw c.in-260.is
+
+pub returns-in-264 : goal.returns-in-264
+unfolding bank_after_write surface_after_write steps_after_write
+returns-in-264 c = rw c.in-264.is
+
+pub returns-in-272 : goal.returns-in-272
+unfolding bank_after_write surface_after_write steps_after_write
+returns-in-272 c = rw c.in-272.is
+
+pub returns-in_default : goal.returns-in_default
+unfolding bank_after_write surface_after_write steps_after_write
+returns-in_default c =
+    let o = c.args.offset in
+    let r = c.in_default.in_default-own.rest in
+    simp (
+      ne_eqb o _ r.1,
+      ne_eqb o _ r.0.1,
+      ne_eqb o _ r.0.0.1,
+      ne_eqb o _ r.0.0.0.1,
+      ne_eqb o _ r.0.0.0.0.1,
+      ne_eqb o _ r.0.0.0.0.0.1,
+      ne_eqb o _ r.0.0.0.0.0.0.1,
+      ne_eqb o _ r.0.0.0.0.0.0.0.1,
+      ne_eqb o _ r.0.0.0.0.0.0.0.0.1,
+      ne_eqb o _ r.0.0.0.0.0.0.0.0.0.1,
+      ne_eqb o _ r.0.0.0.0.0.0.0.0.0.0.1,
+      ne_eqb o _ r.0.0.0.0.0.0.0.0.0.0.0.1,
+      ne_eqb o _ r.0.0.0.0.0.0.0.0.0.0.0.0.1,
+      ne_eqb o _ r.0.0.0.0.0.0.0.0.0.0.0.0.0.1,
+      ne_eqb o _ r.0.0.0.0.0.0.0.0.0.0.0.0.0.0.1,
+      ne_eqb o _ r.0.0.0.0.0.0.0.0.0.0.0.0.0.0.0.1,
+      ne_eqb o _ r.0.0.0.0.0.0.0.0.0.0.0.0.0.0.0.0.1,
+      ne_eqb o _ r.0.0.0.0.0.0.0.0.0.0.0.0.0.0.0.0.0.1,
+    )

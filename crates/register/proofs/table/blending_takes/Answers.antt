@@ -1,0 +1,13 @@
+use Rattle.register.proofs.table.blending_takes.Goals as goal
+
+pub returns : goal.returns
+returns c =
+    simp (
+      c.bits-5.ensures,
+      c.is_code-2.ensures,
+      c.bits-4.ensures,
+      c.is_code.ensures,
+      c.bits-3.ensures,
+      c.bits-2.ensures,
+      c.bits.ensures,
+    )

@@ -1,0 +1,4 @@
+use Rattle.register.proofs.table.stride_takes.Goals as goal
+
+pub returns : goal.returns
+returns c = simp c.bits.ensures

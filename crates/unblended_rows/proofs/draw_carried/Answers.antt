@@ -1,0 +1,31 @@
+use mathlib.Core.Path.{refl, ◌∙◌}
+use Prim.Native.Nat.{◌-◌}
+use native.Mathlib.Omega.{arith}
+use Rattle.raster.proofs.Upto.{upto_none, upto_length, upto_row, upto_more, upto_all}
+use Rattle.unblended_rows.proofs.draw_carried.Goals as goal
+
+pub loop-y-init : goal.loop-y-init
+loop-y-init c = (upto_none _ _, refl)
+
+pub carried_row-requires : goal.carried_row-requires
+carried_row-requires c =
+    let l = c.loop-y in
+    (upto_row l.invariant.0 c.requires.0 c.loop-y-test.true, omega (arith, l.invariant.1, c.requires.1), c.requires.2)
+
+pub overflow_add-y : goal.overflow_add-y
+overflow_add-y c =
+    omega (arith, c.loop-y-test.true, c.requires.0.clear.output.height_max)
+
+pub loop-y-preserved : goal.loop-y-preserved
+loop-y-preserved c =
+    let l = c.loop-y in
+    let f = c.carried_row in (
+      upto_more l.invariant.0 c.requires.0 c.loop-y-test.true f.new.memory f.ensures,
+      f.auto.source ∙ l.invariant.1,
+    )
+
+pub shape_of-memory : goal.shape_of-memory
+shape_of-memory c = upto_length c.loop-y.invariant.0
+
+pub returns : goal.returns
+returns c = upto_all c.loop-y.invariant.0 (omega arith)

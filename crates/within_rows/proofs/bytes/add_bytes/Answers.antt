@@ -1,0 +1,27 @@
+use mathlib.Core.Path.{refl, sym, ◌∙◌}
+use Prim.Native.Nat.{◌+◌, ◌-◌}
+use native.Mathlib.Omega.{arith}
+use lib.ListN.{length-set}
+use Rattle.pixel.specs.Rules.{blend_mode_factors}
+use Rattle.pixel.specs.declared.blend.BlendMode.TheVariants.{Add}
+use Rattle.lanes.proofs.Passes.{to_end}
+use Rattle.within_rows.proofs.bytes.Within.{none_within, within-reads, byte-within}
+use borrow.Author.Rules.{rules}
+use Rattle.within_rows.proofs.bytes.add_bytes.Goals as goal
+
+pub loop-j-init : goal.loop-j-init
+loop-j-init c = (search rules, refl, none_within _ _ _)
+
+pub loop-j-preserved : goal.loop-j-preserved
+loop-j-preserved c =
+    let a = c.args in (
+      omega arith,
+      simp length-set c.loop-j.invariant.1,
+      byte-within (blend_mode_factors Add) a.m.now c.loop-j.m a.to a.from a.n c.loop-j.j a.to c.requires.0 c.requires.1 (omega arith) (omega arith) (omega arith) c.loop-j.invariant.2 _
+          c.loop-j-test.true (omega (arith, c.loop-j.invariant.1, c.requires.0.target)) (c.held_sum.ensures ∙ sym (within-reads (blend_mode_factors Add) c.loop-j.m a.to a.from c.loop-j.j)),
+    )
+
+pub returns : goal.returns
+returns c =
+    let l = c.loop-j in
+    to_end _ _ _ _ (c.args.to + l.j) _ (omega arith) l.invariant.2
