@@ -30,7 +30,7 @@ returns-then-count-eq0 c =
     λ totals seen S. absurd (piece-some totals seen a.piece.now l.used c.feed-fed.result _ c.loop-used-test.true (c.feed-fed.ensures.3 totals (seen ++ take l.used a.piece.now) (l.invariant.2 totals seen S)) c.if-count-eq0.true)
 
 pub loop-used-smaller : goal.loop-used-smaller
-loop-used-smaller c = omega (arith, within (goal.at.loop-used-smaller c).After-feed-fed, c.if-count-eq0.false)
+loop-used-smaller c = omega (arith, within (goal.at.loop-used-smaller c).After-feed-fed)
 
 pub loop-used-preserved : goal.loop-used-preserved
 loop-used-preserved c =
