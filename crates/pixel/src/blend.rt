@@ -246,6 +246,7 @@ impl BlendFactors {
 }
 
 // One channel. The sum is held at 255 after it was divided, so it must not wrap in eight bits before.
+#[tactic(auto, unfolding(crate::specs::Blending::blended_channel, division::specs::Division::div255))]
 pub fn blend_channel(s: u8, fs: u8, d: u8, fd: u8) -> u8
     ensures { result ≡ blended_channel s fs d fd }
 {

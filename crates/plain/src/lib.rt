@@ -72,6 +72,7 @@ fn destination_colour(memory: &[u8], destination: Destination, x: u16, y: u16) -
 }
 
 // The colour of output pixel (x, y).
+#[tactic(auto, using(raster::proofs::Pixel::pixel_plain))]
 fn pixel_colour(memory: &[u8], task: Task, x: u16, y: u16) -> Colour
     requires { Pixel memory.now task x y }
     ensures { result ≡ pixel_colour task memory.now x y }

@@ -33,6 +33,10 @@ pub is_none : (bytes : List ℕ) (r : EngineRecord) → is_record bytes ≡ fals
 unfolding record_of
 is_none bytes r e is = rw e is
 
+-- bytes of another length stand for no record
+pub none_short : (bytes : List ℕ) → (length bytes ≡ 272 → ⊥) → record_of bytes ≡ no_record
+none_short bytes n = sym (is_none bytes no_record (judged-short bytes n) refl)
+
 pub is_some : (bytes : List ℕ) (r : EngineRecord) → is_record bytes ≡ true → r ≡ record_in (words bytes) → r ≡ record_of bytes
 unfolding record_of
 is_some bytes r e is = rw e is

@@ -198,6 +198,7 @@ fn no_record() -> EngineRecord
 }
 
 // The record that bytes stand for.
+#[tactic(auto, using(crate::proofs::Cases::none_short))]
 pub fn decode(bytes: &[u8]) -> EngineRecord
     ensures { result ≡ record_of bytes.now }
 {

@@ -65,7 +65,8 @@ module _ (held : List ℕ) (have : ℕ) (within : have ≤ length held) where
   entry_there some h =
       let all : 4 + length_field (take have held) ≤ length (take have held) = omega (arith, there) in
       let body : 4 + length_field (take have held) - 5 ≡ length_field held - 1 = omega (arith, size_there (omega arith)) in
-      sym (entry-front (take have held) (drop have held) some all) ∙ ap entry_of (take-append-drop have held) ∙ rw body
+      sym (entry-front (take have held) (drop have held) some all) ∙ ap entry_of (take-append-drop have held)
+      ∙ ap (λ (n : ℕ). record { client = get_or held 4 0; batch = take n (drop 5 held) }) (sym body)
 
 -- ---- of an edition
 

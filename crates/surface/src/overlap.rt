@@ -38,6 +38,7 @@ fn shares_rows(first: Surface, later: Surface) -> bool
 }
 
 // Whether two surfaces overlap: with equal strides some byte lies in rows of both, else in both spans.
+#[tactic(auto, unfolding(crate::specs::Overlap::surfaces_overlap))]
 pub fn surfaces_overlap(a: Surface, b: Surface) -> bool
     ensures { result ≡ surfaces_overlap a b }
 {

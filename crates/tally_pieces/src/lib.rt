@@ -213,6 +213,7 @@ pub fn feed(tally: Tally, held: &mut [u8], input: &[u8]) -> FeedResult
 }
 
 // Takes a piece of the file, whole.
+#[tactic(auto, using(crate::proofs::Piece::some_used))]
 pub fn feed_piece(tally: Tally, held: &mut [u8], piece: &[u8]) -> Tally
     ensures { (totals : Totals) (seen : List ℕ) → Stands totals seen tally held.old → Stands totals (seen ++ piece.now) result held.new }
 {

@@ -1,6 +1,6 @@
 use mathlib.Core.Path.{sym, ap₂, ◌∙◌}
 use Rattle.row_pixels.specs.Composite.{composite}
-use Rattle.raster.proofs.Pixel.{pixel_blended, pixel_plain}
+use Rattle.raster.proofs.Pixel.{pixel_blended}
 use Rattle.plain.proofs.Inside.{source_pixel_lem, destination_pixel}
 use borrow.Author.Rules.{rules}
 use Rattle.plain.proofs.pixel_colour.Goals as goal
@@ -19,8 +19,3 @@ returns-then-task c =
     c.composite.ensures
     ∙ (ap₂ (composite a.task.blending a.task.source.alpha a.task.destination.alpha) c.source_colour-s.ensures c.destination_colour-d.ensures
     ∙ sym (pixel_blended a.task a.memory.now a.x a.y c.if-task.true))
-
-pub returns : goal.returns
-returns c =
-    let a = c.args in
-    c.source_colour-s.ensures ∙ sym (pixel_plain a.task a.memory.now a.x a.y c.if-task.false)

@@ -3,7 +3,7 @@ use Prim.Native.Nat.{◌+◌, ◌-◌, ◌≤◌}
 use mathlib.Core.List.{◌++◌}
 use native.Mathlib.Omega.{arith}
 use lib.ListN.{length, take, drop, length-take, length-drop}
-use Rattle.tally.proofs.Files.{piece_again, piece-some, piece-none, piece-all}
+use Rattle.tally.proofs.Files.{piece_again, piece-none, piece-all}
 use Rattle.tally_pieces.proofs.feed_piece.Goals.{After-feed-fed}
 use Rattle.tally_pieces.proofs.feed_piece.Goals as goal
 
@@ -23,14 +23,8 @@ pub overflow_add-used : goal.overflow_add-used
 overflow_add-used c =
     omega (arith, within (goal.at.overflow_add-used c).After-feed-fed, c.well_formed.1.1.0.0)
 
-pub returns-then-count-eq0 : goal.returns-then-count-eq0
-returns-then-count-eq0 c =
-    let l = c.loop-used in
-    let a = c.args in
-    λ totals seen S. absurd (piece-some totals seen a.piece.now l.used c.feed-fed.result _ c.loop-used-test.true (c.feed-fed.ensures.3 totals (seen ++ take l.used a.piece.now) (l.invariant.2 totals seen S)) c.if-count-eq0.true)
-
 pub loop-used-smaller : goal.loop-used-smaller
-loop-used-smaller c = omega (arith, within (goal.at.loop-used-smaller c).After-feed-fed, c.if-count-eq0.false)
+loop-used-smaller c = omega (arith, within (goal.at.loop-used-smaller c).After-feed-fed)
 
 pub loop-used-preserved : goal.loop-used-preserved
 loop-used-preserved c =

@@ -1,5 +1,9 @@
-use mathlib.Core.Path.{sym, ap, ◌∙◌}
+use mathlib.Core.Path.{◌≡◌, sym, ap, ◌∙◌}
+use mathlib.Core.Bool.{true}
+use lib.Dec.{eqb}
 use borrow.Author.Tests.{not-true, not-false}
+use borrow.Author.Rules.{rules}
+use Rattle.lines.specs.Answered.{record_refusal}
 use Rattle.lines.specs.declared.acceptance.Submitted.TheVariants.{Within}
 use Rattle.lines.proofs.acceptance.Taken.{taken_facts}
 use Rattle.lines.proofs.acceptance.accept.Goals as goal
@@ -14,5 +18,6 @@ bounds_of-requires c =
 
 pub returns : goal.returns
 returns c =
-    let is = c.is_accepted in
-    rw (sym is.ensures ∙ not-false is.result c.if-not-is_accepted.false-raw) (ap Within c.bounds_of.ensures)
+    let a = c.args in
+    let taken : eqb (record_refusal (record { client = a.client; batch = a.batch.now })) 0 ≡ true = search rules in
+    rw taken (ap Within c.bounds_of.ensures)

@@ -1,10 +1,7 @@
 use mathlib.Core.Bool.{true, false, ◌&&◌}
 use borrow.Author.Tests.{not-true, not-false}
-use Rattle.record_bytes.proofs.Cases.{judged, judged-short, is_none, is_some}
+use Rattle.record_bytes.proofs.Cases.{judged, is_none, is_some}
 use Rattle.record_bytes.proofs.reading.decode.Goals as goal
-
-pub returns-then-bytes-ne272 : goal.returns-then-bytes-ne272
-returns-then-bytes-ne272 c = is_none _ _ (judged-short _ c.if-bytes-ne272.true) c.no_record.ensures
 
 pub returns-then-not-rule-fixed_right : goal.returns-then-not-rule-fixed_right
 returns-then-not-rule-fixed_right c =

@@ -1,6 +1,9 @@
+use mathlib.Core.Path.{◌≡◌}
+use mathlib.Core.Bool.{true}
 use native.Mathlib.Omega.{arith}
 use lib.ListN.{length}
-use borrow.Author.Tests.{not-true, not-false}
+use borrow.Author.Tests.{not-true}
+use borrow.Author.Rules.{rules}
 use Rattle.lines.specs.Lines.{bad_score_line}
 use Rattle.lines.proofs.record_lines.Printing.{prints-typed}
 use Rattle.replay.proofs.RecordServed.{lies_some, record_bad, record_good}
@@ -24,4 +27,5 @@ pub returns : goal.returns
 returns c =
     let a = c.args in
     let score = c.score_in in
-    record_good a.edition a.engine a.ring.now a.memory.now a.held.now a.line.now a.end c.requires.0 score.result _ _ _ _ _ score.ensures (not-false score.result c.if-not-score_in.false-raw) c.batch_start-start.ensures c.submit_and_run.ensures
+    let holds : score.result ≡ true = search rules in
+    record_good a.edition a.engine a.ring.now a.memory.now a.held.now a.line.now a.end c.requires.0 score.result _ _ _ _ _ score.ensures holds c.batch_start-start.ensures c.submit_and_run.ensures

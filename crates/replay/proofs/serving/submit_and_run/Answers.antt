@@ -1,4 +1,5 @@
-use mathlib.Core.Path.{refl, sym, ap, ◌∙◌}
+use mathlib.Core.Path.{◌≡◌, refl, sym, ap, ◌∙◌}
+use Rattle.queue.specs.Answers.{refusal_number_of}
 use Rattle.engine.specs.declared.RunResult.{RunResult}
 use Rattle.replay.proofs.RecordServed.{run-refused, serves_refused, serves_ran}
 use borrow.Author.Rules.{rules}
@@ -18,4 +19,5 @@ pub returns : goal.returns
 returns c =
     let a = c.args in
     let sub = c.submit-submitted.ensures in
-    serves_ran a.engine a.ring.now a.memory.now _ a.line.now _ _ _ _ _ sub.0 sub.1 _ (sym c.number_of-number.ensures ∙ c.if-number-ne0.false) c.run_by-ran.ensures.0 c.run_by-ran.ensures.1 refl c.outcome_line.ensures
+    let none : refusal_number_of c.submit-submitted.result.answer ≡ 0 = search rules in
+    serves_ran a.engine a.ring.now a.memory.now _ a.line.now _ _ _ _ _ sub.0 sub.1 _ none c.run_by-ran.ensures.0 c.run_by-ran.ensures.1 refl c.outcome_line.ensures
