@@ -3,18 +3,21 @@
 #![tactic(auto)]
 
 ghost use Rattle.std.specs.Prelude.{◌≡◌, ◌≤◌, length};
-ghost use Rattle.text.specs.Line.{line_of, appended};
+ghost use Rattle.text.specs.Line.{appended};
+ghost use Rattle.text.specs.Written.{text_in};
 ghost use Rattle.answer_lines.specs.Lines.{refused_line, touch_line, touched_line, detail_text, explanation_line, fault_line, Types};
 
-use provenance::{Detail, Explanation, FaultAnswer, Refusal, Touch, Touched, TouchedAnswer};
-use text::line;
+use provenance::{Explanation, HeldRegister, Refusal, Touch};
+use text::line::{self, Line};
 
 fn refused_line(line: &mut [u8], refusal: Refusal) -> usize
     ensures { Types (refused_line refusal) line.old result line.new }
 {
-    let a = line::copy(line, b"refused ");
-    let b = line::decimal(line, a, refusal.number() as u64);
-    line::push(line, b, b'\n')
+    let mut text = Line::new(line);
+    text.append(b"refused ");
+    text.decimal(refusal.number() as u64);
+    text.push(b'\n');
+    text.length
 }
 
 // ---- who drew a byte last
@@ -22,60 +25,63 @@ fn refused_line(line: &mut [u8], refusal: Refusal) -> usize
 fn touch_line(line: &mut [u8], touch: Touch) -> usize
     ensures { Types (touch_line touch) line.old result line.new }
 {
-    let a = line::decimal(line, 0, touch.ticket as u64);
-    let b = line::field(line, a, touch.number as u64);
-    let c = line::field(line, b, touch.mode as u64);
-    line::push(line, c, b'\n')
+    let mut text = Line::new(line);
+    text.decimal(touch.ticket as u64);
+    text.field(touch.number as u64);
+    text.field(touch.mode_number() as u64);
+    text.push(b'\n');
+    text.length
 }
 
 // The line of an answer to who drew a byte last; its length.
-pub fn touched_line(line: &mut [u8], answer: TouchedAnswer) -> usize
+#[tactic(auto, unfolding(crate::specs::Lines::touched_line))]
+pub fn touched_line(line: &mut [u8], answer: Result<Option<Touch>, Refusal>) -> usize
     ensures { Types (touched_line answer) line.old result line.new }
 {
     match answer {
-        TouchedAnswer::Refused(refusal) => refused_line(line, refusal),
-        TouchedAnswer::Answered(touched) => match touched {
-            Touched::NotDrawn => line::copy(line, b"not drawn\n"),
-            Touched::By(touch) => touch_line(line, touch),
-        },
+        Err(refusal) => refused_line(line, refusal),
+        Ok(None) => line::copy(line, b"not drawn\n"),
+        Ok(Some(touch)) => touch_line(line, touch),
     }
 }
 
 // ---- why a batch faulted
 
 // For 24 the register's offset and what it held.
-fn detail_text(line: &mut [u8], n: usize, detail: Detail) -> usize
-    ensures { (line_of line.new result ≡ appended (line_of line.old n) (detail_text detail)) × (length (detail_text detail) ≤ 13) }
+#[tactic(auto, using(crate::proofs::Typed::detail_typed, crate::proofs::Typed::detail_size), unfolding(crate::specs::Lines::detail_text, text::specs::Line::appended))]
+fn detail_text(line: &mut Line, detail: Option<HeldRegister>)
+    ensures same_buffer { line.new.bytes.ghost_name ≡ line.old.bytes.ghost_name }
+    ensures text { text_in line.new ≡ appended (text_in line.old) (detail_text detail) }
+    ensures short { length (detail_text detail) ≤ 13 }
 {
-    match detail {
-        Detail::Nothing => n,
-        Detail::Register(offset, held) => {
-            let a = line::push(line, n, b' ');
-            let b = line::hex_three(line, a, offset);
-            let c = line::push(line, b, b' ');
-            line::hex_word(line, c, held)
-        }
+    if let Some(register) = detail {
+        line.push(b' ');
+        line.hex(register.offset, 3);
+        line.push(b' ');
+        line.hex(register.held, 8);
     }
 }
 
 fn explanation_line(line: &mut [u8], explanation: Explanation) -> usize
     ensures { Types (explanation_line explanation) line.old result line.new }
 {
-    let detail = explanation.detail;
-    let a = line::decimal(line, 0, explanation.fault as u64);
-    let b = line::field(line, a, explanation.place as u64);
-    let c = line::push(line, b, b' ');
-    let d = line::hex_word(line, c, explanation.word);
-    let e = detail_text(line, d, detail);
-    line::push(line, e, b'\n')
+    let mut text = Line::new(line);
+    text.decimal(explanation.fault.number() as u64);
+    text.field(explanation.place as u64);
+    text.push(b' ');
+    text.hex(explanation.word, 8);
+    detail_text(&mut text, explanation.detail);
+    text.push(b'\n');
+    text.length
 }
 
 // The line of an answer to why a batch faulted; its length.
-pub fn fault_line(line: &mut [u8], answer: FaultAnswer) -> usize
+#[tactic(auto, unfolding(crate::specs::Lines::fault_line))]
+pub fn fault_line(line: &mut [u8], answer: Result<Explanation, Refusal>) -> usize
     ensures { Types (fault_line answer) line.old result line.new }
 {
     match answer {
-        FaultAnswer::Refused(refusal) => refused_line(line, refusal),
-        FaultAnswer::Answered(explanation) => explanation_line(line, explanation),
+        Err(refusal) => refused_line(line, refusal),
+        Ok(explanation) => explanation_line(line, explanation),
     }
 }

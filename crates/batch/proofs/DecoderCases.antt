@@ -10,7 +10,8 @@ use lib.ListN.{length, get_or, drop, length-drop, drop_of_length-le, get_or-eq_d
 use lib.Seq.{drop-cons}
 use Rattle.word.specs.Field.{field}
 use Rattle.word.proofs.Tests.{split}
-use Rattle.ring.specs.declared.Read.TheVariants.{Word, OutOfRange}
+use Rattle.std.specs.Prelude.{None, Ok, Err}
+use Rattle.std.specs.Prelude.{unwrap_or}
 use Rattle.ring.specs.Read.{read_word}
 use Rattle.ring.proofs.Reading.{read_in, read_past}
 use Rattle.ring.specs.Segment.{lies_in_ring, batch_words}
@@ -19,14 +20,12 @@ use Rattle.register.specs.Bank.{write_register}
 use Rattle.register.specs.Task.{task_of}
 use Rattle.register.specs.declared.bank.Bank.{Bank}
 use Rattle.register.specs.declared.bank.WriteFault.{WriteFault}
-use Rattle.register.specs.declared.bank.WriteResult.TheVariants.{Written, Refused}
 use Rattle.task_check.specs.declared.fault.Fault.TheVariants.{ReservedBits, GroupLength, OpenTask}
 use Rattle.task_check.specs.declared.task.Bounds.{Bounds}
 use Rattle.task_check.specs.Faults.{write_fault}
 use Rattle.task_check.specs.Rules.{check_task}
-use Rattle.batch.specs.declared.walk.WalkStep.TheVariants.{Faulty as Stop, End}
 use Rattle.batch.specs.Batch.{in_group, reserved_bits, bad_group_length, group_of}
-use Rattle.batch.specs.Walk.{step_after_check, step_header, step_write, step_from, step_at}
+use Rattle.batch.specs.Walk.{stopped, step_after_check, step_header, step_write, step_from, step_at}
 
 -- the words of a batch are no more than its bytes
 pub words_fit : (ring : List ℕ) (offset size : ℕ) → 4 * length (batch_words ring offset size) ≤ size
@@ -37,19 +36,16 @@ words_fit ring offset size = go (lies_in_ring ring offset size) refl
     go false e = omega (arith, ap length (no_words ring offset size e))
 
 -- what the reader says of word k, as an element of the list
-pub word_read : (ws : List ℕ) (k w : ℕ) → read_word ws k ≡ Word w → w ≡ get_or ws k 0
-word_read ws k w e = ⊎_elim (λ (h : k < length ws). cc (read_in ws k h)) (λ (h : length ws ≤ k). cc (read_past ws k h)) (split k (length ws))
-
-pub word-past : (ws : List ℕ) (k : ℕ) → read_word ws k ≡ OutOfRange → 0 ≡ get_or ws k 0
-word-past ws k e =
-    ⊎_elim (λ (h : k < length ws). cc (read_in ws k h)) (λ (h : length ws ≤ k). sym (get_or-eq_default ws 0 h)) (split k (length ws))
+pub word_or_zero : (ws : List ℕ) (k : ℕ) → unwrap_or (read_word ws k) 0 ≡ get_or ws k 0
+word_or_zero ws k =
+    ⊎_elim (λ (h : k < length ws). rw (read_in ws k h)) (λ (h : length ws ≤ k). rw (read_past ws k h) (sym (get_or-eq_default ws 0 h))) (split k (length ws))
 
 -- `drop-cons` at the code's k + 1
 pub drop_at : (ws : List ℕ) (k : ℕ) → k < length ws → drop k ws ≡ get_or ws k 0 ∷ drop (k + 1) ws
 drop_at ws k h = rw (add-one, drop-cons ws k 0)
 
 module _ (bounds : Bounds) (ws : List ℕ) (b : Bank) (k : ℕ) where
-  pub past : length ws ≤ k → step_at bounds ws b k ≡ End
+  pub past : length ws ≤ k → step_at bounds ws b k ≡ Ok None
   unfolding step_from
   past h = rw (drop_of_length-le ws h)
 
@@ -62,7 +58,7 @@ module _ (bounds : Bounds) (ws : List ℕ) (b : Bank) (k : ℕ) where
   unfolding step_from
   next-group offset head h = rw (drop_at ws k h)
 
-  pub open_task : (offset head : ℕ) → length ws ≤ k → step_from bounds b k (in_group zero offset false head) (drop k ws) ≡ Stop OpenTask (4 * head) b
+  pub open_task : (offset head : ℕ) → length ws ≤ k → step_from bounds b k (in_group zero offset false head) (drop k ws) ≡ Err (stopped OpenTask (4 * head) b)
   unfolding step_from
   open_task offset head h = rw (drop_of_length-le ws h)
 
@@ -85,22 +81,41 @@ ended bounds ws b k offset head = ended_at bounds (drop k ws) b k offset head
 
 -- where the word at k is w
 module _ (bounds : Bounds) (ws : List ℕ) (b : Bank) (k w : ℕ) (within : k < length ws) (is : w ≡ get_or ws k 0) where
-  pub reserved : reserved_bits w ≡ true → step_at bounds ws b k ≡ Stop ReservedBits (4 * k) b
+  pub reserved : reserved_bits w ≡ true → step_at bounds ws b k ≡ Err (stopped ReservedBits (4 * k) b)
   reserved e = header bounds ws b k within ∙ rw (← is) (simp e)
 
-  pub bad-length : reserved_bits w ≡ false → bad_group_length (field 15 2 w) (length ws - (k + 1)) ≡ true → step_at bounds ws b k ≡ Stop GroupLength (4 * k) b
+  pub bad-length : reserved_bits w ≡ false → bad_group_length (field 15 2 w) (length ws - (k + 1)) ≡ true → step_at bounds ws b k ≡ Err (stopped GroupLength (4 * k) b)
   bad-length e l = header bounds ws b k within ∙ rw (← is) (simp (e, l))
 
   pub open_group : reserved_bits w ≡ false → bad_group_length (field 15 2 w) (length ws - (k + 1)) ≡ false
       → step_at bounds ws b k ≡ step_from bounds b (k + 1) (group_of k w) (drop (k + 1) ws)
   open_group e l = header bounds ws b k within ∙ rw (← is) (simp (e, l))
 
-  pub refused : (left offset : ℕ) (ends : Bool) (head : ℕ) (f : WriteFault) → 0 < left → write_register b offset w ≡ Refused f
-      → step_from bounds b k (in_group left offset ends head) (drop k ws) ≡ Stop (write_fault f) (4 * k) b
+  pub refused : (left offset : ℕ) (ends : Bool) (head : ℕ) (f : WriteFault) → 0 < left → write_register b offset w ≡ Err f
+      → step_from bounds b k (in_group left offset ends head) (drop k ws) ≡ Err (stopped (write_fault f) (4 * k) b)
   refused zero offset ends head f z e = absurd (omega arith)
   refused (suc n) offset ends head f z e = word bounds ws b k n offset ends head within ∙ rw (← is, e)
 
-  pub taken : (left offset : ℕ) (ends : Bool) (head : ℕ) (next : Bank) → 0 < left → write_register b offset w ≡ Written next
+  pub taken : (left offset : ℕ) (ends : Bool) (head : ℕ) (next : Bank) → 0 < left → write_register b offset w ≡ Ok next
       → step_from bounds b k (in_group left offset ends head) (drop k ws) ≡ step_from bounds next (k + 1) (in_group (left - 1) (offset + 4) ends head) (drop (k + 1) ws)
   taken zero offset ends head next z e = absurd (omega arith)
   taken (suc n) offset ends head next z e = word bounds ws b k n offset ends head within ∙ rw (← is, e, sub-one)
+
+-- word i of a group of `count` words, the first of which is word `first`, is taken
+pub taken-next : (bounds : Bounds) (ws : List ℕ) (b : Bank) (first i w : ℕ) → first + i < length ws → w ≡ get_or ws (first + i) 0
+    → (count register : ℕ) (ends : Bool) (head : ℕ) (next : Bank) → i < count → write_register b (register + 4 * i) w ≡ Ok next
+    → step_from bounds b (first + i) (in_group (count - i) (register + 4 * i) ends head) (drop (first + i) ws)
+    ≡ step_from bounds next (first + (i + 1)) (in_group (count - (i + 1)) (register + 4 * (i + 1)) ends head) (drop (first + (i + 1)) ws)
+taken-next bounds ws b first i w within is count register ends head next less e =
+    let k : first + i + 1 ≡ first + (i + 1) = omega arith in
+    let l : count - i - 1 ≡ count - (i + 1) = omega arith in
+    let r : register + 4 * i + 4 ≡ register + 4 * (i + 1) = omega arith in
+    taken bounds ws b (first + i) w within is (count - i) (register + 4 * i) ends head next (omega arith) e ∙ cc
+
+-- all of them are
+pub all_taken : (bounds : Bounds) (ws : List ℕ) (b : Bank) (first i count register : ℕ) (ends : Bool) (head : ℕ) → i ≡ count
+    → step_from bounds b (first + i) (in_group (count - i) (register + 4 * i) ends head) (drop (first + i) ws)
+    ≡ step_from bounds b (first + count) (in_group zero (register + 4 * count) ends head) (drop (first + count) ws)
+all_taken bounds ws b first i count register ends head e =
+    let z : count - i ≡ 0 = omega arith in
+    cc

@@ -1,5 +1,5 @@
 -- A fault lies in its batch: its offset is below four bytes a word.
-use mathlib.Core.Path.{◌≡◌, refl}
+use mathlib.Core.Path.{◌≡◌, refl, ap}
 use mathlib.Core.Bool.{true, false}
 use mathlib.Core.List.{List, [], ◌∷◌}
 use Prim.Native.Nat.{ℕ, zero, suc, ◌+◌, ◌*◌, ◌≤◌, ◌<◌}
@@ -11,9 +11,10 @@ use Rattle.register.specs.declared.bank.Bank.{Bank}
 use Rattle.task_check.specs.declared.fault.Fault.{Fault}
 use Rattle.task_check.specs.declared.task.Bounds.{Bounds}
 use Rattle.task_check.specs.Rules.{check_task}
+use Rattle.std.specs.Prelude.{Option, Some, None}
+use Rattle.batch.specs.declared.verdict.FaultAt.{FaultAt}
 use Rattle.batch.specs.declared.verdict.Verdict.{Verdict}
-use Rattle.batch.specs.declared.verdict.Verdict.TheVariants.{Faultless, Faulty}
-use Rattle.batch.specs.Batch.{DecodedBatch, BatchEnd, finished, faulty, stop_with, DecoderState, between_tasks, in_group, group_of, decode_header, after_task_check, decode_from, decode_batch, verdict_after, verdict_of, fault_offset_of}
+use Rattle.batch.specs.Batch.{DecodedBatch, BatchEnd, finished, faulty, stop_with, DecoderState, between_tasks, in_group, group_of, decode_header, after_task_check, decode_from, decode_batch, with_fault, verdict_after, verdict_of, fault_offset_of}
 use Rattle.batch.proofs.Readings.{on_from, on_with, opened-all, wrote-all, judged-all}
 
 -- a fault's offset is below that of word m
@@ -52,17 +53,21 @@ module _ (bounds : Bounds) (m : ℕ) where
       (under_open b k h ws (omega arith) (under-from b (k + 1) (group_of k h) ws (omega arith) (omega arith)))
 
 -- a fault's place is inside the batch
-pub fault-inside : (bounds : Bounds) (bank : Bank) (ws : List ℕ) (tasks : ℕ) (fault : Fault) (place : ℕ) → verdict_of (decode_batch bounds bank ws) ≡ Faulty tasks fault place → place < 4 * length ws
+pub fault-inside : (bounds : Bounds) (bank : Bank) (ws : List ℕ) (tasks : ℕ) (fault : Fault) (place : ℕ) → verdict_of (decode_batch bounds bank ws) ≡ with_fault tasks fault place → place < 4 * length ws
 fault-inside bounds bank ws tasks fault place e =
     go (length (decode_batch bounds bank ws).tasks) (decode_batch bounds bank ws).ending (under-from bounds (length ws) bank 0 between_tasks ws (omega arith) tt) e
   where
-    go : (n : ℕ) (ending : BatchEnd) → Low (length ws) ending → verdict_after n ending ≡ Faulty tasks fault place → place < 4 * length ws
-    go n finished h e = let z : ◌≡◌ {A = ℕ} 0 1 = cc in omega arith
-    go n (faulty f o) h e = let same : o ≡ place = cc in omega arith
+    go : (n : ℕ) (ending : BatchEnd) → Low (length ws) ending → verdict_after n ending ≡ with_fault tasks fault place → place < 4 * length ws
+    go n finished h e =
+        let none : ◌≡◌ {A = Option FaultAt} None (Some (record { fault = fault; offset = place })) = ap (λ (v : Verdict). v.fault) e in
+        let z : ◌≡◌ {A = ℕ} 0 1 = cc in omega arith
+    go n (faulty f o) h e =
+        let same : o ≡ place = ap fault_offset_of e in omega (arith, same)
 
 pub offset-within : (bounds : Bounds) (bank : Bank) (ws : List ℕ) → fault_offset_of (verdict_of (decode_batch bounds bank ws)) ≤ 4 * length ws
-offset-within bounds bank ws = go (verdict_of (decode_batch bounds bank ws)) refl
+offset-within bounds bank ws = go (decode_batch bounds bank ws).ending refl
   where
-    go : (v : Verdict) → verdict_of (decode_batch bounds bank ws) ≡ v → fault_offset_of v ≤ 4 * length ws
-    go (Faultless n) e = omega arith
-    go (Faulty tasks fault place) e = omega (arith, fault-inside bounds bank ws tasks fault place e)
+    go : (e : BatchEnd) → (decode_batch bounds bank ws).ending ≡ e → fault_offset_of (verdict_after (length (decode_batch bounds bank ws).tasks) e) ≤ 4 * length ws
+    go finished is = omega arith
+    go (faulty fault place) is =
+        omega (arith, fault-inside bounds bank ws (length (decode_batch bounds bank ws).tasks) fault place (ap (verdict_after (length (decode_batch bounds bank ws).tasks)) is))

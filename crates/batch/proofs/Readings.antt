@@ -4,15 +4,13 @@ use mathlib.Core.Path.{◌≡◌, refl}
 use mathlib.Core.Bool.{Bool, true, false, cond}
 use mathlib.Core.List.{List}
 use Rattle.word.specs.Field.{field}
+use Rattle.std.specs.Prelude.{Result, Ok, Err, ⊤}
 use Rattle.register.specs.Task.{task_of}
 use Rattle.register.specs.declared.bank.Bank.{Bank}
-use Rattle.register.specs.declared.bank.WriteResult.{WriteResult}
-use Rattle.register.specs.declared.bank.WriteResult.TheVariants.{Written, Refused}
+use Rattle.register.specs.declared.bank.WriteFault.{WriteFault}
 use Rattle.task_check.specs.declared.fault.Fault.{Fault}
 use Rattle.task_check.specs.declared.fault.Fault.TheVariants.{ReservedBits, GroupLength}
 use Rattle.task_check.specs.declared.task.Bounds.{Bounds}
-use Rattle.task_check.specs.declared.task.TaskCheck.{TaskCheck}
-use Rattle.task_check.specs.declared.task.TaskCheck.TheVariants.{Valid, Invalid}
 use Rattle.task_check.specs.Faults.{write_fault}
 use Rattle.batch.specs.Batch.{DecodedBatch, faulty, stop_with, cons_task, DecoderState, reserved_bits, bad_group_length, decode_header, after_write, after_task_check, group_of, decode_from}
 
@@ -33,10 +31,10 @@ module _ (P : DecodedBatch → Type 0) (b : Bank) (k : ℕ) (stops : (f : Fault)
       by false true e = stops GroupLength
       by false false e = on e
 
-  pub wrote-all : (w : WriteResult) (go : Bank → DecodedBatch) → ((next : Bank) → P (go next)) → P (after_write b k w go)
-  wrote-all (Written next) go on = on next
-  wrote-all (Refused f) go on = stops (write_fault f)
+  pub wrote-all : (w : Result Bank WriteFault) (go : Bank → DecodedBatch) → ((next : Bank) → P (go next)) → P (after_write b k w go)
+  wrote-all (Ok next) go on = on next
+  wrote-all (Err f) go on = stops (write_fault f)
 
-  pub judged-all : (check : TaskCheck) (after : DecodedBatch) → (check ≡ Valid → P (cons_task (task_of b) after)) → P (after_task_check check b k after)
-  judged-all Valid after on = on refl
-  judged-all (Invalid f) after on = stops f
+  pub judged-all : (check : Result ⊤ Fault) (after : DecodedBatch) → (check ≡ Ok tt → P (cons_task (task_of b) after)) → P (after_task_check check b k after)
+  judged-all (Ok tt) after on = on refl
+  judged-all (Err f) after on = stops f

@@ -1,37 +1,34 @@
 -- A step and then the reading from where it ends are the reading from where it began.
 use Prim.Native.Nat.{ℕ, zero, suc, ◌+◌, ◌*◌, ◌<◌, ◌≤◌}
-use mathlib.Core.Path.{◌≡◌, refl, sym, ap, ◌∙◌}
+use mathlib.Core.Path.{◌≡◌, refl, ap, ◌∙◌}
 use mathlib.Core.Bool.{Bool, true, false, cond}
 use mathlib.Core.List.{List, [], ◌∷◌}
 use native.Mathlib.Omega.{arith}
-use lib.ListN.{length, get_or, drop, length-drop}
+use lib.ListN.{length, drop, length-drop}
 use lib.Dec.{eqb}
 use Rattle.word.specs.Field.{field}
+use Rattle.std.specs.Prelude.{Result, Ok, Err, ⊤}
 use Rattle.register.specs.Bank.{write_register}
 use Rattle.register.specs.Task.{task_of}
 use Rattle.register.specs.declared.bank.Bank.{Bank}
-use Rattle.register.specs.declared.bank.WriteResult.{WriteResult}
-use Rattle.register.specs.declared.bank.WriteResult.TheVariants.{Written, Refused}
+use Rattle.register.specs.declared.bank.WriteFault.{WriteFault}
+use Rattle.task_check.specs.declared.fault.Fault.{Fault}
 use Rattle.task_check.specs.declared.fault.Fault.TheVariants.{ReservedBits, GroupLength}
 use Rattle.task_check.specs.declared.task.Bounds.{Bounds}
-use Rattle.task_check.specs.declared.task.TaskCheck.{TaskCheck}
-use Rattle.task_check.specs.declared.task.TaskCheck.TheVariants.{Valid, Invalid}
 use Rattle.task_check.specs.Rules.{check_task}
-use Rattle.batch.specs.declared.walk.WalkStep.{WalkStep}
-use Rattle.batch.specs.declared.walk.WalkStep.TheVariants.{Task as Next, Faulty as Stop, End}
 use Rattle.batch.specs.Batch.{DecodedBatch, faulty, stop_with, DecoderState, between_tasks, in_group, reserved_bits, bad_group_length, group_of, decode_header, after_write, after_task_check, decode_from}
-use Rattle.batch.specs.Walk.{decode_rest, step_after_check, step_header, step_write, step_from, step_at, decode_after_step, StepAdvances, StepSimulates}
+use Rattle.batch.specs.Walk.{WalkStep, stopped, decode_rest, step_after_check, step_header, step_write, step_from, step_at, decode_after_step, StepAdvances, StepSimulates}
 use Rattle.batch.proofs.DecoderCases.{drop_at}
 
 -- a task that was judged is the step that follows it
-judged-step : (bounds : Bounds) (ws : List ℕ) (check : TaskCheck) (b : Bank) (k head : ℕ)
+judged-step : (bounds : Bounds) (ws : List ℕ) (check : Result ⊤ Fault) (b : Bank) (k head : ℕ)
     → (first : Bank) → after_task_check check b head (decode_rest bounds ws b k) ≡ decode_after_step bounds ws first (step_after_check check b k (4 * head))
-judged-step bounds ws Valid b k head first = refl
-judged-step bounds ws (Invalid f) b k head first = refl
+judged-step bounds ws (Ok tt) b k head first = refl
+judged-step bounds ws (Err f) b k head first = refl
 
-judged-onward : (ws : List ℕ) (check : TaskCheck) (b : Bank) (k next offset : ℕ) → k < next → next ≤ length ws → StepAdvances k ws (step_after_check check b next offset)
-judged-onward ws Valid b k next offset h l = (h, l)
-judged-onward ws (Invalid f) b k next offset h l = tt
+judged-onward : (ws : List ℕ) (check : Result ⊤ Fault) (b : Bank) (k next offset : ℕ) → k < next → next ≤ length ws → StepAdvances k ws (step_after_check check b next offset)
+judged-onward ws (Ok tt) b k next offset h l = (h, l)
+judged-onward ws (Err f) b k next offset h l = tt
 
 -- a group that ends the task, of the reading
 ended : (bounds : Bounds) (ws : List ℕ) (b : Bank) (k offset head : ℕ)
@@ -52,10 +49,10 @@ module _ (bounds : Bounds) (words : List ℕ) (first : Bank) where
   abbrev decoding : WalkStep → DecodedBatch
   decoding s = decode_after_step bounds words first s
 
-  write_decoding : (bank : Bank) (k : ℕ) (r : WriteResult) (go : Bank → DecodedBatch) (step : Bank → WalkStep) → ((next : Bank) → go next ≡ decoding (step next))
+  write_decoding : (bank : Bank) (k : ℕ) (r : Result Bank WriteFault) (go : Bank → DecodedBatch) (step : Bank → WalkStep) → ((next : Bank) → go next ≡ decoding (step next))
       → after_write bank k r go ≡ decoding (step_write bank k r step)
-  write_decoding bank k (Written next) go step h = h next
-  write_decoding bank k (Refused f) go step h = refl
+  write_decoding bank k (Ok next) go step h = h next
+  write_decoding bank k (Err f) go step h = refl
 
   header_decoding : (bank : Bank) (k header follow : ℕ) (go : DecoderState → DecodedBatch) (step : DecoderState → WalkStep) → go (group_of k header) ≡ decoding (step (group_of k header))
       → decode_header bank k header follow go ≡ decoding (step_header bank k header follow step)
@@ -64,8 +61,8 @@ module _ (bounds : Bounds) (words : List ℕ) (first : Bank) where
       by : (reserved bad : Bool)
           → cond reserved (stop_with bank (faulty ReservedBits (4 * k)))
           (cond bad (stop_with bank (faulty GroupLength (4 * k))) (go (group_of k header)))
-          ≡ decoding (cond reserved (Stop ReservedBits (4 * k) bank)
-          (cond bad (Stop GroupLength (4 * k) bank) (step (group_of k header))))
+          ≡ decoding (cond reserved (Err (stopped ReservedBits (4 * k) bank))
+          (cond bad (Err (stopped GroupLength (4 * k) bank)) (step (group_of k header))))
       by true bad = refl
       by false true = refl
       by false false = h
@@ -102,16 +99,16 @@ module _ (bounds : Bounds) (words : List ℕ) (from : ℕ) where
   abbrev Onward : WalkStep → Type 0
   Onward s = StepAdvances from words s
 
-  write_onward : (bank : Bank) (k : ℕ) (r : WriteResult) (step : Bank → WalkStep) → ((next : Bank) → Onward (step next)) → Onward (step_write bank k r step)
-  write_onward bank k (Written next) step h = h next
-  write_onward bank k (Refused f) step h = tt
+  write_onward : (bank : Bank) (k : ℕ) (r : Result Bank WriteFault) (step : Bank → WalkStep) → ((next : Bank) → Onward (step next)) → Onward (step_write bank k r step)
+  write_onward bank k (Ok next) step h = h next
+  write_onward bank k (Err f) step h = tt
 
   header_onward : (bank : Bank) (k header follow : ℕ) (step : DecoderState → WalkStep) → Onward (step (group_of k header)) → Onward (step_header bank k header follow step)
   header_onward bank k header follow step h = by (reserved_bits header) (bad_group_length (field 15 2 header) follow)
     where
       by : (reserved bad : Bool)
-          → Onward (cond reserved (Stop ReservedBits (4 * k) bank)
-          (cond bad (Stop GroupLength (4 * k) bank) (step (group_of k header))))
+          → Onward (cond reserved (Err (stopped ReservedBits (4 * k) bank))
+          (cond bad (Err (stopped GroupLength (4 * k) bank)) (step (group_of k header))))
       by true bad = tt
       by false true = tt
       by false false = h

@@ -1,20 +1,22 @@
--- A step of the walk, and the verdict.
+-- The tasks of a batch one after another, and the verdict.
 use Prim.Native.Nat.{ℕ, ◌+◌, ◌<◌, ◌≤◌}
-use mathlib.Core.Path.{◌≡◌, refl, ap, ◌∙◌}
+use mathlib.Core.Path.{◌≡◌, refl, sym, ap, ◌∙◌}
+use mathlib.Core.Bool.{true, false, false≢true}
 use mathlib.Core.List.{List}
 use native.Mathlib.Omega.{arith}
-use native.Mathlib.Nat.{add-zero}
 use lib.ListN.{length}
-use Rattle.register.specs.declared.bank.Bank.{Bank}
+use Rattle.std.specs.Prelude.{Option, Some, None, Ok, Err, is_some}
+use Rattle.std.specs.Option.{option_map_or}
 use Rattle.register.specs.declared.task.Task.{Task}
 use Rattle.task_check.specs.declared.fault.Fault.{Fault}
-use Rattle.task_check.specs.declared.task.Bounds.{Bounds}
-use Rattle.batch.specs.declared.walk.WalkStep.{WalkStep}
-use Rattle.batch.specs.declared.walk.WalkStep.TheVariants.{Task as Next, Faulty as Stop, End}
+use Rattle.batch.specs.declared.verdict.FaultAt.{FaultAt}
+use Rattle.batch.specs.declared.verdict.Verdict.{Verdict}
 use Rattle.batch.specs.declared.verdict.Validation.{Validation}
-use Rattle.batch.specs.declared.verdict.Verdict.TheVariants.{Faultless, Faulty}
-use Rattle.batch.specs.Batch.{DecodedBatch, BatchEnd, finished, faulty, stop_with, cons_task, verdict_after, verdict_of, validation_of}
-use Rattle.batch.specs.Walk.{decode_rest, decode_after_step, step_at, StepSimulates}
+use Rattle.batch.specs.declared.walk.TaskRead.{TaskRead}
+use Rattle.batch.specs.declared.walk.Stop.{Stop}
+use Rattle.batch.specs.declared.walk.BatchTasks.{BatchTasks}
+use Rattle.batch.specs.Batch.{DecodedBatch, BatchEnd, finished, faulty, stop_with, cons_task, without_fault, with_fault, verdict_after, verdict_of, validation_of, fault_offset_of}
+use Rattle.batch.specs.Walk.{WalkStep, words_in, decode_rest, decode_after_step, step_at, ending_of, reading_so_far, left_of, reading_left, GivesTask}
 use Rattle.batch.proofs.Simulates.{simulates}
 
 -- the validation of m tasks, where the reading ended like this
@@ -31,50 +33,79 @@ counted_none r = ap (λ (m : ℕ). validation_after m r) (omega arith)
 counted-one : (n : ℕ) (t : Task) (r : DecodedBatch) → counted n (cons_task t r) ≡ counted (n + 1) r
 counted-one n t r = ap (λ (m : ℕ). validation_after m r) (omega arith)
 
--- what a step says of the reading, by its case
-module _ (bounds : Bounds) (ws : List ℕ) (b : Bank) (k : ℕ) (s : WalkStep) (is : s ≡ step_at bounds ws b k) where
-  go : StepSimulates bounds ws b k s
-  go = simulates bounds ws b k s is
+-- ---- the tasks one after another
 
-  pub reads-task : (t : Task) (b' : Bank) (k' : ℕ) → s ≡ Next t b' k' → decode_rest bounds ws b k ≡ cons_task t (decode_rest bounds ws b' k')
-  reads-task t b' k' e = go.same_decoding ∙ ap (decode_after_step bounds ws b) e
+none-met : (o : Option FaultAt) → is_some o ≡ false → o ≡ None
+none-met None e = refl
+none-met (Some x) e = absurd (false≢true (sym e))
 
-  pub reads-fault : (f : Fault) (offset : ℕ) (b' : Bank) → s ≡ Stop f offset b' → decode_rest bounds ws b k ≡ stop_with b' (faulty f offset)
-  reads-fault f offset b' e = go.same_decoding ∙ ap (decode_after_step bounds ws b) e
+module _ (s : BatchTasks) where
+  abbrev ws : List ℕ
+  ws = words_in s.batch
 
-  pub reads_end : s ≡ End → decode_rest bounds ws b k ≡ stop_with b finished
-  reads_end e = go.same_decoding ∙ ap (decode_after_step bounds ws b) e
+  -- before a fault the rest is read
+  pub left-open : s.fault ≡ None → reading_left s ≡ decode_rest s.bounds ws s.bank s.at
+  unfolding reading_left
+  left-open e = rw e
 
-  pub step-onward : (t : Task) (b' : Bank) (k' : ℕ) → s ≡ Next t b' k' → (k < k') × (k' ≤ length ws)
-  step-onward t b' k' e = rw e at go.onward
+  -- after a fault nothing is
+  pub left_shut : is_some s.fault ≡ true → reading_left s ≡ reading_so_far s
+  unfolding reading_left
+  left_shut e = by s.fault e
+    where
+      by : (o : Option FaultAt) → is_some o ≡ true → left_of o s.bounds ws s.bank s.at ≡ stop_with s.bank (ending_of o)
+      by None e = absurd (false≢true e)
+      by (Some x) e = refl
 
-  -- and of the validation, in a batch of which n tasks have been counted
-  module _ (n : ℕ) where
-    pub step-task : (t : Task) (b' : Bank) (k' : ℕ) → s ≡ Next t b' k' → counted n (decode_rest bounds ws b k) ≡ counted (n + 1) (decode_rest bounds ws b' k')
-    step-task t b' k' e = ap (counted n) (reads-task t b' k' e) ∙ counted-one n t (decode_rest bounds ws b' k')
+  module _ (step : WalkStep) (is : step ≡ step_at s.bounds ws s.bank s.at) (going : is_some s.fault ≡ false) where
+    reads : reading_left s ≡ decode_after_step s.bounds ws s.bank step
+    reads = left-open (none-met s.fault going) ∙ (simulates s.bounds ws s.bank s.at step is).same_decoding
 
-    pub step-faulty : (f : Fault) (offset : ℕ) (b' : Bank) → s ≡ Stop f offset b' → counted n (decode_rest bounds ws b k) ≡ record { verdict = Faulty n f offset; bank = b' }
-    step-faulty f offset b' e = ap (counted n) (reads-fault f offset b' e) ∙ ap (λ (m : ℕ). validation_after m (stop_with b' (faulty f offset))) (add-zero n)
+    pub ends-here : step ≡ Ok None → reading_left s ≡ reading_so_far s
+    ends-here e = reads ∙ ap (decode_after_step s.bounds ws s.bank) e ∙ rw (none-met s.fault going)
 
-    pub step_end : s ≡ End → counted n (decode_rest bounds ws b k) ≡ record { verdict = Faultless n; bank = b }
-    step_end e = ap (counted n) (reads_end e) ∙ ap (λ (m : ℕ). validation_after m (stop_with b finished)) (add-zero n)
+    pub stops-here : (stop : Stop) → step ≡ Err stop → reading_left s ≡ stop_with stop.bank (faulty stop.fault.fault stop.fault.offset)
+    stops-here stop e = reads ∙ ap (decode_after_step s.bounds ws s.bank) e
+
+    pub gives-task : (read : TaskRead) → step ≡ Ok (Some read) → reading_left s ≡ cons_task read.task (left_of s.fault s.bounds ws read.bank read.next)
+    gives-task read e = reads ∙ ap (decode_after_step s.bounds ws s.bank) e ∙ rw (none-met s.fault going)
+
+    pub onward : (read : TaskRead) → step ≡ Ok (Some read) → (s.at < read.next) × (read.next ≤ length ws)
+    onward read e = rw e at (simulates s.bounds ws s.bank s.at step is).onward
+
+-- ---- and of the validation, in a batch of which some tasks were given
+
+pub one-given : (old new : BatchTasks) (task : Task) → GivesTask old (Some task) new → counted old.count (reading_left old) ≡ counted new.count (reading_left new)
+one-given old new task g =
+    ap (counted old.count) g.0 ∙ counted-one old.count task (reading_left new) ∙ ap (λ (m : ℕ). counted m (reading_left new)) (sym g.1)
+
+pub none-given : (old new : BatchTasks) → GivesTask old None new
+    → counted old.count (reading_left old) ≡ record { verdict = record { tasks = new.count; fault = new.fault }; bank = new.bank }
+none-given old new g = ap (counted old.count) g.0 ∙ by new.fault
+  where
+    by : (f : Option FaultAt) → counted old.count (stop_with new.bank (ending_of f)) ≡ record { verdict = record { tasks = new.count; fault = f }; bank = new.bank }
+    by None = ap (λ (m : ℕ). validation_after m (stop_with new.bank finished)) (omega (arith, g.2))
+    by (Some x) = ap (λ (m : ℕ). validation_after m (stop_with new.bank (faulty x.fault x.offset))) (omega (arith, g.2))
 
 -- ---- what a verdict says of the reading
 
-pub faultless-finished : (n : ℕ) (r : DecodedBatch) → verdict_of r ≡ Faultless n → (r.ending ≡ finished) × (n ≡ length r.tasks)
+pub faultless-finished : (n : ℕ) (r : DecodedBatch) → verdict_of r ≡ without_fault n → (r.ending ≡ finished) × (n ≡ length r.tasks)
 faultless-finished n r v = by (length r.tasks) r.ending v
   where
-    by : (m : ℕ) (e : BatchEnd) → verdict_after m e ≡ Faultless n → (e ≡ finished) × (n ≡ m)
-    by m finished v = let same : n ≡ m = cc in (refl, same)
-    by m (faulty f o) v = absurd (let z : ◌≡◌ {A = ℕ} 0 1 = cc in omega arith)
+    by : (m : ℕ) (e : BatchEnd) → verdict_after m e ≡ without_fault n → (e ≡ finished) × (n ≡ m)
+    by m finished v = (refl, sym (ap (λ (x : Verdict). x.tasks) v))
+    by m (faulty f o) v =
+        let none : ◌≡◌ {A = Option FaultAt} (Some (record { fault = f; offset = o })) None = ap (λ (x : Verdict). x.fault) v in
+        absurd (let z : ◌≡◌ {A = ℕ} 0 1 = cc in omega arith)
 
-pub faulty_stopped : (n : ℕ) (f : Fault) (offset : ℕ) (r : DecodedBatch) → verdict_of r ≡ Faulty n f offset → (r.ending ≡ faulty f offset) × (n ≡ length r.tasks)
+pub faulty_stopped : (n : ℕ) (f : Fault) (offset : ℕ) (r : DecodedBatch) → verdict_of r ≡ with_fault n f offset → (r.ending ≡ faulty f offset) × (n ≡ length r.tasks)
 faulty_stopped n f offset r v = by (length r.tasks) r.ending v
   where
-    by : (m : ℕ) (e : BatchEnd) → verdict_after m e ≡ Faulty n f offset → (e ≡ faulty f offset) × (n ≡ m)
-    by m finished v = absurd (let z : ◌≡◌ {A = ℕ} 0 1 = cc in omega arith)
+    by : (m : ℕ) (e : BatchEnd) → verdict_after m e ≡ with_fault n f offset → (e ≡ faulty f offset) × (n ≡ m)
+    by m finished v =
+        let none : ◌≡◌ {A = Option FaultAt} None (Some (record { fault = f; offset = offset })) = ap (λ (x : Verdict). x.fault) v in
+        absurd (let z : ◌≡◌ {A = ℕ} 0 1 = cc in omega arith)
     by m (faulty g o) v =
-        let fault : g ≡ f = cc in
-        let there : o ≡ offset = cc in
-        let same : n ≡ m = cc in
-        (rw (fault, there), same)
+        let fault : g ≡ f = ap (λ (x : Verdict). option_map_or (λ (q : FaultAt). q.fault) x.fault f) v in
+        let there : o ≡ offset = ap fault_offset_of v in
+        (rw (fault, there), sym (ap (λ (x : Verdict). x.tasks) v))

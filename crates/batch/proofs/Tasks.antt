@@ -1,7 +1,7 @@
 -- The tasks of a reading, whatever its ending: each of them is sound, there are at most half as many as words, and in a finished
 -- reading they are as many as the task-end marks.
 use Prim.Native.Nat.{ℕ, zero, suc, ◌+◌, ◌*◌, ◌<◌, ◌≤◌, ◌%◌}
-use mathlib.Core.Path.{◌≡◌, refl, ap, ◌∙◌}
+use mathlib.Core.Path.{◌≡◌, refl, ap, subst, ◌∙◌}
 use mathlib.Core.Bool.{true, false, cond}
 use mathlib.Core.List.{List, [], ◌∷◌}
 use native.Mathlib.Omega.{arith}
@@ -9,6 +9,7 @@ use lib.Dec.{eqb, ltb}
 use lib.ListN.{length, drop}
 use borrow.Author.Tests.{eqb-false, ltb-false}
 use Rattle.word.specs.Field.{field}
+use Rattle.std.specs.Prelude.{Some, Result, ⊤}
 use Rattle.word.proofs.Tests.{or_false}
 use Rattle.ring.specs.Segment.{batch_words}
 use Rattle.register.specs.Bank.{write_register}
@@ -18,18 +19,14 @@ use Rattle.register.specs.declared.task.Task.{Task}
 use Rattle.task_check.specs.declared.fault.Fault.{Fault}
 use Rattle.task_check.specs.declared.fault.Fault.TheVariants.{ReservedBits, GroupLength, OpenTask, NotWritable, Forbidden, BadSurface, SizeMismatch, OutOfBounds, Overlap}
 use Rattle.task_check.specs.declared.task.Bounds.{Bounds}
-use Rattle.task_check.specs.declared.task.TaskCheck.{TaskCheck}
 use Rattle.task_check.specs.Faults.{fault_status}
 use Rattle.task_check.specs.Rules.{check_task}
 use Rattle.task_check.proofs.Sound.{Sound, AllSound}
 use Rattle.task_check.proofs.Passes.{passes}
-use Rattle.batch.specs.declared.walk.WalkStep.{WalkStep}
-use Rattle.batch.specs.declared.walk.WalkStep.TheVariants.{Task as Next}
-use Rattle.batch.specs.declared.verdict.Verdict.TheVariants.{Faultless}
-use Rattle.batch.specs.Batch.{DecodedBatch, BatchEnd, finished, faulty, stop_with, DecoderState, between_tasks, in_group, bad_group_length, decode_header, after_task_check, group_of, decode_from, decode_batch, verdict_after, verdict_of, status_word_of, tasks_drawn}
+use Rattle.batch.specs.Batch.{DecodedBatch, BatchEnd, finished, faulty, stop_with, DecoderState, between_tasks, in_group, bad_group_length, decode_header, after_task_check, group_of, decode_from, decode_batch, without_fault, verdict_after, verdict_of, status_word_of, tasks_drawn}
 use Rattle.batch.specs.Marks.{task_end_count_from, task_end_count}
-use Rattle.batch.specs.Walk.{decode_after_step, step_at}
-use Rattle.batch.proofs.Simulates.{simulates}
+use Rattle.batch.specs.declared.walk.BatchTasks.{BatchTasks}
+use Rattle.batch.specs.Walk.{tasks_left, GivesTask}
 use Rattle.batch.proofs.DecoderCases.{words_fit}
 use Rattle.batch.proofs.Steps.{faultless-finished}
 use Rattle.batch.proofs.Readings.{on_from, on_with, opened-all, wrote-all, judged-all}
@@ -63,9 +60,9 @@ module _ (bounds : Bounds) where
   pub drawn-sound : (bank : Bank) (ws : List ℕ) → AllSound bounds (tasks_drawn (decode_batch bounds bank ws))
   drawn-sound bank ws = good-from bank 0 between_tasks ws
 
-  -- and so is the task that a step hands out
-  pub step-sound : (ws : List ℕ) (b : Bank) (k : ℕ) (s : WalkStep) → s ≡ step_at bounds ws b k → (t : Task) (b' : Bank) (k' : ℕ) → s ≡ Next t b' k' → Sound bounds t
-  step-sound ws b k s is t b' k' e = (rw ((simulates bounds ws b k s is).same_decoding ∙ ap (decode_after_step bounds ws b) e) at (good-from b k between_tasks (drop k ws))).0
+  -- and so are the task that is given and those that are left
+  pub given-sound : (old new : BatchTasks) (task : Task) → GivesTask old (Some task) new → AllSound bounds (tasks_left old) → Sound bounds task × AllSound bounds (tasks_left new)
+  given-sound old new task g s = subst Good g.0 s
 
 -- ---- at most half as many tasks as words
 
@@ -83,7 +80,7 @@ few_open b k h ws go on =
     opened-all (λ r. 2 * length r.tasks ≤ length (h ∷ ws)) b k (λ f. omega arith) h (length ws) go
     (λ l. let c = some (field 15 2 h) (length ws) l in omega (arith, on c.1))
 
-few-judged : (b : Bank) (check : TaskCheck) (head : ℕ) (after : DecodedBatch) (n : ℕ) → 2 * length after.tasks ≤ n → 2 * length (after_task_check check b head after).tasks + 0 ≤ n + 2
+few-judged : (b : Bank) (check : Result ⊤ Fault) (head : ℕ) (after : DecodedBatch) (n : ℕ) → 2 * length after.tasks ≤ n → 2 * length (after_task_check check b head after).tasks + 0 ≤ n + 2
 few-judged b check head after n on =
     judged-all (λ r. 2 * length r.tasks + 0 ≤ n + 2) b head (λ f. omega arith) check after (λ e. omega arith)
 
@@ -146,7 +143,7 @@ met_open : (b : Bank) (k h : ℕ) (ws : List ℕ) (go : DecoderState → Decoded
 unfolding task_end_count_from
 met_open b k h ws go on = opened-all (Met between_tasks (h ∷ ws)) b k (λ f e. stopped e) h (length ws) go (λ l. on)
 
-met_judged : (b : Bank) (check : TaskCheck) (head : ℕ) (after : DecodedBatch) (ws : List ℕ) → Met between_tasks ws after → (offset : ℕ) → Met (in_group 0 offset true head) ws (after_task_check check b head after)
+met_judged : (b : Bank) (check : Result ⊤ Fault) (head : ℕ) (after : DecodedBatch) (ws : List ℕ) → Met between_tasks ws after → (offset : ℕ) → Met (in_group 0 offset true head) ws (after_task_check check b head after)
 met_judged b check head after ws on offset =
     judged-all (Met (in_group 0 offset true head) ws) b head (λ f e. stopped e) check after (λ fine e. omega (arith, on e))
 
@@ -169,7 +166,7 @@ pub tasks_marks : (bounds : Bounds) (bank : Bank) (ws : List ℕ) → (decode_ba
 tasks_marks bounds bank ws e = met_from bounds bank 0 between_tasks ws e
 
 -- the number that a faultless batch is answered with
-pub faultless_marks : (bounds : Bounds) (bank : Bank) (ws : List ℕ) (n : ℕ) → verdict_of (decode_batch bounds bank ws) ≡ Faultless n → n ≡ task_end_count ws
+pub faultless_marks : (bounds : Bounds) (bank : Bank) (ws : List ℕ) (n : ℕ) → verdict_of (decode_batch bounds bank ws) ≡ without_fault n → n ≡ task_end_count ws
 faultless_marks bounds bank ws n v =
     let read = faultless-finished n (decode_batch bounds bank ws) v in
     read.1 ∙ tasks_marks bounds bank ws read.0

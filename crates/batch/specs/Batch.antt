@@ -1,21 +1,18 @@
 -- What a batch says (01, "Groups and registers" and "Faults of a taken batch"; 02, 5): its tasks in order, how it ended, and what the
 -- registers hold there. The tasks before a fault are among them, and stand.
-use Rattle.std.specs.Prelude.{ℕ, zero, suc, ◌+◌, ◌*◌, Bool, true, false, cond, ◌||◌, List, [], ◌∷◌, length, eqb, ltb}
+use Rattle.std.specs.Prelude.{ℕ, zero, suc, ◌+◌, ◌*◌, Bool, true, false, cond, ◌||◌, List, [], ◌∷◌, length, eqb, ltb, Some, None, Result, Ok, Err, ⊤}
+use Rattle.std.specs.Option.{option_map_or}
 use Rattle.word.specs.Field.{field}
 use Rattle.register.specs.Bank.{write_register}
 use Rattle.register.specs.Task.{task_of}
 use Rattle.register.specs.declared.bank.Bank.{Bank}
-use Rattle.register.specs.declared.bank.WriteResult.{WriteResult}
-use Rattle.register.specs.declared.bank.WriteResult.TheVariants.{Written, Refused}
+use Rattle.register.specs.declared.bank.WriteFault.{WriteFault}
 use Rattle.register.specs.declared.task.Task.{Task}
 use Rattle.task_check.specs.declared.fault.Fault.{Fault}
 use Rattle.task_check.specs.declared.fault.Fault.TheVariants.{ReservedBits, GroupLength, OpenTask}
 use Rattle.task_check.specs.declared.task.Bounds.{Bounds}
-use Rattle.task_check.specs.declared.task.TaskCheck.{TaskCheck}
-use Rattle.task_check.specs.declared.task.TaskCheck.TheVariants.{Valid, Invalid}
 use Rattle.batch.specs.declared.verdict.Validation.{Validation}
 use Rattle.batch.specs.declared.verdict.Verdict.{Verdict}
-use Rattle.batch.specs.declared.verdict.Verdict.TheVariants.{Faultless, Faulty}
 use Rattle.task_check.specs.Faults.{write_fault, fault_number, fault_status}
 use Rattle.task_check.specs.Rules.{check_task}
 
@@ -65,14 +62,14 @@ decode_header bank k header follow go =
     (go (group_of k header)))
 
 -- word k is written: 23, 24
-abbrev pub after_write : Bank → ℕ → WriteResult → (Bank → DecodedBatch) → DecodedBatch
-after_write bank k (Written next) go = go next
-after_write bank k (Refused f) go = stop_with bank (faulty (write_fault f) (4 * k))
+abbrev pub after_write : Bank → ℕ → Result Bank WriteFault → (Bank → DecodedBatch) → DecodedBatch
+after_write bank k (Ok next) go = go next
+after_write bank k (Err f) go = stop_with bank (faulty (write_fault f) (4 * k))
 
 -- the group at word `head` ended the task: 25 to 28
-abbrev pub after_task_check : TaskCheck → Bank → ℕ → DecodedBatch → DecodedBatch
-after_task_check Valid bank head rest = cons_task (task_of bank) rest
-after_task_check (Invalid f) bank head rest = stop_with bank (faulty f (4 * head))
+abbrev pub after_task_check : Result ⊤ Fault → Bank → ℕ → DecodedBatch → DecodedBatch
+after_task_check (Ok _) bank head rest = cons_task (task_of bank) rest
+after_task_check (Err f) bank head rest = stop_with bank (faulty f (4 * head))
 
 -- the words from word k on. The bank is kept from group to group and from task to task
 unfoldable pub decode_from : Bounds → Bank → ℕ → DecoderState → List ℕ → DecodedBatch
@@ -100,10 +97,18 @@ decode_batch bounds bank words = decode_from bounds bank 0 between_tasks words
 
 -- ---- what is answered of a batch
 
+-- so many tasks, and no fault
+abbrev pub without_fault : ℕ → Verdict
+without_fault n = record { tasks = n; fault = None }
+
+-- so many tasks before this fault
+abbrev pub with_fault : ℕ → Fault → ℕ → Verdict
+with_fault n fault offset = record { tasks = n; fault = Some (record { fault = fault; offset = offset }) }
+
 -- after n tasks and this ending: a faulty batch is answered with the number of the tasks before its fault
 abbrev pub verdict_after : ℕ → BatchEnd → Verdict
-verdict_after n finished = Faultless n
-verdict_after n (faulty fault offset) = Faulty n fault offset
+verdict_after n finished = without_fault n
+verdict_after n (faulty fault offset) = with_fault n fault offset
 
 abbrev pub verdict_of : DecodedBatch → Verdict
 verdict_of reading = verdict_after (length reading.tasks) reading.ending
@@ -114,17 +119,14 @@ validation_of reading = record { verdict = verdict_of reading; bank = reading.ba
 
 -- the status word: tasks x 65,536 + 1; of a faulty batch "the status word carries their number in the upper half, finish bit clear" (02, 5)
 abbrev pub status_word_of : Verdict → ℕ
-status_word_of (Faultless tasks) = tasks * 65536 + 1
-status_word_of (Faulty tasks fault offset) = tasks * 65536 + fault_status fault
+status_word_of verdict = verdict.tasks * 65536 + option_map_or (λ found. fault_status found.fault) verdict.fault 1
 
 -- fault and place, 0 without a fault
 abbrev pub fault_number_of : Verdict → ℕ
-fault_number_of (Faultless tasks) = 0
-fault_number_of (Faulty tasks fault offset) = fault_number fault
+fault_number_of verdict = option_map_or (λ found. fault_number found.fault) verdict.fault 0
 
 abbrev pub fault_offset_of : Verdict → ℕ
-fault_offset_of (Faultless tasks) = 0
-fault_offset_of (Faulty tasks fault offset) = offset
+fault_offset_of verdict = option_map_or (λ found. found.offset) verdict.fault 0
 
 -- the tasks that are drawn, in order: "tasks before the faulty one stand" (02, 5)
 abbrev pub tasks_drawn : DecodedBatch → List Task

@@ -5,5 +5,5 @@ pub mod decode;
 pub mod verdict;
 pub mod walk;
 
-pub use verdict::{Validation, Verdict};
-pub use walk::WalkStep;
+pub use verdict::{FaultAt, Validation, Verdict};
+pub use walk::{BatchTasks, Stop, TaskRead};

@@ -5,11 +5,18 @@ ghost use Rattle.batch.specs.Batch.{status_word_of, fault_number_of, fault_offse
 use register::Bank;
 use task_check::Fault;
 
-// How many tasks a batch has; or how many stand before its first fault, that fault and the offset of it.
-#[derive(Clone, Copy)]
-pub enum Verdict {
-    Faultless(usize),
-    Faulty(usize, Fault, usize),
+// A fault, and its offset in the batch.
+#[derive(Clone, Copy, Debug, PartialEq, Eq)]
+pub struct FaultAt {
+    pub fault: Fault,
+    pub offset: usize,
+}
+
+// How many tasks a batch has, or how many stand before its first fault, and that fault.
+#[derive(Clone, Copy, Debug, PartialEq, Eq)]
+pub struct Verdict {
+    pub tasks: usize,
+    pub fault: Option<FaultAt>,
 }
 
 impl Verdict {
@@ -17,9 +24,10 @@ impl Verdict {
     pub fn status(self) -> u32
         ensures { result ≡ status_word_of self % 4294967296 }
     {
-        match self {
-            Verdict::Faultless(tasks) => ((tasks % 65536) as u32) * 65536 + 1,
-            Verdict::Faulty(tasks, fault, _) => ((tasks % 65536) as u32) * 65536 + fault.status(),
+        let tasks = ((self.tasks % 65536) as u32) * 65536;
+        match self.fault {
+            None => tasks + 1,
+            Some(found) => tasks + found.fault.status(),
         }
     }
 
@@ -27,20 +35,14 @@ impl Verdict {
     pub fn number(self) -> u32
         ensures { result ≡ fault_number_of self }
     {
-        match self {
-            Verdict::Faultless(_) => 0,
-            Verdict::Faulty(_, fault, _) => fault.number(),
-        }
+        self.fault.map_or(0, |found| found.fault.number())
     }
 
     // The fault's offset, 0 without a fault.
     pub fn offset(self) -> usize
         ensures { result ≡ fault_offset_of self }
     {
-        match self {
-            Verdict::Faultless(_) => 0,
-            Verdict::Faulty(_, _, offset) => offset,
-        }
+        self.fault.map_or(0, |found| found.offset)
     }
 }
 

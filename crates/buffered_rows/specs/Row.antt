@@ -8,26 +8,20 @@ use Rattle.surface.specs.Drawn.{load_pixel}
 use Rattle.register.specs.declared.task.Task.{Task}
 use Rattle.row_pixels.specs.Row.{colour_in, HoldsColours}
 use Rattle.row_pixels.specs.Composite.{composite}
-use Rattle.plan.specs.Plan.{plan_of}
-use Rattle.plan.specs.declared.Plan.{Plan}
-use Rattle.kinds.specs.Kinds.{finish_of}
 use Rattle.kinds.specs.declared.Finish.{Finish}
 use Rattle.kinds.specs.declared.Finish.TheVariants.{Copied, InPlace, Blended}
 use Rattle.raster.specs.Task.{source_colour, pixel_colour}
 use Rattle.raster.specs.Row.{RowFits, SourceRowInBounds, HoldsRow}
 
 -- what is asked where a row is blended in a window's bytes from `at` on
-pub record RowMixes (t : Task) (at : ℕ) (p : Plan) (bytes buffer : List ℕ) : Type 0 where
+pub record RowMixes (t : Task) (at : ℕ) (bytes buffer : List ℕ) : Type 0 where
   pub fits : RowFits t.output at bytes buffer
   pub format : t.output.format ≡ Argb8888
-  pub plan : p ≡ plan_of t.blending.rule
 
--- what is asked of the buffers of the source and of the destination, and of what was found out once a task
-pub record RowBuffers (t : Task) (p : Plan) (f : Finish) (s d : List ℕ) : Type 0 where
+-- what is asked of the buffers of the source and of the destination
+pub record RowBuffers (t : Task) (s d : List ℕ) : Type 0 where
   pub source : HoldsRow t.output.width s
   pub destination : HoldsRow t.output.width d
-  pub finish : f ≡ finish_of t
-  pub plan : p ≡ plan_of t.blending.rule
 
 -- what is asked where row y of a task is read
 pub record RowReadable (memory s : List ℕ) (t : Task) (y : ℕ) : Type 0 where

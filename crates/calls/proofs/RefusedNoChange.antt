@@ -1,18 +1,18 @@
 -- A refused call changes nothing.
-use mathlib.Core.Path.{◌≡◌, refl, sym, ap, ap₂, ◌∙◌}
+use mathlib.Core.Path.{◌≡◌, refl, ap₂, ◌∙◌}
 use mathlib.Core.List.{List, [], ◌∷◌}
 use Prim.Native.Nat.{ℕ}
 use lib.ListN.{length}
 use Rattle.reset.specs.declared.ResetRule.{ResetRule}
 use Rattle.engine_record.specs.declared.Window.{Window}
 use Rattle.engine_record.specs.declared.EngineRecord.{EngineRecord}
+use Rattle.std.proofs.Common.{Result, Ok, Err}
+use Rattle.queue.specs.declared.Refusal.{Refusal}
 use Rattle.queue.specs.declared.Answer.{Answer}
-use Rattle.queue.specs.declared.Answer.TheVariants.{Refused, Done, Opened, Accepted, Ready, Missing}
 use Rattle.queue.specs.Answers.{refusal_number_of, value_of}
 use Rattle.queue.specs.Calls.{set_up_result, open_result, submit_result, submit_number, begin_result, piece_result, piece_number, cancel_result, close_result, pending_answer}
 use Rattle.queue.proofs.Preservation.{submit-number, submit-refused_no_op, piece-number, piece-refused_no_op, close-number}
-use Rattle.engine.specs.declared.Outcome.{Outcome}
-use Rattle.engine.specs.declared.Outcome.TheVariants.{Refused as NotRun, Completed}
+use Rattle.engine.specs.declared.Completion.{Completion}
 use Rattle.engine.specs.Outcome.{run_refusal_of as refusalOf}
 use Rattle.engine.specs.Run.{run_result, run_number}
 use Rattle.engine.specs.Close.{close_number}
@@ -26,32 +26,24 @@ use Rattle.calls.specs.RefusedNoChange.{RefusedNoChange}
 use Rattle.calls.proofs.Results.{unless_not}
 
 -- what is answered with a refusal
-no_value : (a : Answer) → (refusal_number_of a ≡ 0 → ⊥) → value_of a ≡ 0
-no_value (Refused n) h = refl
-no_value Done h = absurd (h refl)
-no_value (Opened c) h = absurd (h refl)
-no_value (Accepted t) h = absurd (h refl)
-no_value (Ready n) h = absurd (h refl)
-no_value (Missing n) h = absurd (h refl)
+no_value : (a : Result Answer Refusal) → (refusal_number_of a ≡ 0 → ⊥) → value_of a ≡ 0
+no_value (Err r) h = refl
+no_value (Ok answer) h = absurd (h refl)
 
-no_last : (a : Answer) → (refusal_number_of a ≡ 0 → ⊥) → last_of a ≡ 0
-no_last (Refused n) h = refl
-no_last Done h = refl
-no_last (Opened c) h = refl
-no_last (Accepted t) h = absurd (h refl)
-no_last (Ready n) h = refl
-no_last (Missing n) h = refl
+no_last : (a : Result Answer Refusal) → (refusal_number_of a ≡ 0 → ⊥) → last_of a ≡ 0
+no_last (Err r) h = refl
+no_last (Ok answer) h = absurd (h refl)
 
-no_five : (o : Outcome) → (refusalOf o ≡ 0 → ⊥) → five_of o ≡ 0 ∷ 0 ∷ 0 ∷ 0 ∷ 0 ∷ []
-no_five (NotRun n) h = refl
-no_five (Completed c) h = absurd (h refl)
+no_five : (o : Result Completion Refusal) → (refusalOf o ≡ 0 → ⊥) → five_of o ≡ 0 ∷ 0 ∷ 0 ∷ 0 ∷ 0 ∷ []
+no_five (Err r) h = refl
+no_five (Ok c) h = absurd (h refl)
 
-value-written_no_change : (bytes after : List ℕ) (a : Answer) (number value : ℕ) (bytesNow : List ℕ) → (number ≡ 0 → ⊥) → ValueWritten bytes after a number value bytesNow → (value ≡ 0) × (bytesNow ≡ bytes)
+value-written_no_change : (bytes after : List ℕ) (a : Result Answer Refusal) (number value : ℕ) (bytesNow : List ℕ) → (number ≡ 0 → ⊥) → ValueWritten bytes after a number value bytesNow → (value ≡ 0) × (bytesNow ≡ bytes)
 value-written_no_change bytes after a number value bytesNow refused t =
     let z : refusal_number_of a ≡ 0 → ⊥ = λ e. refused (t.number_is ∙ e) in
     (t.value_is ∙ no_value a z, t.record_is ∙ unless_not bytes after (refusal_number_of a) z)
 
-number-written_no_change : (bytes after : List ℕ) (a : Answer) (number : ℕ) (bytesNow : List ℕ) → (number ≡ 0 → ⊥) → NumberWritten bytes after a number bytesNow → bytesNow ≡ bytes
+number-written_no_change : (bytes after : List ℕ) (a : Result Answer Refusal) (number : ℕ) (bytesNow : List ℕ) → (number ≡ 0 → ⊥) → NumberWritten bytes after a number bytesNow → bytesNow ≡ bytes
 number-written_no_change bytes after a number bytesNow refused t = t.record_is ∙ unless_not bytes after (refusal_number_of a) (λ e. refused (t.number_is ∙ e))
 
 module _ (bytes bytesNow : List ℕ) (number : ℕ) (refused : number ≡ 0 → ⊥) where
@@ -87,7 +79,7 @@ module _ (bytes bytesNow : List ℕ) (number : ℕ) (refused : number ≡ 0 → 
       (two ≡ 0 ∷ 0 ∷ []) × (bytesNow ≡ bytes) × (ringNow ≡ ring)
   piece-none ring ringNow client piece two s =
       let r : EngineRecord = record_of bytes in
-      let a : Answer = (piece_result r ring client piece).answer in
+      let a : Result Answer Refusal = (piece_result r ring client piece).answer in
       let z : refusal_number_of a ≡ 0 → ⊥ = λ e. refused (s.answered.number_is ∙ e) in
       let n : piece_number r ring client piece ≡ 0 → ⊥ = λ e. refused (s.answered.number_is ∙ piece-number r ring client piece ∙ e) in (
         s.answered.two_are ∙ ap₂ (λ (x y : ℕ). x ∷ y ∷ []) (no_last a z) (no_value a z),
@@ -106,7 +98,7 @@ module _ (bytes bytesNow : List ℕ) (number : ℕ) (refused : number ≡ 0 → 
       (five ≡ 0 ∷ 0 ∷ 0 ∷ 0 ∷ 0 ∷ []) × (bytesNow ≡ bytes) × (memoryNow ≡ memory)
   run_none ring memory memoryNow five s =
       let r : EngineRecord = record_of bytes in
-      let o : Outcome = (run_result r ring memory).outcome in
+      let o : Result Completion Refusal = (run_result r ring memory).outcome in
       let z : refusalOf o ≡ 0 → ⊥ = λ e. refused (s.reports.number_is ∙ e) in
       let n : run_number r ring memory ≡ 0 → ⊥ = λ e. refused (s.reports.number_is ∙ run-number r ring memory ∙ e) in
       (s.reports.five_are ∙ no_five o z, s.reports.record_is ∙ unless_not bytes (bytes_of (run_result r ring memory).engine) (refusalOf o) z, s.memory_is ∙ (run-refused_no_op r ring memory n).1)

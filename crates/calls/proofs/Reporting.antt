@@ -1,12 +1,14 @@
 -- Run.
 use mathlib.Core.Path.{◌≡◌, sym, ap, subst, ◌∙◌}
-use mathlib.Core.List.{List, [], ◌∷◌}
+use mathlib.Core.List.{List}
 use Prim.Native.Nat.{ℕ}
-use lib.ListN.{length, get_or}
+use lib.ListN.{length, take, drop, get_or}
 use Rattle.engine_record.specs.declared.EngineRecord.{EngineRecord}
-use Rattle.queue.specs.Calls.{unless_refused}
-use Rattle.engine.specs.declared.Outcome.{Outcome}
+use Rattle.std.proofs.Common.{Result}
+use Rattle.queue.specs.declared.Refusal.{Refusal}
+use Rattle.engine.specs.declared.Completion.{Completion}
 use Rattle.engine.specs.declared.RunResult.{RunResult}
+use Rattle.queue.specs.Calls.{unless_refused}
 use Rattle.engine.specs.Outcome.{run_refusal_of as refusalOf}
 use Rattle.engine.specs.Run.{run_result, run_memory}
 use Rattle.engine.proofs.Refusals.{run-allowed}
@@ -14,27 +16,13 @@ use Rattle.engine.proofs.Preservation.{run-number}
 use Rattle.engine.specs.Answers.{run_words, OutcomeFitsWords}
 use Rattle.engine.proofs.answers.Numbers.{run_small}
 use Rattle.record_bytes.specs.Read.{record_of}
-use Rattle.record_bytes.specs.Written.{bytes_of, written}
+use Rattle.record_bytes.specs.Written.{written}
 use Rattle.calls.specs.Calls.{Reports, Runs}
-use Rattle.calls.proofs.Results.{unless_not, unless_zero, whole, fits}
+use Rattle.calls.proofs.Results.{whole, fits}
 
-abbrev rest : List ℕ → List ℕ
-rest words = get_or words 1 0 ∷ get_or words 2 0 ∷ get_or words 3 0 ∷ get_or words 4 0 ∷ get_or words 5 0 ∷ []
-
-module _ (bytes after words : List ℕ) (o : Outcome) (are : words ≡ run_words o) where
-  pub reported-done : (bytesNow : List ℕ) → get_or words 0 0 ≡ 0 → bytesNow ≡ after → Reports bytes after o (get_or words 0 0) (rest words) bytesNow
-  reported-done bytesNow z e = record {
-    number_is = rw are;
-    five_are = rw are;
-    record_is = e ∙ sym (unless_zero bytes after (refusalOf o) (rw are at z));
-  }
-
-  pub reported-refused : (get_or words 0 0 ≡ 0 → ⊥) → Reports bytes after o (get_or words 0 0) (rest words) bytes
-  reported-refused z = record {
-    number_is = rw are;
-    five_are = rw are;
-    record_is = sym (unless_not bytes after (refusalOf o) (rw are at z));
-  }
+pub reported : (bytes after words : List ℕ) (o : Result Completion Refusal) (number : ℕ) (five bytesNow : List ℕ) → words ≡ run_words o → number ≡ get_or words 0 0 → five ≡ take 5 (drop 1 words) →
+    bytesNow ≡ unless_refused (get_or words 0 0) bytes after → Reports bytes after o number five bytesNow
+reported bytes after words o number five bytesNow w first e kept = record { number_is = first ∙ rw w; five_are = e ∙ rw w; record_is = kept ∙ rw w }
 
 pub ran-small : (engine : EngineRecord) (ring memory : List ℕ) (ran : RunResult) → ran ≡ run_result engine ring memory → OutcomeFitsWords ran.outcome
 ran-small engine ring memory ran e = rw e (run_small engine ring memory)

@@ -1,14 +1,16 @@
 -- A call that answers one number.
 use mathlib.Core.Path.{◌≡◌, refl, sym, ap, subst, ◌∙◌}
 use mathlib.Core.Bool.{true}
-use mathlib.Core.List.{List, [], ◌∷◌}
+use mathlib.Core.List.{List}
 use Prim.Native.Nat.{ℕ, zero, suc}
-use lib.ListN.{length, get_or}
+use lib.ListN.{length, take, drop, get_or}
 use borrow.Author.Tests.{eq-eqb, ne_eqb}
 use Rattle.reset.specs.declared.ResetRule.{ResetRule}
 use Rattle.engine_record.specs.declared.Window.{Window}
 use Rattle.engine_record.specs.declared.EngineRecord.{EngineRecord}
 use Rattle.engine_record.specs.Rules.{valid}
+use Rattle.std.proofs.Common.{Result}
+use Rattle.queue.specs.declared.Refusal.{Refusal}
 use Rattle.queue.specs.declared.Answer.{Answer}
 use Rattle.queue.specs.declared.Reply.{Reply}
 use Rattle.queue.specs.Answers.{refusal_number_of, value_of}
@@ -34,36 +36,18 @@ module _ (before after : List ℕ) where
   unfolding unless_refused
   unless_zero n e = rw e
 
-module _ (bytes after words : List ℕ) (a : Answer) (w : words ≡ short_answer (refusal_number_of a) (value_of a)) where
-  pub value-written-done : (bytesNow : List ℕ) → get_or words 0 0 ≡ 0 → bytesNow ≡ after → ValueWritten bytes after a (get_or words 0 0) (get_or words 1 0) bytesNow
-  value-written-done bytesNow z e = record {
-    number_is = rw w;
-    value_is = rw w;
-    record_is = e ∙ sym (unless_zero bytes after (refusal_number_of a) (rw w at z));
-  }
+module _ (bytes after words : List ℕ) (a : Result Answer Refusal) (number : ℕ) (bytesNow : List ℕ) (first : number ≡ get_or words 0 0) (kept : bytesNow ≡ unless_refused (get_or words 0 0) bytes after) where
+  -- a value, of one number
+  pub value-written : (numbers : List ℕ) → words ≡ short_answer (refusal_number_of a) (value_of a) → numbers ≡ take 1 (drop 1 words) → ValueWritten bytes after a number (get_or numbers 0 0) bytesNow
+  value-written numbers w e = record { number_is = first ∙ rw w; value_is = rw (e, w); record_is = kept ∙ rw w }
 
-  pub value-written-refused : (get_or words 0 0 ≡ 0 → ⊥) → ValueWritten bytes after a (get_or words 0 0) (get_or words 1 0) bytes
-  value-written-refused z = record {
-    number_is = rw w;
-    value_is = rw w;
-    record_is = sym (unless_not bytes after (refusal_number_of a) (rw w at z));
-  }
+  -- and of none
+  pub value-dropped : words ≡ short_answer (refusal_number_of a) (value_of a) → ValueWritten bytes after a number (value_of a) bytesNow
+  value-dropped w = record { number_is = first ∙ rw w; value_is = refl; record_is = kept ∙ rw w }
 
--- the same of a piece
-module _ (bytes after words : List ℕ) (a : Answer) (w : words ≡ piece_words a) where
-  pub two-done : (bytesNow : List ℕ) → get_or words 0 0 ≡ 0 → bytesNow ≡ after → ProgressWritten bytes after a (get_or words 0 0) (get_or words 1 0 ∷ get_or words 2 0 ∷ []) bytesNow
-  two-done bytesNow z e = record {
-    number_is = rw w;
-    two_are = rw w;
-    record_is = e ∙ sym (unless_zero bytes after (refusal_number_of a) (rw w at z));
-  }
-
-  pub two-refused : (get_or words 0 0 ≡ 0 → ⊥) → ProgressWritten bytes after a (get_or words 0 0) (get_or words 1 0 ∷ get_or words 2 0 ∷ []) bytes
-  two-refused z = record {
-    number_is = rw w;
-    two_are = rw w;
-    record_is = sym (unless_not bytes after (refusal_number_of a) (rw w at z));
-  }
+  -- a piece's two
+  pub two-written : (numbers : List ℕ) → words ≡ piece_words a → numbers ≡ take 2 (drop 1 words) → ProgressWritten bytes after a number numbers bytesNow
+  two-written numbers w e = record { number_is = first ∙ rw w; two_are = e ∙ rw w; record_is = kept ∙ rw w }
 
 -- ---- the record is written whole
 
@@ -166,7 +150,7 @@ module _ (bytes : List ℕ) (engine : EngineRecord) (is : engine ≡ record_of b
         memory_is = q ∙ ap (λ (x : EngineRecord). close_memory x memory client) is;
       }
 
-  pub pending-answered : (client : ℕ) (a : Answer) (words : List ℕ) → a ≡ pending_answer engine client → words ≡ short_answer (refusal_number_of a) (value_of a) →
+  pub pending-answered : (client : ℕ) (a : Result Answer Refusal) (words : List ℕ) → a ≡ pending_answer engine client → words ≡ short_answer (refusal_number_of a) (value_of a) →
       Pends bytes client (get_or words 0 0) (get_or words 1 0)
   pending-answered client a words e w = record { number_is = rw (w, e, is); value_is = rw (w, e, is) }
 

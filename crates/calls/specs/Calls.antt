@@ -1,13 +1,14 @@
 -- What each call answers and leaves, for every record, ring and memory that is lent: the engine's definitions at the record that the bytes
 -- stand for. A refused call answers zeros and leaves every byte as it was.
-use Rattle.std.specs.Prelude.{◌≡◌, cond, List, [], ◌∷◌, ℕ, length, eqb}
+use Rattle.std.specs.Prelude.{◌≡◌, cond, List, [], ◌∷◌, ℕ, length, eqb, Result}
 use Rattle.reset.specs.declared.ResetRule.{ResetRule}
 use Rattle.engine_record.specs.declared.Window.{Window}
+use Rattle.queue.specs.declared.Refusal.{Refusal}
 use Rattle.queue.specs.declared.Answer.{Answer}
 use Rattle.queue.specs.declared.Reply.{Reply}
 use Rattle.queue.specs.Answers.{refusal_number_of, value_of}
 use Rattle.queue.specs.Calls.{unless_refused, set_up_result, open_result, submit_result, submit_ring, begin_result, piece_result, piece_ring, cancel_result, close_result, pending_answer}
-use Rattle.engine.specs.declared.Outcome.{Outcome}
+use Rattle.engine.specs.declared.Completion.{Completion}
 use Rattle.engine.specs.declared.RunResult.{RunResult}
 use Rattle.engine.specs.Outcome.{run_refusal_of as refusalOf}
 use Rattle.engine.specs.Run.{run_result, run_memory}
@@ -28,7 +29,7 @@ pub record SetsUp (bytes : List ℕ) (ring memory common : ℕ) (reset : ResetRu
 
 -- ---- a call that answers one number: the refusal's number, the value, and the bytes of the record; `after` if it is not refused
 
-pub record ValueWritten (bytes after : List ℕ) (answer : Answer) (number value : ℕ) (bytesNow : List ℕ) : Type 0 where
+pub record ValueWritten (bytes after : List ℕ) (answer : Result Answer Refusal) (number value : ℕ) (bytesNow : List ℕ) : Type 0 where
   pub number_is : number ≡ refusal_number_of answer
   pub value_is : value ≡ value_of answer
   pub record_is : bytesNow ≡ unless_refused (refusal_number_of answer) bytes after
@@ -54,7 +55,7 @@ pub record Pends (bytes : List ℕ) (client number value : ℕ) : Type 0 where
 -- ---- begin, pieces, cancel (02, 6)
 
 -- a call that answers nothing
-pub record NumberWritten (bytes after : List ℕ) (answer : Answer) (number : ℕ) (bytesNow : List ℕ) : Type 0 where
+pub record NumberWritten (bytes after : List ℕ) (answer : Result Answer Refusal) (number : ℕ) (bytesNow : List ℕ) : Type 0 where
   pub number_is : number ≡ refusal_number_of answer
   pub record_is : bytesNow ≡ unless_refused (refusal_number_of answer) bytes after
 
@@ -70,7 +71,7 @@ Cancels bytes client =
     NumberWritten bytes (bytes_of reply.engine) reply.answer
 
 -- a piece answers two numbers: 0 and the bytes still to come, or, of the last, 1 and the ticket
-pub record ProgressWritten (bytes after : List ℕ) (answer : Answer) (number : ℕ) (two bytesNow : List ℕ) : Type 0 where
+pub record ProgressWritten (bytes after : List ℕ) (answer : Result Answer Refusal) (number : ℕ) (two bytesNow : List ℕ) : Type 0 where
   pub number_is : number ≡ refusal_number_of answer
   pub two_are : two ≡ last_of answer ∷ value_of answer ∷ []
   pub record_is : bytesNow ≡ unless_refused (refusal_number_of answer) bytes after
@@ -91,7 +92,7 @@ pub record Closes (bytes memory : List ℕ) (client number : ℕ) (bytesNow memo
 
 -- ---- run
 
-pub record Reports (bytes after : List ℕ) (outcome : Outcome) (number : ℕ) (five bytesNow : List ℕ) : Type 0 where
+pub record Reports (bytes after : List ℕ) (outcome : Result Completion Refusal) (number : ℕ) (five bytesNow : List ℕ) : Type 0 where
   pub number_is : number ≡ refusalOf outcome
   pub five_are : five ≡ five_of outcome
   pub record_is : bytesNow ≡ unless_refused (refusalOf outcome) bytes after

@@ -1,53 +1,26 @@
 // The results of a call written out: what it answered in numbers, and the record after it as bytes.
+ghost use Rattle.std.specs.Prelude.{◌≡◌, ◌≤◌, take, drop, get_or};
+ghost use Rattle.queue.specs.Calls.{unless_refused};
 ghost use Rattle.record_bytes.specs.Written.{written};
-ghost use Rattle.engine.specs.Answers.{OutcomeFitsWords};
-ghost use Rattle.calls.specs.Calls.{ValueWritten, ProgressWritten, Reports};
 
-use engine::RunResult;
-use queue::Reply;
+use engine_record::EngineRecord;
 
-// Writes the value that a call answered, and the record after it if it was not refused.
-pub fn write_value(bytes: &mut [u8], reply: Reply, value: &mut u32) -> u32
-    ensures { ValueWritten bytes.old (written reply.engine bytes.old) reply.answer result value.new bytes.new }
+// Writes the numbers that a call answered, as many of its words as there are places for, and the record after it if it was not refused. The first
+// word, which it returns, is the refusal's number: 0 without one.
+pub fn write_answer<const N: usize>(
+    bytes: &mut [u8],
+    words: [u32; 6],
+    engine: EngineRecord,
+    numbers: &mut [u32; N],
+) -> u32
+    requires { N ≤ 5 }
+    ensures { (result ≡ get_or words 0 0)
+        × (numbers.new ≡ take N (drop 1 words))
+        × (bytes.new ≡ unless_refused (get_or words 0 0) bytes.old (written engine bytes.old)) }
 {
-    let answer = reply.answer;
-    let engine = reply.engine;
-    let words = engine::answers::answer_words(answer);
-    let number = words[0];
-    *value = words[1];
-    if number == 0 {
+    numbers.copy_from_slice(&words[1..1 + N]);
+    if words[0] == 0 {
         record_bytes::writing::encode(engine, bytes);
     }
-    number
-}
-
-// The same of a piece: whether it was the last, and the value.
-pub fn write_progress(bytes: &mut [u8], reply: Reply, two: &mut [u32; 2]) -> u32
-    ensures { ProgressWritten bytes.old (written reply.engine bytes.old) reply.answer result two.new bytes.new }
-{
-    let answer = reply.answer;
-    let engine = reply.engine;
-    let words = engine::answers::piece_words(answer);
-    let number = words[0];
-    *two = [words[1], words[2]];
-    if number == 0 {
-        record_bytes::writing::encode(engine, bytes);
-    }
-    number
-}
-
-// The same of run: the five numbers of its completion.
-pub fn write_completion(bytes: &mut [u8], ran: RunResult, five: &mut [u32; 5]) -> u32
-    requires { OutcomeFitsWords ran.outcome }
-    ensures { Reports bytes.old (written ran.engine bytes.old) ran.outcome result five.new bytes.new }
-{
-    let outcome = ran.outcome;
-    let engine = ran.engine;
-    let words = engine::answers::run_words(outcome);
-    let number = words[0];
-    *five = [words[1], words[2], words[3], words[4], words[5]];
-    if number == 0 {
-        record_bytes::writing::encode(engine, bytes);
-    }
-    number
+    words[0]
 }

@@ -1,32 +1,29 @@
 -- Every way to cut a batch into pieces comes to what a whole submit comes to: record, ring and ticket.
 use mathlib.Core.Path.{◌≡◌, refl, ap, ap₂, sym, ◌∙◌}
 use mathlib.Core.List.{List, [], ◌∷◌, ◌++◌, map, flatten, append_assoc, append-nil}
-use mathlib.Core.Bool.{Bool, true, false, cond}
-use Prim.Native.Nat.{ℕ, zero, ◌+◌, ◌-◌, ◌≤◌, ◌<◌}
+use mathlib.Core.Bool.{true}
+use Prim.Native.Nat.{ℕ, ◌+◌, ◌-◌, ◌≤◌, ◌<◌}
 use native.Mathlib.Omega.{arith}
 use lib.ListN.{length, length-append}
 use borrow.Author.Tests.{eq-eqb, ne_eqb, le-ltb}
-use Rattle.ring.specs.Segment.{LiesInRing, wrap_offset, segment}
+use Rattle.ring.specs.Segment.{wrap_offset, segment}
 use Rattle.ring.specs.Copied.{copied_in}
 use Rattle.ring.proofs.Wrapped.{wrapped_below}
 use Rattle.ring.proofs.Copied.{length-copied}
-use Rattle.engine_record.specs.declared.Staged.{Staged}
 use Rattle.engine_record.specs.declared.EngineRecord.{EngineRecord}
-use Rattle.engine_record.specs.Slots.{lowest_free}
 use Rattle.engine_record.specs.Queue.{ready_bytes, write_offset}
 use Rattle.engine_record.specs.Rules.{valid, staged_rule}
 use Rattle.engine_record.proofs.Pieces.{copied-twice, copied-same}
 use Rattle.engine_record.proofs.Rules.{valid_facts, ready-within}
 use Rattle.engine_record.proofs.Unfinished.{unfinished_kept}
 use Rattle.queue.specs.Refusals.{first_refusal}
-use Rattle.queue.specs.Calls.{new_batch, with_batch, submitted, with_staged, begun, with_received, piece_answer, after_piece}
+use Rattle.queue.specs.Calls.{with_batch, submitted, with_staged, begun, with_received, piece_answer, after_piece}
 use Rattle.queue.proofs.Refusals.{SubmitAllowed, submit-allowed}
 use Rattle.queue.proofs.Validity.{Sized, few-taken, staged-valid}
 use Rattle.queue.proofs.Submitted.{submit_addable}
-use Rattle.model.specs.Calls.{Setup, Call, submit, begin, piece, accepted, missing}
+use Rattle.model.specs.Calls.{Setup, Call, submit, begin, piece, accepted}
 use Rattle.claims.specs.Engine.{State, mk_state, CallResult, model_answer_of, perform_call, state_after, SetUpAccepted}
 use Rattle.model.specs.Machine.{Cutting}
-use Rattle.claims.specs.Demand1.{refusal_table_of}
 use Rattle.claims.specs.Demand3.{engine_machine, final_state}
 use Rattle.claims.proofs.Cases.{number, done, either, by_number}
 use Rattle.claims.proofs.Simulation.{at-end}

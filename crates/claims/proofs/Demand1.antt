@@ -8,13 +8,13 @@ use lib.ListN.{length}
 use lib.Dec.{ltb}
 use Rattle.task_check.specs.declared.fault.Fault.{Fault}
 use Rattle.task_check.specs.Faults.{fault_number, fault_status}
-use Rattle.batch.specs.declared.verdict.Verdict.TheVariants.{Faulty}
-use Rattle.batch.specs.Batch.{decode_batch}
+use Rattle.batch.specs.Batch.{with_fault, decode_batch}
 use Rattle.batch.proofs.Steps.{faulty_stopped}
 use Rattle.raster.specs.Task.{draw_tasks}
 use Rattle.raster.proofs.Fold.{batch-tasks}
-use Rattle.encoder.specs.declared.Answer.{Answer}
-use Rattle.encoder.specs.declared.Answer.TheVariants.{Written, Forbidden, ShortBuffer}
+use Rattle.std.specs.Prelude.{Result, Ok, Err, ⊤}
+use Rattle.encoder.specs.declared.EncodeError.{EncodeError}
+use Rattle.encoder.specs.declared.EncodeError.TheVariants.{Forbidden, ShortBuffer}
 use Rattle.encoder.specs.Forms.{Form, form_allowed, form_size}
 use Rattle.encoder.specs.Encoder.{answer_of, buffer_on_answer, buffer_after, task_bytes, encode_refusal_of as encoderNumber}
 use Rattle.queue.specs.Refusals.{first_refusal}
@@ -22,7 +22,7 @@ use Rattle.queue.proofs.Preservation.{set-up-number}
 use Rattle.engine.specs.Run.{oldest, bounds_of_client, oldest_words, reset_of, oldest_verdict, without_oldest}
 use Rattle.model.specs.Calls.{Call, run, completed, refused}
 use Rattle.claims.specs.Engine.{State, mk_state, CallResult, perform_call}
-use Rattle.claims.specs.Demand1.{refusal_table_of, encoder_table, standing, OfCalls, OfEncoder, Demand1}
+use Rattle.claims.specs.Demand1.{refusal_table_of, encoder_table, standing, OfCalls, Demand1}
 use Rattle.claims.proofs.Cases.{number, done, either, by_number, answers, refused_no_change}
 
 -- with any number
@@ -43,7 +43,7 @@ module _ (s : State) where
   refused_only_if : (c : Call) (n : ℕ) → (perform_call c s).answer ≡ refused n → (first_refusal (refusal_table_of c s) ≡ n) × ¬ (n ≡ 0)
   refused_only_if c n e = refused-only (number c s) n s (done c s) (answers c s) (rw (by_number c s) at e)
 
-  faulty : (tasks : ℕ) (fault : Fault) (place : ℕ) → first_refusal (refusal_table_of run s) ≡ 0 → oldest_verdict s.engine s.ring ≡ Faulty tasks fault place →
+  faulty : (tasks : ℕ) (fault : Fault) (place : ℕ) → first_refusal (refusal_table_of run s) ≡ 0 → oldest_verdict s.engine s.ring ≡ with_fault tasks fault place →
       (perform_call run s ≡ record {
         answer =
             completed (oldest s.engine).client (oldest s.engine).ticket
@@ -66,7 +66,7 @@ module _ (form : Form) (buffer : List ℕ) where
   unfolding answer_of first_refusal
   encoder_by_table = by (form_allowed form) (ltb (length buffer) (form_size form))
     where
-      by : (a short : Bool) → encoderNumber (cond a (cond short ShortBuffer Written) Forbidden) ≡ cond (not a) 24 (cond short 12 0)
+      by : (a short : Bool) → encoderNumber (cond a (cond short (Err ShortBuffer) (Ok tt)) (Err Forbidden)) ≡ cond (not a) 24 (cond short 12 0)
       by true true = refl
       by true false = refl
       by false short = refl
@@ -75,10 +75,10 @@ module _ (form : Form) (buffer : List ℕ) where
   unfolding buffer_after
   encoder-refused_no_change = by (answer_of form (length buffer))
     where
-      by : (a : Answer) → ¬ (encoderNumber a ≡ 0) → buffer_on_answer a (task_bytes form) buffer ≡ buffer
-      by Written some = absurd (some refl)
-      by Forbidden some = refl
-      by ShortBuffer some = refl
+      by : (a : Result ⊤ EncodeError) → ¬ (encoderNumber a ≡ 0) → buffer_on_answer a (task_bytes form) buffer ≡ buffer
+      by (Ok tt) some = absurd (some refl)
+      by (Err Forbidden) some = refl
+      by (Err ShortBuffer) some = refl
 
 pub demand1 : Demand1
 demand1 = record {

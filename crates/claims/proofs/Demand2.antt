@@ -3,10 +3,10 @@ use mathlib.Core.Path.{◌≡◌}
 use mathlib.Core.List.{List}
 use Prim.Native.Nat.{ℕ, ◌<◌}
 use native.Mathlib.Omega.{arith}
+use Rattle.batch.specs.Batch.{with_fault}
 use Rattle.register.specs.declared.bank.Bank.{Bank}
 use Rattle.task_check.specs.declared.fault.Fault.{Fault}
 use Rattle.task_check.specs.declared.task.Bounds.{Bounds}
-use Rattle.batch.specs.declared.verdict.Verdict.TheVariants.{Faulty}
 use Rattle.batch.proofs.DecoderCases.{words_fit}
 use Rattle.batch.proofs.Tasks.{faultless_marks}
 use Rattle.batch.proofs.Offsets.{fault-inside}
@@ -38,7 +38,7 @@ module _ (s : State) where
   unfolding either
   executes z = rw (by_number run s, z)
 
-  place : (tasks : ℕ) (fault : Fault) (offset : ℕ) → oldest_verdict s.engine s.ring ≡ Faulty tasks fault offset → offset < (oldest s.engine).length
+  place : (tasks : ℕ) (fault : Fault) (offset : ℕ) → oldest_verdict s.engine s.ring ≡ with_fault tasks fault offset → offset < (oldest s.engine).length
   place tasks fault offset e =
       let batch = oldest s.engine in
       let low = fault-inside (bounds_of_client s.engine batch.client) (reset_of s.engine) (oldest_words s.engine s.ring) tasks fault offset e in

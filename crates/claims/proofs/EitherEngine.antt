@@ -1,15 +1,15 @@
 -- Whichever engine makes each run, a list of calls is the engine's list: both promise the same of one run.
 use mathlib.Core.Path.{◌≡◌, refl, sym, ap, ap₂, ◌∙◌}
-use mathlib.Core.List.{List, [], ◌∷◌}
+use mathlib.Core.List.{List, ◌∷◌}
 use Prim.Native.Nat.{ℕ}
 use Rattle.engine.specs.declared.RunResult.{RunResult}
-use Rattle.model.specs.Calls.{Call, run, Answer}
+use Rattle.model.specs.Calls.{Call, Answer}
 use Rattle.claims.specs.Engine.{State, CallResult, run_call, perform_call, answers_of, state_after}
 use Rattle.claims.specs.EitherEngine.{Performed, by_engine, shared, PerformedAll, nil, cons, EitherEngine}
 
 one : (call : Call) (s : State) (r : CallResult) → Performed call s r → r ≡ perform_call call s
 unfolding perform_call
-one _ _ _ (by_engine slow s r memory promised) = ap₂ (λ (x : RunResult) (m : List ℕ). run_call s x m) promised.0 promised.1
+one _ _ _ (by_engine renderer s r memory promised) = ap₂ (λ (x : RunResult) (m : List ℕ). run_call s x m) promised.0 promised.1
 one _ _ _ (shared call s) = refl
 
 as_list : (calls : List Call) (s : State) (answers : List Answer) (end : State) → PerformedAll calls s answers end → (answers ≡ answers_of calls s) × (end ≡ state_after calls s)

@@ -10,12 +10,11 @@ use lib.Seq.{get_or-set_same, get_or-set_other}
 use borrow.Author.Tests.{ltb-false, le-ltb, lt-leb, le-leb, ne_eqb}
 use Rattle.word.proofs.Tests.{split}
 use Rattle.range.specs.declared.Range.{Range}
-use Rattle.range.specs.Range.{contained_in, overlaps}
+use Rattle.range.specs.Range.{overlaps}
 use Rattle.engine_record.specs.declared.EngineRecord.{EngineRecord}
 use Rattle.engine_record.specs.declared.Client.{Client}
 use Rattle.engine_record.specs.declared.Window.{Window}
-use Rattle.engine_record.specs.Clients.{no_client, client_at, is_open, windows_of, window_range, prefix_range, overlaps_any, bad_window}
-use Rattle.engine_record.specs.Rules.{valid}
+use Rattle.engine_record.specs.Clients.{no_client, client_at, is_open, windows_of, window_range, overlaps_any, bad_window}
 use Rattle.engine_record.proofs.Clients.{shares_cons, windows_most, open_place, place_open, closed-past}
 use Rattle.engine_record.proofs.Opened.{shared-sym}
 use Rattle.engine_record.proofs.Windows.{window_placed, windows_apart}

@@ -1,5 +1,5 @@
 -- Order between clients: the model's theorem at the real definitions, and of the engine by what it shares with the model.
-use mathlib.Core.Path.{◌≡◌, sym, ap, ◌∙◌}
+use mathlib.Core.Path.{sym, ap, ◌∙◌}
 use mathlib.Core.List.{List}
 use Prim.Native.Nat.{ℕ}
 use lib.ListN.{length}

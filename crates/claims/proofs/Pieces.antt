@@ -38,7 +38,7 @@ use Rattle.claims.specs.ModelProperties.{batch_semantics}
 use Rattle.claims.specs.Engine.{State, mk_state, model_answer_of}
 use Rattle.claims.specs.Queue.{bytes_so_far}
 use Rattle.claims.proofs.Cases.{number, done}
-use Rattle.claims.proofs.Abstraction.{seen_places, places-recounted, seen_batch, seen_waiting}
+use Rattle.claims.proofs.Abstraction.{seen_places, places-recounted, seen_batch}
 use Rattle.claims.proofs.SimulationRelation.{abstraction, seen_staging, none_seen, some-seen, facts, staged_long, Sound, Related}
 use Rattle.claims.proofs.SimulationSteps.{Simulates}
 

@@ -16,7 +16,7 @@ use Rattle.ring.proofs.Segment.{length-segment}
 use Rattle.engine_record.specs.declared.Setup.{Setup as Numbers}
 use Rattle.engine_record.specs.declared.EngineRecord.{EngineRecord}
 use Rattle.engine_record.specs.Staged.{no_staged, is_idle}
-use Rattle.engine_record.specs.Queue.{ready_bytes, write_offset, waiting}
+use Rattle.engine_record.specs.Queue.{ready_bytes, write_offset}
 use Rattle.engine_record.proofs.Unfinished.{Unfinished, staged_cases}
 use Rattle.queue.specs.Refusals.{first_refusal, set_up_table}
 use Rattle.queue.specs.Calls.{unless_refused, initial_record, set_up_result, with_client, with_batch, with_staged, without_client, new_batch, more, is_last, after_piece, piece_offset as offsetOfPiece}

@@ -15,17 +15,14 @@ use Rattle.word.proofs.Tests.{or_false}
 use Rattle.register.specs.Bank.{write_register}
 use Rattle.register.specs.Task.{task_of}
 use Rattle.register.specs.declared.bank.Bank.{Bank}
-use Rattle.register.specs.declared.bank.WriteResult.{WriteResult}
-use Rattle.register.specs.declared.bank.WriteResult.TheVariants.{Written, Refused}
+use Rattle.std.specs.Prelude.{Result, Ok, Err, ⊤}
+use Rattle.register.specs.declared.bank.WriteFault.{WriteFault}
 use Rattle.register.specs.declared.task.Task.{Task}
 use Rattle.task_check.specs.declared.fault.Fault.{Fault}
 use Rattle.task_check.specs.declared.fault.Fault.TheVariants.{ReservedBits, GroupLength}
 use Rattle.task_check.specs.declared.task.Bounds.{Bounds}
-use Rattle.task_check.specs.declared.task.TaskCheck.{TaskCheck}
-use Rattle.task_check.specs.declared.task.TaskCheck.TheVariants.{Valid, Invalid}
 use Rattle.task_check.specs.Rules.{check_task}
-use Rattle.batch.specs.declared.verdict.Verdict.TheVariants.{Faulty}
-use Rattle.batch.specs.Batch.{DecodedBatch, BatchEnd, finished, faulty, stop_with, cons_task, DecoderState, between_tasks, in_group, reserved_bits, bad_group_length, decode_header, after_write, after_task_check, group_of, decode_from, decode_batch, verdict_of}
+use Rattle.batch.specs.Batch.{with_fault, DecodedBatch, BatchEnd, finished, faulty, stop_with, cons_task, DecoderState, between_tasks, in_group, reserved_bits, bad_group_length, decode_header, after_write, after_task_check, group_of, decode_from, decode_batch, verdict_of}
 use Rattle.batch.proofs.Readings.{on_from, on_with}
 use Rattle.batch.proofs.Steps.{faulty_stopped}
 use Rattle.raster.specs.Task.{draw_tasks}
@@ -137,11 +134,11 @@ module _ (bounds : Bounds) where
   unfolding decode_from
   word_cut b k n offset ends head w ws on lower = by (write_register b offset w) refl
     where
-      by : (x : WriteResult) → write_register b offset w ≡ x
+      by : (x : Result Bank WriteFault) → write_register b offset w ≡ x
           → First head (after_write b k x (on_with bounds k (in_group n (offset + 4) ends head) ws))
           ⊎ Cut b k (in_group (suc n) offset ends head) (suc n) (w ∷ ws) (after_write b k x (on_with bounds k (in_group n (offset + 4) ends head) ws))
-      by (Refused f) e = inl (refl, omega arith)
-      by (Written next) e =
+      by (Err f) e = inl (refl, omega arith)
+      by (Ok next) e =
           let r = decode_from bounds next (k + 1) (in_group n (offset + 4) ends head) ws in
           ⊎_elim (λ (z : First head r). inl z)
           (λ (c : Cut next (k + 1) (in_group n (offset + 4) ends head) n ws r). inr (record {
@@ -149,7 +146,7 @@ module _ (bounds : Bounds) where
             enough = omega (arith, c.enough);
             within = omega (arith, c.within);
             bank = c.bank;
-            reads = ap (λ (x : WriteResult). after_write b k x (on_with bounds k (in_group n (offset + 4) ends head) (take c.count ws))) e ∙ c.reads;
+            reads = ap (λ (x : Result Bank WriteFault). after_write b k x (on_with bounds k (in_group n (offset + 4) ends head) (take c.count ws))) e ∙ c.reads;
             low = above_less (k + suc c.count) (k + 1 + c.count) r.ending (omega arith) c.low;
             rest = ap (λ (m : ℕ). decode_from bounds c.bank m between_tasks (drop c.count ws)) (next_word k c.count) ∙ c.rest;
           }))
@@ -168,20 +165,20 @@ module _ (bounds : Bounds) where
       after : DecodedBatch
       after = decode_from bounds b k between_tasks ws
 
-      by : (check : TaskCheck) → check_task bounds (task_of b) ≡ check → First head (after_task_check check b head after) ⊎ Cut b k (in_group zero offset true head) 0 ws (after_task_check check b head after)
-      by Valid e = inr (record {
+      by : (check : Result ⊤ Fault) → check_task bounds (task_of b) ≡ check → First head (after_task_check check b head after) ⊎ Cut b k (in_group zero offset true head) 0 ws (after_task_check check b head after)
+      by (Ok tt) e = inr (record {
         count = c.count;
         enough = c.enough;
         within = c.within;
         bank = c.bank;
         reads =
             ended b k offset head (take c.count ws)
-            ∙ ap (λ (check : TaskCheck). after_task_check check b head (decode_from bounds b k between_tasks (take c.count ws))) e
+            ∙ ap (λ (check : Result ⊤ Fault). after_task_check check b head (decode_from bounds b k between_tasks (take c.count ws))) e
             ∙ ap (cons_task (task_of b)) c.reads;
         low = c.low;
         rest = c.rest;
       })
-      by (Invalid f) e = inl (refl, omega arith)
+      by (Err f) e = inl (refl, omega arith)
 
   cut_from : (b : Bank) (k : ℕ) (position : DecoderState) (ws : List ℕ) → Claim b k position ws (decode_from bounds b k position ws)
   unfolding decode_from
@@ -197,7 +194,7 @@ module _ (bounds : Bounds) where
   cut_from b k (in_group zero offset true head) [] = judged_cut b k offset head [] (between_tasks-none b k [] (refl, tt))
   cut_from b k (in_group zero offset true head) (h ∷ ws) = judged_cut b k offset head (h ∷ ws) (between_tasks_cut b k h ws (cut_from b (k + 1) (group_of k h) ws))
 
-pub standing-before : (bounds : Bounds) (bank : Bank) (words memory : List ℕ) (tasks : ℕ) (fault : Fault) (offset : ℕ) → verdict_of (decode_batch bounds bank words) ≡ Faulty tasks fault offset
+pub standing-before : (bounds : Bounds) (bank : Bank) (words memory : List ℕ) (tasks : ℕ) (fault : Fault) (offset : ℕ) → verdict_of (decode_batch bounds bank words) ≡ with_fault tasks fault offset
     → Standing bounds bank words memory tasks fault offset
 standing-before bounds bank words memory tasks fault offset v =
     let c = cut_from bounds bank 0 between_tasks words in

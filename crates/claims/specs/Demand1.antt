@@ -5,8 +5,7 @@ use Rattle.engine_record.specs.declared.Setup.{Setup}
 use Rattle.task_check.specs.declared.fault.Fault.{Fault}
 use Rattle.task_check.specs.Faults.{fault_number, fault_status}
 use Rattle.register.specs.declared.task.Task.{Task}
-use Rattle.batch.specs.declared.verdict.Verdict.TheVariants.{Faulty}
-use Rattle.batch.specs.Batch.{decode_batch, tasks_drawn}
+use Rattle.batch.specs.Batch.{with_fault, decode_batch, tasks_drawn}
 use Rattle.raster.specs.Task.{draw_tasks}
 use Rattle.encoder.specs.Forms.{Form, form_allowed, form_size}
 use Rattle.encoder.specs.Encoder.{answer_of, buffer_after, encode_refusal_of as encoderNumber}
@@ -49,7 +48,7 @@ pub record OfCalls (s : State) : Type 0 where
   pub refused_no_change : (call : Call) → RefusalNoOp (perform_call call s).answer s (perform_call call s).after
   -- a faulty batch "leaves with fault number, place, status", and "tasks before the faulty one stand, and the status word carries their number in the upper
   -- half, finish bit clear" (02, 5): a run that is not refused, and finds a fault. Memory after is memory with these tasks drawn, and they are that many
-  pub faulty : (tasks : ℕ) (fault : Fault) (place : ℕ) → first_refusal (refusal_table_of run s) ≡ 0 → oldest_verdict s.engine s.ring ≡ Faulty tasks fault place →
+  pub faulty : (tasks : ℕ) (fault : Fault) (place : ℕ) → first_refusal (refusal_table_of run s) ≡ 0 → oldest_verdict s.engine s.ring ≡ with_fault tasks fault place →
       (perform_call run s ≡ record {
         answer =
             completed (oldest s.engine).client (oldest s.engine).ticket

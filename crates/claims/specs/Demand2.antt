@@ -1,14 +1,12 @@
 -- Demand 2: a batch is read, judged and drawn exactly as the papers say. How it is read, judged and drawn is defined in crates batch (`decode_batch`,
 -- `verdict_of`) and raster (`draw_batch`); this says that run answers and draws by them on any record, ring and memory, and what holds of them for any
 -- batch. proofs/Demand2.antt proves it.
-use Rattle.std.specs.Prelude.{◌≡◌, List, ℕ, ◌+◌, ◌*◌, ◌<◌, ◌≤◌, length, take, drop}
+use Rattle.std.specs.Prelude.{◌≡◌, List, ℕ, ◌+◌, ◌*◌, ◌<◌, ◌≤◌, length, take, drop, Ok}
 use Rattle.register.specs.declared.bank.Bank.{Bank}
 use Rattle.task_check.specs.declared.fault.Fault.{Fault}
 use Rattle.task_check.specs.declared.task.Bounds.{Bounds}
-use Rattle.batch.specs.declared.verdict.Verdict.TheVariants.{Faultless, Faulty}
-use Rattle.batch.specs.Batch.{faulty, between_tasks, stop_with, decode_from, decode_batch, verdict_of, tasks_drawn}
+use Rattle.batch.specs.Batch.{with_fault, without_fault, faulty, between_tasks, stop_with, decode_from, decode_batch, verdict_of, tasks_drawn}
 use Rattle.batch.specs.Marks.{task_end_count}
-use Rattle.encoder.specs.declared.Answer.TheVariants.{Written}
 use Rattle.encoder.specs.Forms.{Form, form_size}
 use Rattle.encoder.specs.Encoder.{answer_of, task_bytes, buffer_after}
 use Rattle.encoder.specs.ReadsBack.{EncodeDecodeRoundTrip}
@@ -29,7 +27,7 @@ pub record Standing (bounds : Bounds) (bank : Bank) (words memory : List ℕ) (t
   -- how many words stand before the faulty task, so that byte 4 * before is its first
   pub before : ℕ
   pub within : 4 * before ≤ offset
-  pub faultless : verdict_of (decode_batch bounds bank (take before words)) ≡ Faultless tasks
+  pub faultless : verdict_of (decode_batch bounds bank (take before words)) ≡ without_fault tasks
   pub same : draw_batch bounds bank words memory ≡ draw_batch bounds bank (take before words) memory
   -- read on from there, with the registers as those words left them: no task is finished before the fault
   pub begins : decode_from bounds (decode_batch bounds bank (take before words)).bank before between_tasks (drop before words)
@@ -40,13 +38,13 @@ pub record OfBatch (bounds : Bounds) (bank : Bank) (words memory : List ℕ) : T
   -- all its tasks are drawn, each on what the tasks before it left; of a faulty batch those before its fault
   pub drawn : draw_batch bounds bank words memory ≡ draw_tasks (tasks_drawn (decode_batch bounds bank words)) memory
   -- "tasks before the faulty one stand, and the status word carries their number" (02, 5)
-  pub stands : (tasks : ℕ) (fault : Fault) (offset : ℕ) → verdict_of (decode_batch bounds bank words) ≡ Faulty tasks fault offset → Standing bounds bank words memory tasks fault offset
+  pub stands : (tasks : ℕ) (fault : Fault) (offset : ℕ) → verdict_of (decode_batch bounds bank words) ≡ with_fault tasks fault offset → Standing bounds bank words memory tasks fault offset
   -- "no byte outside a task's output rows changes": what is written, with what, and what is not
   pub writes : WriteFrame bounds bank words memory
   -- the task number "is the task-end marks in the batch"
-  pub tasks : (number : ℕ) → verdict_of (decode_batch bounds bank words) ≡ Faultless number → number ≡ task_end_count words
+  pub tasks : (number : ℕ) → verdict_of (decode_batch bounds bank words) ≡ without_fault number → number ≡ task_end_count words
   -- a fault's place, in bytes, lies in the batch
-  pub place : (tasks : ℕ) (fault : Fault) (offset : ℕ) → verdict_of (decode_batch bounds bank words) ≡ Faulty tasks fault offset → offset < 4 * length words
+  pub place : (tasks : ℕ) (fault : Fault) (offset : ℕ) → verdict_of (decode_batch bounds bank words) ≡ with_fault tasks fault offset → offset < 4 * length words
 
 -- what run answers and leaves: the oldest batch, read from the record's reset values on and within its client's bounds, is judged and drawn
 abbrev pub run_performed : State → CallResult
@@ -63,13 +61,13 @@ pub record OfRun (s : State) : Type 0 where
   -- a run that is not refused: its verdict and its drawing
   pub executes : first_refusal (refusal_table_of run s) ≡ 0 → perform_call run s ≡ run_performed s
   -- a fault's place lies in the batch as it was submitted
-  pub place : (tasks : ℕ) (fault : Fault) (offset : ℕ) → oldest_verdict s.engine s.ring ≡ Faulty tasks fault offset → offset < (oldest s.engine).length
+  pub place : (tasks : ℕ) (fault : Fault) (offset : ℕ) → oldest_verdict s.engine s.ring ≡ with_fault tasks fault offset → offset < (oldest s.engine).length
 
 -- "fills the first 80 bytes, no others", in the second form 100 (02, request 3); of a refusal Demand1 says that it changes none
 pub record Filled (form : Form) (buffer : List ℕ) : Type 0 where
   pub size : length (buffer_after form buffer) ≡ length buffer
-  pub front : answer_of form (length buffer) ≡ Written → take (form_size form) (buffer_after form buffer) ≡ task_bytes form
-  pub others : answer_of form (length buffer) ≡ Written → drop (form_size form) (buffer_after form buffer) ≡ drop (form_size form) buffer
+  pub front : answer_of form (length buffer) ≡ Ok tt → take (form_size form) (buffer_after form buffer) ≡ task_bytes form
+  pub others : answer_of form (length buffer) ≡ Ok tt → drop (form_size form) (buffer_after form buffer) ≡ drop (form_size form) buffer
 
 pub record Demand2 : Type 0 where
   pub batch : (bounds : Bounds) (bank : Bank) (words memory : List ℕ) → OfBatch bounds bank words memory

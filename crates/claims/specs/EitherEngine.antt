@@ -1,7 +1,8 @@
 -- The fast engine and the slow one over a list of calls (02, request 13: "the same memory and answers on every record, ring and memory, refused and
 -- faulty ones included"). Each run may be made by either; all other calls draw nothing and are the same functions for both, closing too.
 -- proofs/EitherEngine.antt proves it.
-use Rattle.std.specs.Prelude.{◌≡◌, Bool, List, [], ◌∷◌, ℕ}
+use Rattle.std.specs.Prelude.{◌≡◌, List, [], ◌∷◌, ℕ}
+use Rattle.renderer.specs.declared.Renderer.{Renderer}
 use Rattle.engine.specs.declared.RunResult.{RunResult}
 use Rattle.engine.specs.Run.{RunBy}
 use Rattle.model.specs.Calls.{Call, run, Answer}
@@ -9,7 +10,7 @@ use Rattle.claims.specs.Engine.{State, CallResult, run_call, perform_call, answe
 
 -- One call (02, request 13): a run by either engine, of which the contract of `run::run_by` says `RunBy`, or any call as its contract says it is (Engine).
 pub data Performed : Call → State → CallResult → Type 0 where
-  by_engine : (slow : Bool) (s : State) (r : RunResult) (memory : List ℕ) → RunBy slow s.engine s.ring s.memory r memory → Performed run s (run_call s r memory)
+  by_engine : (renderer : Renderer) (s : State) (r : RunResult) (memory : List ℕ) → RunBy renderer s.engine s.ring s.memory r memory → Performed run s (run_call s r memory)
   shared : (call : Call) (s : State) → Performed call s (perform_call call s)
 
 -- A list of calls, each on what the one before it left: the answers, and record, ring and memory at the end. The choice between the two engines (02,

@@ -1,11 +1,12 @@
 -- The engine over a list of calls: each call is what its contract says it is (crates queue and engine, specs), and finds record, ring and
 -- memory as the call before it left them.
-use Rattle.std.specs.Prelude.{◌≡◌, List, [], ◌∷◌, ℕ, zero, suc, length}
+use Rattle.std.specs.Prelude.{◌≡◌, List, [], ◌∷◌, ℕ, zero, suc, length, Result, Ok, Err}
 use Rattle.engine_record.specs.declared.EngineRecord.{EngineRecord}
+use Rattle.queue.specs.declared.Refusal.{Refusal}
 use Rattle.queue.specs.declared.Answer.{Answer as QueueAnswer}
-use Rattle.queue.specs.declared.Answer.TheVariants.{Refused, Done, Opened, Accepted, Ready, Missing}
+use Rattle.queue.specs.declared.Answer.TheVariants.{Done, Opened, Accepted, Ready, Missing}
 use Rattle.queue.specs.declared.Reply.{Reply}
-use Rattle.queue.specs.Answers.{refusal_number_of, value_of}
+use Rattle.queue.specs.Answers.{number_of, refusal_number_of, value_of}
 use Rattle.queue.specs.Calls.{set_up_result, open_result, submit_result, submit_ring, begin_result, piece_result, piece_ring, cancel_result, close_result, pending_answer}
 use Rattle.engine.specs.declared.RunResult.{RunResult}
 use Rattle.engine.specs.Outcome.{CompletionValues, run_refusal_of as refusalOf, values_of}
@@ -43,7 +44,11 @@ model_answer_of (Missing bytes) = missing bytes
 model_answer_of (Opened client) = opened client
 model_answer_of (Ready count) = ready count
 model_answer_of Done = done
-model_answer_of (Refused number) = refused number
+
+-- refused or not
+abbrev pub model_reply_of : Result QueueAnswer Refusal → Answer
+model_reply_of (Ok answer) = model_answer_of answer
+model_reply_of (Err refusal) = refused (number_of refusal)
 
 -- a run that gave this result and left this memory (01, "Engine, desks, queue": run)
 abbrev pub run_call : State → RunResult → (memory : List ℕ) → CallResult
@@ -64,7 +69,7 @@ perform_call (submit client bytes) s =
     }
 perform_call run s = run_call s (run_result s.engine s.ring s.memory) (run_memory s.engine s.ring s.memory)
 perform_call (pending client) s =
-    let a : QueueAnswer = pending_answer s.engine client in
+    let a : Result QueueAnswer Refusal = pending_answer s.engine client in
     record { answer = answer_or_refusal (refusal_number_of a) (ready (value_of a)); after = s }
 perform_call (begin client total) s =
     let r : Reply = begin_result s.engine (length s.ring) client total in
@@ -72,7 +77,7 @@ perform_call (begin client total) s =
 perform_call (piece client bytes) s =
     let r : Reply = piece_result s.engine s.ring client bytes in
     record {
-      answer = answer_or_refusal (refusal_number_of r.answer) (model_answer_of r.answer);
+      answer = answer_or_refusal (refusal_number_of r.answer) (model_reply_of r.answer);
       after = mk_state r.engine (piece_ring s.engine s.ring client bytes) s.memory;
     }
 perform_call (cancel client) s =

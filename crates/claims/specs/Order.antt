@@ -7,7 +7,7 @@ use Rattle.model.specs.State.{initial_model}
 use Rattle.model.specs.Order.{Reordered, executions, submissions, AllRun, verdicts_of}
 use Rattle.model.specs.Properties.{Exchange, AnyOrder, AnySubmissions, ReorderedByHand}
 use Rattle.claims.specs.ModelProperties.{batch_semantics}
-use Rattle.claims.specs.Engine.{State, answers_of, state_after, SetUpAccepted, initial_state}
+use Rattle.claims.specs.Engine.{answers_of, state_after, SetUpAccepted, initial_state}
 
 -- Two lists of calls that the engine is given, from the same record, ring and memory. What they open, accept and execute, and what waits, is given by
 -- the model, whose answers are the engine's (Demand3, a).

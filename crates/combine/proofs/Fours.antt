@@ -12,11 +12,11 @@ use Rattle.pixel.specs.Rules.{blend_mode_factors}
 use Rattle.pixel.specs.declared.blend.BlendFactors.{BlendFactors}
 use Rattle.pixel.specs.declared.blend.BlendMode.TheVariants.{SrcOver, Add}
 use Rattle.lanes.specs.Lanes.{two, Done}
-use Rattle.lanes.proofs.Laws.{under_or, two-low, two_high, two-small}
+use Rattle.lanes.proofs.Laws.{under_or, two-low, two_high}
 use Rattle.lanes.proofs.Passes.{same-done}
 use Rattle.lanes.specs.Alphas.{alphas_are}
 use Rattle.lanes.proofs.opacity.Sums.{are}
-use Rattle.plan.specs.Blend.{alpha_at, blend_at, duo, top_at, lane_at}
+use Rattle.plan.specs.Blend.{alpha_at, blend_at, duo, lane_at}
 use Rattle.plan.proofs.Blends.{Bytes}
 use Rattle.plan.proofs.channels.Channels.{duo-low, duo_high, copied, stayed, cleared}
 
@@ -33,16 +33,6 @@ module _ (s d a b : List ℕ) (o : ℕ) (is_b : (k : ℕ) → k < 8 → get_or b
   blend_two rule is-a k l =
       let t : k / 2 * 2 + 1 < 8 = omega arith in
       cc (is-a k l, is_b k l, is-a (k / 2 * 2 + 1) t, is_b (k / 2 * 2 + 1) t)
-
-  -- SRC_OVER by the source's complement
-  pub over-two : Bytes s → ((k : ℕ) → k < 8 → get_or a k 0 ≡ 65535 - two s (o + k * 2)) → (k : ℕ) → k < 8 →
-      duo (65535 - get_or a k 0) 255 (get_or b k 0) (get_or a (k / 2 * 2 + 1) 0 / 256) ≡ two_at (blend_mode_factors SrcOver) s d o k
-  unfolding two_at
-  over-two in-s is-a k l =
-      let t : k / 2 * 2 + 1 < 8 = omega arith in
-      let u : 65535 - get_or a k 0 ≡ two s (o + k * 2) = omega (arith, is-a k l, two-small s (o + k * 2) in-s) in
-      let v : get_or a (k / 2 * 2 + 1) 0 / 256 ≡ 255 - two s (o + (k / 2 * 2 + 1) * 2) / 256 = omega (arith, is-a (k / 2 * 2 + 1) t, two-small s (o + (k / 2 * 2 + 1) * 2) in-s) in
-      cc (is_b k l)
 
 -- the lanes blended and stored
 module _ (rule : BlendFactors) (s d r e : List ℕ) (o : ℕ) (four : o % 4 ≡ 0) (in-s : Bytes s) (in-d : Bytes d)

@@ -6,10 +6,8 @@ ghost use Rattle.pixel.specs.Rules.{blend_mode_factors};
 ghost use Rattle.pixel.specs.declared.blend.BlendMode.TheVariants.{Add};
 ghost use Rattle.lanes.specs.Lanes.{Done};
 ghost use Rattle.plan.specs.Blend.{alpha_at, blend_at};
-ghost use Rattle.plan.specs.Plan.{Planned};
 
 use lanes::bytes::{clear, copy};
-use lanes::wide;
 use plan::channels::{held_sum, mix_one};
 use plan::{Plan, factor};
 
@@ -17,16 +15,14 @@ pub fn add_bytes(d: &mut [u8], s: &[u8], a: usize, n: usize)
     requires { (a ≤ n) × ((n ≤ length d.old) × (n ≤ length s.now)) }
     ensures { Done (blend_at (blend_mode_factors Add) s.now d.old) d.old d.new a n }
 {
-    let mut j = a;
-    while j < n {
+    for j in a..n {
         d[j] = held_sum(s[j], d[j]);
-        j += 1;
     }
 }
 
 // The row d, blended with the row s: added up, copied, left as it is, or cleared.
 pub fn constant_row(d: &mut [u8], s: &[u8], p: Plan)
-    requires { (length d.old ≤ length s.now) × (Planned p × (p.constant ≡ true)) }
+    requires { (length d.old ≤ length s.now) × (p.constant ≡ true) }
     ensures { Done (blend_at p.rule s.now d.old) d.old d.new 0 (length d.old) }
 {
     let n = d.len();
@@ -51,11 +47,8 @@ fn mix_bytes(d: &mut [u8], s: &[u8], fs: u16, fd: u16)
     requires { (length d.old ≤ length s.now) × ((fs ≤ 255) × (fd ≤ 255)) }
     ensures { Done (λ j. blended_channel (get_or s.now j 0) fs (get_or d.old j 0) fd) d.old d.new 0 (length d.old) }
 {
-    let n = d.len();
-    let mut j = 0;
-    while j < n {
+    for j in 0..d.len() {
         d[j] = mix_one(s[j], fs, d[j], fd);
-        j += 1;
     }
 }
 
@@ -79,11 +72,11 @@ fn row_by_factors(d: &mut [u8], s: &[u8], fs: u16, fd: u16)
 // place.
 pub fn constant_alpha_row(d: &mut [u8], s: &[u8], alpha: u8, p: Plan)
     requires { ((length d.old ≤ length s.now) × ((j : ℕ) → j < length d.old → alpha_at s.now j ≡ alpha))
-        × (Planned p × ((p.source.destination ≡ 0) × (p.destination.destination ≡ 0))) }
+        × ((p.source.destination ≡ 0) × (p.destination.destination ≡ 0)) }
     ensures { Done (blend_at p.rule s.now d.old) d.old d.new 0 (length d.old) }
 {
     let fs = p.source;
     let fd = p.destination;
-    let a = wide(alpha);
+    let a = alpha as u16;
     row_by_factors(d, s, factor(fs, a, 0), factor(fd, a, 0));
 }

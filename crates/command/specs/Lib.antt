@@ -1,2 +1,2 @@
--- What the contracts of readings cite.
-pub mod Counts
+-- What the law of what is fed the bytes of a file cites.
+pub mod Orders

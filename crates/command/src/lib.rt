@@ -2,11 +2,11 @@
 // contract can say which bytes are read or written.
 #![tactic(auto)]
 
-ghost use Rattle.std.specs.Prelude.{◌≡◌, false, cond, ◌+◌, ◌<◌, length, leb};
-ghost use Rattle.command.specs.Counts.{IsPrefixLen};
+ghost use Rattle.std.specs.Prelude.{◌≡◌, cond, ◌+◌, ◌<◌, ◌≤◌, length, leb, IfOk, IsErr};
+ghost use Rattle.command.specs.Orders.{Reflexive, Transitive};
 ghost use Rattle.ppm.specs.Words.{parse_number, format_named};
 
-use ppm::{ParsedFormat, ParsedNumber};
+use pixel::Format;
 use std::env::FillError;
 use std::io::{Cursor, ErrorKind, Read, Write};
 use std::rt::{Env, Files};
@@ -30,11 +30,15 @@ pub fn large_buffer() -> [u8; 65536]
 
 // ---- standard error
 
+// That something failed. What did was reported on standard error, if that could be written to.
+#[derive(Clone, Copy, Debug, PartialEq, Eq)]
+pub struct Failed;
+
 // What was handed to the system to write: so many bytes; and whether it took them.
 #[derive(Clone, Copy)]
 pub struct Printed {
     pub size: usize,
-    pub ok: bool,
+    pub outcome: Result<(), Failed>,
 }
 
 // Hands a text to the system, for standard error. Bytes that are no UTF-8 are shown as the replacement character.
@@ -80,7 +84,11 @@ pub fn complain(rt: &impl Eprint, what: &[u8], why: &[u8]) -> Printed
     let is_explained = report(rt, why);
     Printed {
         size: what.len() + why.len(),
-        ok: is_named & is_explained,
+        outcome: if is_named & is_explained {
+            Ok(())
+        } else {
+            Err(Failed)
+        },
     }
 }
 
@@ -96,31 +104,32 @@ pub fn argument_count(rt: &impl Env) -> usize {
     usize::MAX
 }
 
-// Puts an argument at the start of a buffer, and says how long it is. One that is missing or too long for the buffer counts as empty.
-pub fn argument(rt: &impl Env, index: usize, text: &mut [u8]) -> usize
-    ensures { IsPrefixLen result text.new }
+// The text of an argument, put in a buffer. One that is missing or too long for the buffer counts as empty.
+pub fn argument<'a>(rt: &impl Env, index: usize, text: &'a mut [u8]) -> &'a [u8]
+    ensures { length result.now ≤ length text.old }
 {
-    rt.arg(index, text).unwrap_or(0)
+    let n = rt.arg(index, text).unwrap_or(0);
+    &text[..n]
 }
 
 // The number that an argument's text is; that it is none is reported, with the argument's name. An argument that was too long for its buffer is an empty
 // text (`argument`), and so no number.
-pub fn number_in(rt: &impl Eprint, text: &[u8], name: &[u8]) -> ParsedNumber
+pub fn number_in(rt: &impl Eprint, text: &[u8], name: &[u8]) -> Option<u32>
     ensures { result ≡ parse_number text.now }
 {
     let number = ppm::number_of(text);
-    if let ParsedNumber::Invalid = number {
+    if number.is_none() {
         complain(rt, name, b" is not a number from 0 to 4294967295\n");
     }
     number
 }
 
 // The format that an argument's text names; that it names none is reported.
-pub fn format_in(rt: &impl Eprint, text: &[u8]) -> ParsedFormat
+pub fn format_in(rt: &impl Eprint, text: &[u8]) -> Option<Format>
     ensures { result ≡ format_named text.now }
 {
     let format = ppm::format_named(text);
-    if let ParsedFormat::Unknown = format {
+    if format.is_none() {
         complain(rt, b"FORMAT", b" is not argb8888, rgb888 or rgb565\n");
     }
     format
@@ -128,11 +137,11 @@ pub fn format_in(rt: &impl Eprint, text: &[u8]) -> ParsedFormat
 
 // ---- files
 
-// An opened file, none if that failed, and the length of its path.
+// An opened file, and its path.
 #[derive(Drop)]
-pub struct Opened<F> {
-    pub file: Option<F>,
-    pub length: usize,
+pub struct Opened<'a, F> {
+    pub file: F,
+    pub path: &'a [u8],
 }
 
 // The system's errors of an argument that is missing or too long for a buffer of a path's size (EINVAL and ENAMETOOLONG).
@@ -151,69 +160,110 @@ fn open_read<R: Files>(rt: &R, path: &[u8]) -> io::Result<R::File> {
     }
 }
 
-// Opens the file that an argument names, and puts its path at the start of a buffer. What failed is reported.
-pub fn open_argument<R: Files + Env + Eprint>(
+// Opens the file that an argument names, whose path is put in a buffer. What failed is reported.
+pub fn open_argument<'a, R: Files + Env + Eprint>(
     rt: &R,
     index: usize,
-    path: &mut [u8],
-) -> Opened<R::File>
-    ensures { IsPrefixLen result.length path.new }
+    path: &'a mut [u8],
+) -> Result<Opened<'a, R::File>, Failed>
+    ensures { IfOk result (λ opened. length opened.path.now ≤ length path.old) }
 {
-    let n = match rt.arg(index, path) {
-        Ok(n) => n,
+    let length = match rt.arg(index, path) {
+        Ok(length) => length,
         Err(error) => {
             fail(rt, b"FILE", unfilled(error));
-            return Opened {
-                file: None,
-                length: 0,
-            };
+            return Err(Failed);
         }
     };
-    match open_read(rt, &path[..n]) {
-        Ok(file) => Opened {
-            file: Some(file),
-            length: n,
-        },
+    let path = &path[..length];
+    match open_read(rt, path) {
+        Ok(file) => Ok(Opened { file, path }),
         Err(error) => {
-            fail(rt, &path[..n], error);
-            Opened {
-                file: None,
-                length: n,
-            }
+            fail(rt, path, error);
+            Err(Failed)
         }
     }
 }
 
-// What a reading brought: so many bytes, none at the end of the file or if it failed, and whether it went well.
-#[derive(Clone, Copy)]
-pub struct Piece {
-    pub count: usize,
-    pub ok: bool,
-}
-
-// Reads once. What failed is reported, with the file's name.
-pub fn read_piece(rt: &impl Eprint, file: &mut impl Read, name: &[u8], piece: &mut [u8]) -> Piece
-    ensures { IsPrefixLen result.count piece.new }
+// Reads once, into a buffer: the bytes that came, none at the end of the file. What failed is reported, with the file's name.
+pub fn read_piece<'a>(
+    rt: &impl Eprint,
+    file: &mut impl Read,
+    name: &[u8],
+    piece: &'a mut [u8],
+) -> Result<&'a [u8], Failed>
+    ensures { IfOk result (λ came. length came.now ≤ length piece.old) }
 {
     match file.read(piece) {
-        Ok(count) => Piece { count, ok: true },
+        Ok(count) => Ok(&piece[..count]),
         Err(error) => {
             fail(rt, name, error);
-            Piece {
-                count: 0,
-                ok: false,
-            }
+            Err(Failed)
         }
     }
+}
+
+// What is fed the bytes of a file, piece after piece.
+pub trait Feed<R> {
+    // What it may come to from what it is, whatever bytes it is fed.
+    ghost Reaches: { Self → Self → Type 0 };
+
+    // Takes a piece of the file, whole.
+    fn feed(&mut self, rt: &R, piece: &[u8]) -> Result<(), Failed>
+        ensures { Reaches self.old self.new };
+
+    ghost reflexive: { Reflexive Reaches };
+
+    ghost transitive: { Transitive Reaches };
+}
+
+// Reads once, and feeds what came; whether anything did.
+fn read_some<R: Eprint, T: Feed<R>>(
+    rt: &R,
+    file: &mut impl Read,
+    name: &[u8],
+    reader: &mut T,
+) -> Result<bool, Failed>
+    ensures { T.Reaches reader.old reader.new }
+{
+    let mut piece = large_buffer();
+    let came = read_piece(rt, file, name, &mut piece)?;
+    if came.is_empty() {
+        return Ok(false);
+    }
+    reader.feed(rt, came)?;
+    Ok(true)
+}
+
+// Reads a file to its end, and feeds all of it. A proved loop has to end, and nothing says that a file does. So the turns are counted, up
+// to a number that no run reaches.
+pub fn read_all<R: Eprint, T: Feed<R>>(
+    rt: &R,
+    file: &mut impl Read,
+    name: &[u8],
+    reader: &mut T,
+) -> Result<(), Failed>
+    ensures { T.Reaches reader.old reader.new }
+{
+    for _ in 0..u64::MAX {
+        if !read_some(rt, file, name, reader)? {
+            break;
+        }
+    }
+    Ok(())
 }
 
 // Hands the first n bytes of `out` to the system, for standard output. What did fail is reported on standard error. Where there are no n
 // bytes none is handed over, and it did not go well; else whether it did is the system's, and no contract can say which.
+// Kept (promise): what `print` says of an n past the buffer, which `&out[..n]` could not be asked for, stands in its contract.
 pub fn print(rt: &(impl Print + Eprint), out: &[u8], n: usize) -> Printed
-    ensures { (result.size ≡ cond (leb n (length out.now)) n 0) × (length out.now < n → result.ok ≡ false) }
+    ensures { (result.size ≡ cond (leb n (length out.now)) n 0) × (length out.now < n → IsErr result.outcome) }
 {
     if out.len() < n {
-        return Printed { size: 0, ok: false };
+        return Printed {
+            size: 0,
+            outcome: Err(Failed),
+        };
     }
     let written = rt.write_all(&out[..n]);
     let is_written = written.is_ok();
@@ -222,6 +272,6 @@ pub fn print(rt: &(impl Print + Eprint), out: &[u8], n: usize) -> Printed
     }
     Printed {
         size: n,
-        ok: is_written,
+        outcome: if is_written { Ok(()) } else { Err(Failed) },
     }
 }

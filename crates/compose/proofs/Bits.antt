@@ -4,7 +4,8 @@ use Prim.Native.Nat.{ℕ, ◌≤◌}
 use native.Mathlib.Omega.{arith}
 use Rattle.transform.specs.declared.Rotation.{Rotation}
 use Rattle.transform.specs.declared.Rotation.TheVariants.{Rotate0, Rotate90, Rotate180, Rotate270}
-use Rattle.orientation.specs.Bits.{turns, weight}
+use Rattle.transform.specs.Transform.{turns}
+use Rattle.orientation.specs.Bits.{weight}
 
 pub weight_most : (on : Bool) (n : ℕ) → weight on n ≤ n
 weight_most true n = omega arith

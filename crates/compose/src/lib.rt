@@ -2,8 +2,7 @@
 #![tactic(auto)]
 
 ghost use Rattle.std.specs.Prelude.{◌≡◌};
-ghost use Rattle.transform.specs.Transform.{rotation_of};
-ghost use Rattle.orientation.specs.Bits.{turns, weight, setting_of, bits_of};
+ghost use Rattle.orientation.specs.Bits.{weight, setting_of, bits_of};
 ghost use Rattle.orientation.specs.Compose.{quarter, added, turned_back, is_odd, flipped_twice, exchanged, compose, inverse};
 
 use transform::{Flip, Rotation, Transform};
@@ -48,12 +47,7 @@ fn turned_back(r: Rotation) -> Rotation
 fn is_odd(r: Rotation) -> bool
     ensures { result ≡ is_odd r }
 {
-    match r {
-        Rotation::Rotate0 => false,
-        Rotation::Rotate90 => true,
-        Rotation::Rotate180 => false,
-        Rotation::Rotate270 => true,
-    }
+    matches!(r, Rotation::Rotate90 | Rotation::Rotate270)
 }
 
 // A flip and then another.
@@ -81,6 +75,7 @@ fn exchanged(odd: bool, flip: Flip) -> Flip
 }
 
 // The one setting that draws what the first and then the second draw.
+#[tactic(auto, unfolding(orientation::specs::Compose::compose))]
 pub fn compose(first: Transform, second: Transform) -> Transform
     ensures { result ≡ compose first second }
 {
@@ -95,6 +90,7 @@ pub fn compose(first: Transform, second: Transform) -> Transform
 }
 
 // The setting that undoes one.
+#[tactic(auto, unfolding(orientation::specs::Compose::inverse))]
 pub fn inverse(setting: Transform) -> Transform
     ensures { result ≡ inverse setting }
 {
@@ -108,28 +104,6 @@ pub fn inverse(setting: Transform) -> Transform
 
 // ---- settings as bits of a source control word: 7 V flip, 6 H flip, 5:4 quarter turns
 
-fn rotation_of(n: u32) -> Rotation
-    ensures { result ≡ rotation_of n }
-{
-    match n {
-        0 => Rotation::Rotate0,
-        1 => Rotation::Rotate90,
-        2 => Rotation::Rotate180,
-        _ => Rotation::Rotate270,
-    }
-}
-
-fn turns(rotation: Rotation) -> u32
-    ensures { result ≡ turns rotation }
-{
-    match rotation {
-        Rotation::Rotate0 => 0,
-        Rotation::Rotate90 => 1,
-        Rotation::Rotate180 => 2,
-        Rotation::Rotate270 => 3,
-    }
-}
-
 // What a bit counts for.
 fn weight(on: bool, n: u32) -> u32
     ensures { result ≡ weight on n }
@@ -138,6 +112,7 @@ fn weight(on: bool, n: u32) -> u32
 }
 
 // The setting in any word. Its other bits are not looked at.
+#[tactic(auto, unfolding(orientation::specs::Bits::setting_of))]
 pub fn setting_of(word: u32) -> Transform
     ensures { result ≡ setting_of word }
 {
@@ -146,17 +121,18 @@ pub fn setting_of(word: u32) -> Transform
             horizontal: word / 64 % 2 == 1,
             vertical: word / 128 % 2 == 1,
         },
-        rotation: rotation_of(word / 16 % 4),
+        rotation: Rotation::from(word / 16 % 4),
     }
 }
 
 // The bits of a setting, with zeros in all other places.
+#[tactic(auto, using(crate::proofs::Bits::weight_most, crate::proofs::Bits::turns_most), unfolding(orientation::specs::Bits::bits_of))]
 pub fn bits_of(setting: Transform) -> u32
     ensures { result ≡ bits_of setting }
 {
     let flip = setting.flip;
     let rotation = setting.rotation;
-    weight(flip.vertical, 128) + weight(flip.horizontal, 64) + turns(rotation) * 16
+    weight(flip.vertical, 128) + weight(flip.horizontal, 64) + u32::from(rotation) * 16
 }
 
 // The setting in two words, one drawn after the other, as one.

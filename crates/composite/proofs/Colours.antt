@@ -20,7 +20,7 @@ use Rattle.lanes.proofs.Laws.{both}
 use Rattle.lanes.proofs.Passes.{to_end}
 use Rattle.composite.specs.Mode.{mode_at}
 use Rattle.composite.proofs.alpha_modes.Alphas.{at-alpha, at_other}
-use Rattle.plan.specs.Blend.{alpha_at, blend_at}
+use Rattle.plan.specs.Blend.{blend_at}
 use Rattle.plan.specs.declared.Plan.{Plan}
 use Rattle.unpremultiply.specs.Unpremultiply.{unpremultiplied}
 use Rattle.unpremultiply.specs.Prepared.{divided_at, prepared_at}

@@ -7,14 +7,12 @@ use Rattle.register.specs.declared.task.Alpha.{Alpha}
 use Rattle.register.specs.declared.task.Blending.{Blending}
 use Rattle.row_pixels.specs.Row.{RowIsWide}
 use Rattle.plan.specs.Blend.{alpha_at}
-use Rattle.plan.specs.Plan.{Planned}
 use Rattle.plan.specs.declared.Plan.{Plan}
 
 -- what is asked where a row is blended in place
 pub record Mixes (d s : List ℕ) (width : ℕ) (blending : Blending) (p : Plan) : Type 0 where
   pub wide : RowIsWide d width Argb8888
   pub room : width * 4 ≤ length s
-  pub planned : Planned p
   pub rule : p.rule ≡ blending.rule
 
 -- a row of n bytes to which an alpha mode was applied: under Global all its alphas are the one given

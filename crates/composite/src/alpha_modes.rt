@@ -8,12 +8,6 @@ ghost use Rattle.composite.specs.Mode.{mode_at};
 use pixel::AlphaMode;
 use word::{read_le32, write_le32};
 
-fn wide(x: u8) -> u32
-    ensures { (result ≡ x) × (result ≤ 255) }
-{
-    x as u32
-}
-
 fn prod(a: u32, b: u32) -> u32
     requires { (a ≤ 255) × (b ≤ 255) }
     ensures { (result ≡ a * b) × (result ≤ 65025) }
@@ -31,23 +25,23 @@ fn nearest(p: u32) -> u32
 }
 
 // The alpha of the pixel at o, set or mixed. A pixel is loaded and stored as one word: this form makes vectors in a loop over pixels.
-fn set_alpha(row: &mut [u8], o: usize, a: u32)
-    requires { (o + 4 ≤ length row.old) × (a ≤ 255) }
+fn set_alpha(row: &mut [u8], o: usize, a: u8)
+    requires { o + 4 ≤ length row.old }
     ensures { row.new ≡ set row.old (o + 3) a }
 {
     let w = read_le32(row, o);
-    write_le32(row, o, w % 16777216 + a * 16777216);
+    write_le32(row, o, w % 16777216 + a as u32 * 16777216);
 }
 
-fn mix_alpha(row: &mut [u8], o: usize, a: u32)
-    requires { (o + 4 ≤ length row.old) × (a ≤ 255) }
+fn mix_alpha(row: &mut [u8], o: usize, a: u8)
+    requires { o + 4 ≤ length row.old }
     ensures { row.new ≡ set row.old (o + 3) (div255 (get_or row.old (o + 3) 0 * a)) }
 {
     let w = read_le32(row, o);
     write_le32(
         row,
         o,
-        w % 16777216 + nearest(prod(w / 16777216, a)) * 16777216,
+        w % 16777216 + nearest(prod(w / 16777216, a as u32)) * 16777216,
     );
 }
 
@@ -55,11 +49,8 @@ fn set_alphas(row: &mut [u8], width: usize, a: u8)
     requires { width * 4 ≤ length row.old }
     ensures { Done (mode_at Global a row.old) row.old row.new 0 (width * 4) }
 {
-    let g = wide(a);
-    let mut x = 0;
-    while x < width {
-        set_alpha(row, x * 4, g);
-        x += 1;
+    for x in 0..width {
+        set_alpha(row, x * 4, a);
     }
 }
 
@@ -67,11 +58,8 @@ fn mix_alphas(row: &mut [u8], width: usize, a: u8)
     requires { width * 4 ≤ length row.old }
     ensures { Done (mode_at Mixed a row.old) row.old row.new 0 (width * 4) }
 {
-    let g = wide(a);
-    let mut x = 0;
-    while x < width {
-        mix_alpha(row, x * 4, g);
-        x += 1;
+    for x in 0..width {
+        mix_alpha(row, x * 4, a);
     }
 }
 
@@ -80,16 +68,8 @@ pub fn alpha_row(row: &mut [u8], width: usize, mode: AlphaMode, global: u8)
     ensures { Done (mode_at mode global row.old) row.old row.new 0 (width * 4) }
 {
     match mode {
-        AlphaMode::Pixel => {
-            return;
-        }
-        AlphaMode::Global => {
-            set_alphas(row, width, global);
-            return;
-        }
-        AlphaMode::Mixed => {
-            mix_alphas(row, width, global);
-            return;
-        }
+        AlphaMode::Pixel => {}
+        AlphaMode::Global => set_alphas(row, width, global),
+        AlphaMode::Mixed => mix_alphas(row, width, global),
     }
 }

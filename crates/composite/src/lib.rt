@@ -7,7 +7,6 @@ ghost use Rattle.std.specs.Prelude.{◌≡◌, ◌%◌, ◌≤◌, length};
 ghost use Rattle.pixel.specs.declared.format.Format.TheVariants.{Argb8888};
 ghost use Rattle.lanes.specs.Lanes.{Done};
 ghost use Rattle.plan.specs.Blend.{blend_at};
-ghost use Rattle.plan.specs.Plan.{Planned};
 ghost use Rattle.row_pixels.specs.Row.{colour_in, row_stored};
 ghost use Rattle.row_pixels.specs.Composite.{composite};
 ghost use Rattle.composite.specs.Buffer.{Mixes, HasItsAlphas, has_constant_alpha};
@@ -28,17 +27,16 @@ fn has_constant_alpha(mode: AlphaMode, p: Plan) -> bool
     let fs = p.source;
     let fd = p.destination;
     match mode {
-        AlphaMode::Pixel => false,
         AlphaMode::Global => {
             (fs.destination == 0) & (fd.destination == 0) & !p.over & !p.constant
         }
-        AlphaMode::Mixed => false,
+        AlphaMode::Pixel | AlphaMode::Mixed => false,
     }
 }
 
 // The row d, blended with a row s that has the alphas of its mode.
 fn blend_prepared(d: &mut [u8], s: &[u8], source: Alpha, p: Plan)
-    requires { ((length d.old ≤ length s.now) × (length d.old % 4 ≡ 0)) × (HasItsAlphas source s.now (length d.old) × Planned p) }
+    requires { ((length d.old ≤ length s.now) × (length d.old % 4 ≡ 0)) × HasItsAlphas source s.now (length d.old) }
     ensures { Done (blend_at p.rule s.now d.old) d.old d.new 0 (length d.old) }
 {
     let mode = source.mode;

@@ -18,10 +18,8 @@ pub fn to_565(d: &mut [u8], s: &[u8], width: usize)
     requires { RowIsWide d.old width Rgb565 × (width * 4 ≤ length s.now) }
     ensures { d.new ≡ row_stored Rgb565 (λ x. colour_in s.now x) d.old }
 {
-    let mut x = 0;
-    while x < width {
+    for x in 0..width {
         put2(d, x * 2, narrow(read_le32(s, x * 4)) as u16);
-        x += 1;
     }
 }
 
@@ -44,11 +42,9 @@ pub fn from_565(d: &mut [u8], s: &[u8], width: usize)
     requires { RowIsWide d.old width Argb8888 × (width * 2 ≤ length s.now) }
     ensures { d.new ≡ row_stored Argb8888 (λ x. load_pixel Rgb565 s.now (x * 2)) d.old }
 {
-    let mut x = 0;
-    while x < width {
+    for x in 0..width {
         let v = get2(s, x * 2);
         put2(d, x * 4, low(v));
         put2(d, x * 4 + 2, high(v));
-        x += 1;
     }
 }

@@ -20,10 +20,8 @@ pub fn to_888(d: &mut [u8], s: &[u8], width: usize)
     requires { RowIsWide d.old width Rgb888 × (width * 4 ≤ length s.now) }
     ensures { d.new ≡ row_stored Rgb888 (λ x. colour_in s.now x) d.old }
 {
-    let mut x = 0;
-    while x < width {
+    for x in 0..width {
         put_three(d, x * 3, s[x * 4], s[x * 4 + 1], s[x * 4 + 2]);
-        x += 1;
     }
 }
 
@@ -32,10 +30,8 @@ pub fn from_888(d: &mut [u8], s: &[u8], width: usize)
     requires { RowIsWide d.old width Argb8888 × (width * 3 ≤ length s.now) }
     ensures { d.new ≡ row_stored Argb8888 (λ x. load_pixel Rgb888 s.now (x * 3)) d.old }
 {
-    let mut x = 0;
-    while x < width {
+    for x in 0..width {
         put_three(d, x * 4, s[x * 3], s[x * 3 + 1], s[x * 3 + 2]);
         d[x * 4 + 3] = 255;
-        x += 1;
     }
 }

@@ -11,10 +11,9 @@ pub fn close(engine: EngineRecord, memory: &mut [u8], client: u32) -> Reply
     ensures { (result ≡ close_result engine (length memory.old) client)
         × (memory.new ≡ close_memory engine memory.old client) }
 {
-    let number = queue::clients::close_refusal(engine, memory.len(), client);
-    if number != 0 {
+    if let Err(refusal) = queue::clients::close_refusal(engine, memory.len(), client) {
         return Reply {
-            answer: Answer::Refused(number),
+            answer: Err(refusal),
             engine: engine,
         };
     }
@@ -25,7 +24,7 @@ pub fn close(engine: EngineRecord, memory: &mut [u8], client: u32) -> Reply
     let size = end - start;
     lanes::bytes::clear(&mut memory[start..end], 0, size);
     Reply {
-        answer: Answer::Done,
+        answer: Ok(Answer::Done),
         engine: queue::clients::without_client(engine, client),
     }
 }

@@ -4,32 +4,39 @@
 
 pub mod closing;
 
-ghost use Rattle.std.specs.Prelude.{◌≡◌, true, ◌≤◌, ◌<◌, length, get_or, set};
+ghost use Rattle.std.specs.Prelude.{◌≡◌, true, ◌≤◌, ◌<◌, length, get_or, set, MatchOption};
 ghost use Rattle.engine_record.specs.Slots.{free};
 ghost use Rattle.engine_record.specs.Tickets.{slot_of_ticket};
 ghost use Rattle.engine_record.specs.Clients.{no_client};
 ghost use Rattle.engine_record.specs.Queue.{ready_slots};
 ghost use Rattle.engine_record.specs.Rules.{valid};
 ghost use Rattle.engine_record.specs.Checking.{checked_of};
+ghost use Rattle.queue.specs.Answers.{refusal_number_of};
 ghost use Rattle.queue.specs.Refusals.{first_refusal};
 ghost use Rattle.engine.specs.Run.{run_table, oldest_ticket, oldest, bounds_of_client, reset_of, pending_lowered, without_oldest};
 
-use engine_record::{Batch, Checked, Client, EngineRecord, Slot, SlotState};
+use engine_record::{Batch, Client, Counted, EngineRecord, Slot};
+use queue::Refusal;
 use register::Bank;
 use task_check::Bounds;
 
-// What run is refused with, 0 if it takes a batch; `found` is what the check of the record found, `ring` and `memory` are the lengths of what is lent.
-pub fn run_refusal(engine: EngineRecord, found: Checked, ring: usize, memory: usize) -> u32
+// Whether run is refused; `found` is what the check of the record found, `ring` and `memory` are the lengths of what is lent.
+pub fn run_refusal(
+    engine: EngineRecord,
+    found: Option<Counted>,
+    ring: usize,
+    memory: usize,
+) -> Result<(), Refusal>
     requires { found ≡ checked_of engine }
-    ensures { result ≡ first_refusal (run_table engine ring memory) }
+    ensures { refusal_number_of result ≡ first_refusal (run_table engine ring memory) }
 {
-    if !found.valid {
-        return 11;
-    }
+    let Some(counted) = found else {
+        return Err(Refusal::BadRecord);
+    };
     let setup = engine.setup;
     let lent = !(ring == setup.ring) | !(memory == setup.memory);
-    let none = found.ready == 0;
-    queue::first_refusal(lent, 10, queue::first_refusal(none, 9, 0))
+    queue::refuse(lent, Refusal::OtherLength)?;
+    queue::refuse(counted.ready == 0, Refusal::NothingToRun)
 }
 
 // What a client may touch: its window, and common.
@@ -72,12 +79,11 @@ fn lower_pending(clients: [Client; 4], client: u32) -> [Client; 4]
 }
 
 // The slot of the oldest of so many ready batches.
-pub fn oldest_slot(engine: EngineRecord, ready: usize) -> usize
+pub fn oldest_slot(engine: EngineRecord, ready: usize) -> Option<usize>
     requires { (ready_slots engine ≤ 8) × (ready ≡ ready_slots engine) }
-    ensures { result ≡ slot_of_ticket (oldest_ticket engine) engine.slots }
+    ensures { MatchOption result (slot_of_ticket (oldest_ticket engine) engine.slots ≡ 8) (λ at. (at ≡ slot_of_ticket (oldest_ticket engine) engine.slots) × (at < 8)) }
 {
-    let slots = engine.slots;
-    engine_record::slot_table::slot_of_age(slots, engine.next_ticket, ready)
+    engine_record::slot_table::slot_of_age(&engine.slots, engine.next_ticket, ready)
 }
 
 // The slots with one of them free.
@@ -86,9 +92,7 @@ fn with_slot_free(slots: [Slot; 8], at: usize) -> [Slot; 8]
     ensures { result ≡ set slots at free }
 {
     let mut after = slots;
-    after[at] = Slot {
-        state: SlotState::Free,
-    };
+    after[at] = None;
     after
 }
 

@@ -15,8 +15,9 @@ use Rattle.word.proofs.Written.{length-bytes}
 use Rattle.register.specs.declared.bank.Bank.{Bank}
 use Rattle.task_check.specs.declared.task.Bounds.{Bounds}
 use Rattle.batch.specs.Batch.{decode_batch}
-use Rattle.encoder.specs.declared.Answer.{Answer}
-use Rattle.encoder.specs.declared.Answer.TheVariants.{Written, Forbidden, ShortBuffer}
+use Rattle.std.specs.Prelude.{Result, Ok, Err, ⊤}
+use Rattle.encoder.specs.declared.EncodeError.{EncodeError}
+use Rattle.encoder.specs.declared.EncodeError.TheVariants.{Forbidden, ShortBuffer}
 use Rattle.encoder.specs.Words.{task_words, shaded_words}
 use Rattle.encoder.specs.Forms.{Form, first_form, second_form, fields_in, form_allowed, form_size, form_words}
 use Rattle.encoder.specs.Encoder.{answer_of, task_bytes, buffer_on_answer, buffer_after}
@@ -29,18 +30,18 @@ length-task_bytes (first_form f) = length-bytes (form_words (first_form f))
 length-task_bytes (second_form f steps) = length-bytes (form_words (second_form f steps))
 
 -- what is accepted
-pub accepted : (w : Form) (size : ℕ) → answer_of w size ≡ Written → (form_allowed w ≡ true) × (form_size w ≤ size)
+pub accepted : (w : Form) (size : ℕ) → answer_of w size ≡ Ok tt → (form_allowed w ≡ true) × (form_size w ≤ size)
 unfolding answer_of
 accepted w size e = go (form_allowed w) (ltb size (form_size w)) refl refl e
   where
-    go : (a s : Bool) → form_allowed w ≡ a → ltb size (form_size w) ≡ s → cond a (cond s ShortBuffer Written) Forbidden ≡ Written
+    go : (a s : Bool) → form_allowed w ≡ a → ltb size (form_size w) ≡ s → ◌≡◌ {A = Result ⊤ EncodeError} (cond a (cond s (Err ShortBuffer) (Ok tt)) (Err Forbidden)) (Ok tt)
         → (form_allowed w ≡ true) × (form_size w ≤ size)
     go true false p q r = (p, ltb-false size (form_size w) q)
     go true true p q r = absurd (let z : ◌≡◌ {A = ℕ} 0 1 = cc in omega arith)
     go false s p q r = absurd (let z : ◌≡◌ {A = ℕ} 0 1 = cc in omega arith)
 
 -- the buffer of a task that is written
-module _ (w : Form) (buffer : List ℕ) (e : answer_of w (length buffer) ≡ Written) where
+module _ (w : Form) (buffer : List ℕ) (e : answer_of w (length buffer) ≡ Ok tt) where
   after : buffer_after w buffer ≡ task_bytes w ++ drop (form_size w) buffer
   unfolding buffer_after spliced
   after = let z : 0 + form_size w ≡ form_size w = omega arith in rw (e, length-task_bytes w, z)
@@ -68,7 +69,6 @@ pub length-after : (w : Form) (buffer : List ℕ) → length (buffer_after w buf
 unfolding buffer_after
 length-after w buffer = go (answer_of w (length buffer)) refl
   where
-    go : (a : Answer) → answer_of w (length buffer) ≡ a → length (buffer_on_answer a (task_bytes w) buffer) ≡ length buffer
-    go Written e = length-spliced 0 (task_bytes w) buffer (omega (arith, length-task_bytes w, (accepted w (length buffer) e).1))
-    go Forbidden e = refl
-    go ShortBuffer e = refl
+    go : (a : Result ⊤ EncodeError) → answer_of w (length buffer) ≡ a → length (buffer_on_answer a (task_bytes w) buffer) ≡ length buffer
+    go (Ok tt) e = length-spliced 0 (task_bytes w) buffer (omega (arith, length-task_bytes w, (accepted w (length buffer) e).1))
+    go (Err x) e = refl

@@ -8,12 +8,13 @@ use lib.Dec.{eqb}
 use lib.ListN.{length, length-append}
 use borrow.Author.Tests.{ne_eqb, le-ltb}
 use Rattle.word.specs.Field.{field}
-use Rattle.register.specs.Table.{register_kind_of, is_writable, accepts_word, source_control_accepts, destination_control_accepts, output_control_accepts, size_accepts, stride_accepts, step_accepts, blending_accepts}
+use Rattle.register.specs.Table.{register_kind_of, accepts_word, source_control_accepts, destination_control_accepts, output_control_accepts, size_accepts, stride_accepts, step_accepts, blending_accepts}
 use Rattle.pixel.specs.declared.gradient.Steps.{Steps}
 use Rattle.register.specs.Bank.{surface_after_write, steps_after_write, bank_after_write, write_register}
 use Rattle.register.specs.Task.{task_of}
 use Rattle.register.specs.declared.bank.Bank.{Bank}
-use Rattle.register.specs.declared.bank.WriteResult.TheVariants.{Written}
+use Rattle.std.specs.Prelude.{Option, Some, Ok}
+use Rattle.register.specs.declared.table.RegisterKind.{RegisterKind}
 use Rattle.task_check.specs.declared.task.Bounds.{Bounds}
 use Rattle.task_check.specs.Rules.{check_task}
 use Rattle.batch.specs.Batch.{between_tasks, in_group, reserved_bits, bad_group_length, after_task_check, decode_from}
@@ -21,11 +22,11 @@ use Rattle.encoder.specs.Words.{task_words, shaded_words}
 
 -- the register at an offset takes a word
 abbrev TakenAt : ℕ → ℕ → Type 0
-TakenAt offset w = (b : Bank) → write_register b offset w ≡ Written (bank_after_write b offset w)
+TakenAt offset w = (b : Bank) → write_register b offset w ≡ Ok (bank_after_write b offset w)
 
-taken_at : (offset w : ℕ) → is_writable (register_kind_of offset) ≡ true → accepts_word (register_kind_of offset) w ≡ true → TakenAt offset w
+taken_at : (offset w : ℕ) (kind : RegisterKind) → register_kind_of offset ≡ Some kind → accepts_word kind w ≡ true → TakenAt offset w
 unfolding write_register
-taken_at offset w e t b = rw (e, t)
+taken_at offset w kind e t b = rw (e, t)
 
 -- so do the registers from an offset on, a word each
 abbrev TakenFrom : ℕ → List ℕ → Type 0
@@ -128,12 +129,12 @@ step_words s = s.alpha ∷ s.red ∷ s.green ∷ s.blue ∷ []
 steps-taken : (s : Steps) → StepsTaken s → TakenFrom 0x030 (step_words s)
 unfolding register_kind_of
 steps-taken s t = (
-  taken_at 0x030 s.alpha refl t.alpha,
+  taken_at 0x030 s.alpha _ refl t.alpha,
   (
-    taken_at 0x034 s.red refl t.red,
+    taken_at 0x034 s.red _ refl t.red,
     (
-      taken_at 0x038 s.green refl t.green,
-      (taken_at 0x03C s.blue refl t.blue, tt),
+      taken_at 0x038 s.green _ refl t.green,
+      (taken_at 0x03C s.blue _ refl t.blue, tt),
     ),
   ),
 )
@@ -143,14 +144,14 @@ module _ (b : Bank) (t : AllTaken b) where
   first : TakenFrom 0x010 (words1 b)
   unfolding register_kind_of
   first = (
-    taken_at 0x010 b.source.control refl t.source,
+    taken_at 0x010 b.source.control _ refl t.source,
     (
-      taken_at 0x014 b.source.size refl t.source_size,
+      taken_at 0x014 b.source.size _ refl t.source_size,
       (
-        taken_at 0x018 b.source.stride refl t.source_stride,
+        taken_at 0x018 b.source.stride _ refl t.source_stride,
         (
-          taken_at 0x01C b.colour refl refl,
-          (taken_at 0x020 b.source.address refl refl, tt),
+          taken_at 0x01C b.colour _ refl refl,
+          (taken_at 0x020 b.source.address _ refl refl, tt),
         ),
       ),
     ),
@@ -159,34 +160,34 @@ module _ (b : Bank) (t : AllTaken b) where
   second : TakenFrom 0x050 (words2 b)
   unfolding register_kind_of
   second = (
-    taken_at 0x050 b.destination.control refl t.destination,
+    taken_at 0x050 b.destination.control _ refl t.destination,
     (
-      taken_at 0x054 b.destination.size refl t.destination_size,
-      (taken_at 0x058 b.destination.stride refl t.destination_stride, tt),
+      taken_at 0x054 b.destination.size _ refl t.destination_size,
+      (taken_at 0x058 b.destination.stride _ refl t.destination_stride, tt),
     ),
   )
 
   third : TakenFrom 0x060 (b.destination.address ∷ [])
   unfolding register_kind_of
-  third = (taken_at 0x060 b.destination.address refl refl, tt)
+  third = (taken_at 0x060 b.destination.address _ refl refl, tt)
 
   fourth : TakenFrom 0x090 (b.blending ∷ [])
   unfolding register_kind_of
-  fourth = (taken_at 0x090 b.blending refl t.blending, tt)
+  fourth = (taken_at 0x090 b.blending _ refl t.blending, tt)
 
   fifth : TakenFrom 0x100 (words5 b)
   unfolding register_kind_of
   fifth = (
-    taken_at 0x100 b.output.control refl t.output,
+    taken_at 0x100 b.output.control _ refl t.output,
     (
-      taken_at 0x104 b.output.size refl t.output_size,
-      (taken_at 0x108 b.output.stride refl t.output_stride, tt),
+      taken_at 0x104 b.output.size _ refl t.output_size,
+      (taken_at 0x108 b.output.stride _ refl t.output_stride, tt),
     ),
   )
 
   sixth : TakenFrom 0x110 (b.output.address ∷ [])
   unfolding register_kind_of
-  sixth = (taken_at 0x110 b.output.address refl refl, tt)
+  sixth = (taken_at 0x110 b.output.address _ refl refl, tt)
 
 -- the bank after the first group, and after each of the others but the last
 abbrev after1 : Bank → Bank → Bank

@@ -1,5 +1,5 @@
 -- What encoded tasks are read back as (demand 2: "what the task writer writes reads back as the same task").
-use Rattle.std.specs.Prelude.{◌≡◌, true, ℕ, ◌+◌, ◌^◌, ◌<◌, List, [], ◌∷◌, ◌++◌, eqb}
+use Rattle.std.specs.Prelude.{◌≡◌, true, ℕ, ◌+◌, ◌^◌, ◌<◌, List, [], ◌∷◌, ◌++◌, eqb, Ok}
 use Rattle.pixel.specs.Formats.{format_of, layout_of}
 use Rattle.pixel.specs.Colours.{unpacked}
 use Rattle.pixel.specs.Alpha.{alpha_mode_of}
@@ -17,7 +17,6 @@ use Rattle.register.specs.declared.task.Destination.{Destination}
 use Rattle.register.specs.declared.task.Blending.{Blending}
 use Rattle.register.specs.declared.task.Task.{Task}
 use Rattle.task_check.specs.declared.task.Bounds.{Bounds}
-use Rattle.task_check.specs.declared.task.TaskCheck.TheVariants.{Valid}
 use Rattle.task_check.specs.Rules.{check_task}
 use Rattle.batch.specs.Batch.{DecodedBatch, finished, stop_with, after_task_check}
 use Rattle.encoder.specs.declared.fields.SurfaceFields.{SurfaceFields}
@@ -120,7 +119,7 @@ AllFit32Bits (w ∷ ws) = Fits32Bits (fields_in w) × AllFit32Bits ws
 -- 25 to 28 do not come of any of them
 abbrev pub AllPassTaskCheck : Bounds → Steps → List Form → Type 0
 AllPassTaskCheck bounds old [] = Unit
-AllPassTaskCheck bounds old (w ∷ ws) = (check_task bounds (task_with (steps_after old w) (fields_in w)) ≡ Valid) × AllPassTaskCheck bounds (steps_after old w) ws
+AllPassTaskCheck bounds old (w ∷ ws) = (check_task bounds (task_with (steps_after old w) (fields_in w)) ≡ Ok tt) × AllPassTaskCheck bounds (steps_after old w) ws
 
 -- the task-end header, in words from the task's first; one more word follows it
 abbrev pub end_header : Form → ℕ

@@ -1,7 +1,7 @@
 -- "Reading it back gives exactly these fields" (02, request 1): from any bank on, so whatever 0x090 was reset to, and within any bounds. It is of
 -- the first form: the steps (02, request 3) stay what they were, and colour mode has no use for them.
 -- proofs/tint/ReadsBack.antt proves it out of the encoder's own round trip.
-use Rattle.std.specs.Prelude.{◌≡◌, true, false, List, [], ◌∷◌, ℕ, ◌^◌, ◌<◌, length, take, Float}
+use Rattle.std.specs.Prelude.{◌≡◌, true, false, List, [], ◌∷◌, ℕ, ◌^◌, ◌<◌, length, take, Float, Ok}
 use Rattle.word.specs.Word.{words}
 use Rattle.pixel.specs.declared.format.Format.TheVariants.{Argb8888}
 use Rattle.pixel.specs.declared.blend.AlphaMode.TheVariants.{Pixel}
@@ -17,13 +17,11 @@ use Rattle.register.specs.declared.task.Task.{Task}
 use Rattle.task_check.specs.declared.task.Bounds.{Bounds}
 use Rattle.batch.specs.Batch.{decode_batch}
 use Rattle.batch.specs.Marks.{task_end_count}
-use Rattle.encoder.specs.declared.Answer.TheVariants.{Written}
 use Rattle.encoder.specs.declared.fields.SurfaceFields.{SurfaceFields}
 use Rattle.encoder.specs.Forms.{first_form}
 use Rattle.encoder.specs.RoundTrip.{surface_with, task_with, expected_decoding}
 use Rattle.score.specs.Coverage.{coverage_of}
 use Rattle.encoder.specs.declared.tint.Tint.{Tint}
-use Rattle.encoder.specs.declared.tint.Answer.TheVariants.{Encoded}
 use Rattle.encoder.specs.Tint.{tint_colour, fields_of, answer_of, buffer_after}
 
 -- the pixel's own alpha
@@ -60,10 +58,10 @@ pub record Handed (tint : Tint) (output : SurfaceFields) : Type 0 where
 
 pub record TintRoundTrip (bounds : Bounds) (bank : Bank) (score : Float) (tint : Tint) (output : SurfaceFields) : Type 0 where
   -- what is left in a buffer that was written is read as the one task with these fields, and 25 to 28 are judged of them
-  pub one_task : (buffer : List ℕ) → answer_of score tint output (length buffer) ≡ Encoded Written →
+  pub one_task : (buffer : List ℕ) → answer_of score tint output (length buffer) ≡ Ok tt →
       decode_batch bounds bank (words (take 80 (buffer_after score tint output buffer))) ≡ expected_decoding bounds bank 0 (first_form (fields_of score tint output) ∷ [])
   -- it has one task-end mark
-  pub one_task_end : (buffer : List ℕ) → answer_of score tint output (length buffer) ≡ Encoded Written →
+  pub one_task_end : (buffer : List ℕ) → answer_of score tint output (length buffer) ≡ Ok tt →
       task_end_count (words (take 80 (buffer_after score tint output buffer))) ≡ 1
   -- and these fields are those of the tint, no other
   pub same_task : task_with bank.steps (fields_of score tint output) ≡ tint_task bank.steps tint (coverage_of score) output

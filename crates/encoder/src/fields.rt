@@ -1,9 +1,12 @@
 // A task's fields, each a plain number of any value: which of them the registers' rules allow, and the registers that they give.
-ghost use Rattle.std.specs.Prelude.{◌≡◌, true};
+// Kept (C interface): these structs are the header's, field by field, so numbers stand for codes, kinds and flags.
+ghost use Rattle.std.specs.Prelude.{◌≡◌, true, cond, ◌&&◌, Ok, Err};
+ghost use Rattle.encoder.specs.declared.EncodeError.TheVariants.{Forbidden};
 ghost use Rattle.encoder.specs.Fields.{surface_allowed, alpha_allowed, transform_allowed, source_allowed, destination_allowed, blending_allowed, steps_allowed, allowed};
 ghost use Rattle.encoder.specs.Registers.{surface_registers, alpha_bits, transform_bits, source_control, destination_control, blending_word, bank_of};
-ghost use Rattle.encoder.specs.Solid.{reset_blending, solid_fields};
+ghost use Rattle.encoder.specs.Solid.{reset_blending, solid_source, solid_fields};
 
+use crate::EncodeError;
 use pixel::gradient::Steps;
 use pixel::{AlphaMode, Factor, Format};
 use register::{Bank, SurfaceRegisters};
@@ -147,15 +150,29 @@ impl TransformFields {
 }
 
 impl SourceFields {
+    // One colour, of this size.
+    pub(crate) fn solid(width: u32, height: u32) -> SourceFields
+        ensures { result ≡ solid_source width height }
+    {
+        SourceFields {
+            surface: SurfaceFields {
+                width,
+                height,
+                ..SurfaceFields::RESET
+            },
+            alpha: AlphaFields::RESET,
+            transform: TransformFields::RESET,
+            mode: 1,
+            enable: 1,
+        }
+    }
+
     fn is_allowed(self) -> bool
         ensures { result ≡ source_allowed self }
     {
-        let surface = self.surface;
-        let alpha = self.alpha;
-        let transform = self.transform;
-        surface.is_allowed()
-            & alpha.is_allowed()
-            & transform.is_allowed()
+        self.surface.is_allowed()
+            & self.alpha.is_allowed()
+            & self.transform.is_allowed()
             & (self.mode < 4)
             & (self.enable < 2)
     }
@@ -164,10 +181,11 @@ impl SourceFields {
         requires { source_allowed self ≡ true }
         ensures { result ≡ source_control self }
     {
-        let surface = self.surface;
-        let alpha = self.alpha;
-        let transform = self.transform;
-        alpha.bits() + surface.format * 0x100 + transform.bits() + self.mode * 0x4 + self.enable
+        self.alpha.bits()
+            + self.surface.format * 0x100
+            + self.transform.bits()
+            + self.mode * 0x4
+            + self.enable
     }
 }
 
@@ -181,18 +199,14 @@ impl DestinationFields {
     fn is_allowed(self) -> bool
         ensures { result ≡ destination_allowed self }
     {
-        let surface = self.surface;
-        let alpha = self.alpha;
-        surface.is_allowed() & alpha.is_allowed() & (self.enable < 2)
+        self.surface.is_allowed() & self.alpha.is_allowed() & (self.enable < 2)
     }
 
     fn control(self) -> u32
         requires { destination_allowed self ≡ true }
         ensures { result ≡ destination_control self }
     {
-        let surface = self.surface;
-        let alpha = self.alpha;
-        alpha.bits() + surface.format * 0x100 + self.enable
+        self.alpha.bits() + self.surface.format * 0x100 + self.enable
     }
 }
 
@@ -239,7 +253,8 @@ impl BlendingFields {
 }
 
 // Whether each step fits its 25 bits.
-pub(crate) fn steps_allowed(steps: Steps) -> bool
+#[tactic(auto, unfolding(crate::specs::Fields::steps_allowed))]
+fn steps_allowed(steps: Steps) -> bool
     ensures { result ≡ steps_allowed steps }
 {
     (steps.alpha < 0x2000000)
@@ -261,19 +276,7 @@ impl Fields {
         ensures { result ≡ solid_fields rule colour width height stride address }
     {
         Fields {
-            source: SourceFields {
-                surface: SurfaceFields {
-                    width,
-                    height,
-                    stride: 0,
-                    address: 0,
-                    format: 0,
-                },
-                alpha: AlphaFields::RESET,
-                transform: TransformFields::RESET,
-                mode: 1,
-                enable: 1,
-            },
+            source: SourceFields::solid(width, height),
             destination: DestinationFields::RESET,
             output: SurfaceFields {
                 width,
@@ -288,34 +291,42 @@ impl Fields {
     }
 
     // Whether each field fits its bits, and each code is one.
+    #[tactic(auto, unfolding(crate::specs::Fields::allowed))]
     pub fn is_allowed(self) -> bool
         ensures { result ≡ allowed self }
     {
-        let source = self.source;
-        let destination = self.destination;
-        let output = self.output;
-        let blending = self.blending;
-        source.is_allowed() & destination.is_allowed() & output.is_allowed() & blending.is_allowed()
+        self.source.is_allowed()
+            & self.destination.is_allowed()
+            & self.output.is_allowed()
+            & self.blending.is_allowed()
+    }
+
+    // The registers with these fields and steps, if each fits its bits, and each code is one.
+    pub(crate) fn bank(self, steps: Steps) -> Result<Bank, EncodeError>
+        ensures { result ≡ cond (allowed self && steps_allowed steps) (Ok (bank_of steps self)) (Err Forbidden) }
+    {
+        if self.is_allowed() & steps_allowed(steps) {
+            Ok(self.registers(steps))
+        } else {
+            Err(EncodeError::Forbidden)
+        }
     }
 
     // The registers with these fields and steps.
-    pub(crate) fn registers(self, steps: Steps) -> Bank
+    #[tactic(auto, unfolding(crate::specs::Fields::allowed, crate::specs::Registers::bank_of))]
+    fn registers(self, steps: Steps) -> Bank
         requires { allowed self ≡ true }
         ensures { result ≡ bank_of steps self }
     {
-        let source = self.source;
-        let destination = self.destination;
-        let output = self.output;
-        let blending = self.blending;
-        let read = source.surface;
-        let under = destination.surface;
+        let read = self.source;
+        let under = self.destination;
         Bank {
-            source: read.registers(source.control()),
-            destination: under.registers(destination.control()),
-            output: output.registers(output.format * 0x100),
+            source: read.surface.registers(read.control()),
+            destination: under.surface.registers(under.control()),
+            output: self.output.registers(self.output.format * 0x100),
             colour: self.colour,
             steps,
-            blending: blending.word(),
+            blending: self.blending.word(),
         }
     }
 }

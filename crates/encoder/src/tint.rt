@@ -2,13 +2,14 @@
 // bytes of a batch of that one task out.
 ghost use Rattle.std.specs.Prelude.{◌≡◌, ◌*◌, length};
 ghost use Rattle.division.specs.Division.{div255};
+ghost use Rattle.encoder.specs.declared.tint.TintError.TheVariants.{Refused};
 ghost use Rattle.encoder.specs.Tint.{tint_colour, tint_fields, tint_refusal_of, answer_of, buffer_after};
 
 use crate::{
-    AlphaFields, BlendingFields, DestinationFields, Fields, SourceFields, SurfaceFields,
-    TransformFields,
+    AlphaFields, BlendingFields, DestinationFields, EncodeError, Fields, SourceFields,
+    SurfaceFields,
 };
-use pixel::{Argb8888, Colour};
+use pixel::{Argb8888, Colour, StoredPixel};
 
 // The colour of a tint. It has no alpha: that is the coverage.
 #[derive(Clone, Copy)]
@@ -18,23 +19,30 @@ pub struct Tint {
     pub blue: u8,
 }
 
-// What is answered: no score was given, or what the encoder answers of the task.
-#[derive(Clone, Copy)]
-pub enum Answer {
+// Why a tint is not written: no score was given, or the encoder refuses the task.
+#[derive(Clone, Copy, Debug, PartialEq, Eq)]
+pub enum TintError {
     // NaN, or outside 0 to 1
     BadScore,
-    Encoded(crate::Answer),
+    Refused(EncodeError),
 }
 
-impl Answer {
-    // The papers' number of a refusal, 0 without one.
-    pub fn number(self) -> u32
-        ensures { result ≡ tint_refusal_of self }
-    {
-        match self {
-            Answer::BadScore => 15,
-            Answer::Encoded(answer) => answer.number(),
-        }
+impl From<EncodeError> for TintError {
+    ghost from_gives = { λ e r. r ≡ Refused e };
+
+    fn from(error: EncodeError) -> TintError {
+        TintError::Refused(error)
+    }
+}
+
+// The papers' number of a refusal, 0 without one.
+pub fn refusal_number(answer: Result<(), TintError>) -> u32
+    ensures { result ≡ tint_refusal_of answer }
+{
+    match answer {
+        Ok(()) => 0,
+        Err(TintError::BadScore) => 15,
+        Err(TintError::Refused(error)) => crate::refusal_number(Err(error)),
     }
 }
 
@@ -58,24 +66,13 @@ fn colour_of(tint: Tint, coverage: u8) -> Colour
 }
 
 // The task's fields: the colour by SRC_OVER over what the output holds.
+#[tactic(auto, unfolding(crate::specs::Tint::tint_fields))]
 fn fields_of(tint: Tint, coverage: u8, output: SurfaceFields) -> Fields
     ensures { result ≡ tint_fields tint coverage output }
 {
     let stored = Argb8888::new(colour_of(tint, coverage));
     Fields {
-        source: SourceFields {
-            surface: SurfaceFields {
-                width: output.width,
-                height: output.height,
-                stride: 0,
-                address: 0,
-                format: 0,
-            },
-            alpha: AlphaFields::RESET,
-            transform: TransformFields::RESET,
-            mode: 1,
-            enable: 1,
-        },
+        source: SourceFields::solid(output.width, output.height),
         destination: DestinationFields {
             surface: output,
             alpha: AlphaFields::RESET,
@@ -83,24 +80,24 @@ fn fields_of(tint: Tint, coverage: u8, output: SurfaceFields) -> Fields
         },
         output,
         colour: stored.word,
-        blending: BlendingFields {
-            source: 1,
-            destination: 3,
-            on: 1,
-            premultiplied: 0,
-        },
+        blending: BlendingFields::SRC_OVER,
     }
 }
 
 // Writes the batch of the one task that tints a rectangle to the first 80 bytes of a buffer, or refuses and writes nothing.
-pub fn encode_tint(score: f32, tint: Tint, output: SurfaceFields, buffer: &mut [u8]) -> Answer
+pub fn encode_tint(
+    score: f32,
+    tint: Tint,
+    output: SurfaceFields,
+    buffer: &mut [u8],
+) -> Result<(), TintError>
     ensures { (result ≡ answer_of score tint output (length buffer.old))
         × (buffer.new ≡ buffer_after score tint output buffer.old) }
 {
-    let is_score = score::is_score(score);
-    if !is_score {
-        return Answer::BadScore;
+    if !score::is_score(score) {
+        return Err(TintError::BadScore);
     }
     let fields = fields_of(tint, score::coverage_of(score), output);
-    Answer::Encoded(crate::encode(fields, buffer))
+    crate::encode(fields, buffer)?;
+    Ok(())
 }

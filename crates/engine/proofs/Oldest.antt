@@ -11,9 +11,9 @@ use Rattle.word.proofs.Tests.{and-true}
 use Rattle.ring.specs.Segment.{wrap_offset}
 use Rattle.task_check.specs.declared.task.Bounds.{Bounds}
 use Rattle.raster.specs.Preconditions.{BoundsInMemory}
+use Rattle.std.proofs.Common.{Option}
 use Rattle.engine_record.specs.declared.Batch.{Batch}
 use Rattle.engine_record.specs.declared.Client.{Client}
-use Rattle.engine_record.specs.declared.Slot.{Slot}
 use Rattle.engine_record.specs.declared.EngineRecord.{EngineRecord}
 use Rattle.engine_record.specs.Slots.{free, ready_batches, sum_over, count_of}
 use Rattle.engine_record.specs.Tickets.{ticket_before, slot_of_ticket, batch_of_ticket, tickets_consecutive, in_ticket_order}
@@ -106,7 +106,7 @@ takes engine ok some four eight =
 
 -- the record that the code makes without it
 pub without_made : (engine : EngineRecord) (at : ℕ) → at ≡ slot_of_ticket (oldest_ticket engine) engine.slots → (b : Batch) → b ≡ oldest engine →
-    (clients : List Client) → clients ≡ pending_lowered engine.clients b.client → (slots : List Slot) → slots ≡ set engine.slots at free →
+    (clients : List Client) → clients ≡ pending_lowered engine.clients b.client → (slots : List (Option Batch)) → slots ≡ set engine.slots at free →
     (read : ℕ) → read ≡ wrap_offset engine.setup.ring (engine.read_offset + b.length) →
     record { setup = engine.setup; clients = clients; slots = slots; read_offset = read; next_ticket = engine.next_ticket; staged = engine.staged } ≡ without_oldest engine
 unfolding without_oldest

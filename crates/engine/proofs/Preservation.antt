@@ -1,9 +1,10 @@
 -- Run as a whole: its number is the table's, a refusal changes nothing, a valid record stays valid, and the batches that were behind the
 -- oldest go on waiting.
+use Rattle.std.proofs.Common.{Err}
 use mathlib.Core.Path.{◌≡◌, refl, ap, sym, ◌∙◌}
 use mathlib.Core.List.{List, ◌∷◌}
 use mathlib.Core.Bool.{true}
-use Prim.Native.Nat.{ℕ, zero, suc, ◌-◌, ◌<◌}
+use Prim.Native.Nat.{ℕ, suc, ◌-◌, ◌<◌}
 use native.Mathlib.Omega.{arith}
 use lib.ListN.{length, get_or, length-set}
 use Rattle.word.specs.Word.{words}
@@ -19,33 +20,27 @@ use Rattle.engine_record.specs.Rules.{valid}
 use Rattle.engine_record.proofs.Line.{held}
 use Rattle.engine_record.proofs.Rules.{LengthGood, valid_facts}
 use Rattle.engine_record.proofs.Taken.{first, taken, waiting-first, first-at, taken-valid, taken-waiting}
+use Rattle.queue.specs.Answers.{refusal_numbered}
 use Rattle.queue.proofs.Validity.{Sized}
-use Rattle.queue.proofs.Preservation.{unless_keeps}
-use Rattle.engine.specs.declared.Outcome.{Outcome}
-use Rattle.engine.specs.declared.Outcome.TheVariants.{Refused, Completed}
+use Rattle.queue.proofs.Preservation.{unless_keeps, number-answered}
 use Rattle.engine.specs.Outcome.{run_refusal_of}
-use Rattle.engine.specs.Run.{run_number, oldest_ticket, oldest, oldest_words, without_oldest, outcome_unless_refused, run_result, run_memory}
+use Rattle.engine.specs.Run.{run_number, oldest_ticket, oldest, oldest_words, without_oldest, run_result, run_memory}
 use Rattle.engine.proofs.Oldest.{owner_open, few, first-is, good}
-use Rattle.engine.proofs.Refusals.{RunAllowed, run-allowed}
+use Rattle.engine.proofs.Refusals.{run-known, RunAllowed, run-allowed}
 use Rattle.engine.proofs.Calls.{completion, run-refused}
 
 -- ---- the paper's number
 
-number-answered : (n : ℕ) (o : Outcome) → run_refusal_of o ≡ 0 → run_refusal_of (outcome_unless_refused n o) ≡ n
-unfolding outcome_unless_refused
-number-answered zero o e = e
-number-answered (suc n) o e = refl
-
 pub run-number : (engine : EngineRecord) (ring memory : List ℕ) → run_refusal_of (run_result engine ring memory).outcome ≡ run_number engine ring memory
 unfolding run_result
-run-number engine ring memory = number-answered (run_number engine ring memory) (Completed (completion engine ring)) refl
+run-number engine ring memory = number-answered (run_number engine ring memory) (completion engine ring) (run-known engine (length ring) (length memory))
 
 -- ---- a refusal changes nothing
 
 pub run-refused_no_op : (engine : EngineRecord) (ring memory : List ℕ) → (run_number engine ring memory ≡ 0 → ⊥) →
-    (run_result engine ring memory ≡ record { outcome = Refused (run_number engine ring memory); engine = engine }) × (run_memory engine ring memory ≡ memory)
+    (run_result engine ring memory ≡ record { outcome = Err (refusal_numbered (run_number engine ring memory)); engine = engine }) × (run_memory engine ring memory ≡ memory)
 run-refused_no_op engine ring memory z =
-    let both = run-refused engine ring memory (run_number engine ring memory) refl z in
+    let both = run-refused engine ring memory (refusal_numbered (run_number engine ring memory)) (run-known engine (length ring) (length memory) z) in
     (sym both.0, sym both.1)
 
 -- ---- the record without its oldest batch

@@ -1,5 +1,5 @@
 -- What it says of run that no row of its table holds.
-use mathlib.Core.Path.{◌≡◌}
+use mathlib.Core.Path.{◌≡◌, refl}
 use mathlib.Core.Bool.{true, not}
 use Prim.Native.Nat.{ℕ, ◌<◌}
 use native.Mathlib.Omega.{arith}
@@ -9,9 +9,14 @@ use Rattle.word.proofs.Tests.{or_false}
 use Rattle.engine_record.specs.declared.EngineRecord.{EngineRecord}
 use Rattle.engine_record.specs.Queue.{ready_slots}
 use Rattle.engine_record.specs.Rules.{valid}
+use Rattle.queue.specs.Answers.{refusal_numbered}
 use Rattle.queue.specs.Refusals.{first_refusal}
-use Rattle.queue.proofs.Refusals.{clear}
+use Rattle.queue.proofs.Refusals.{Known, known, clear}
 use Rattle.engine.specs.Run.{run_table}
+
+pub run-known : (engine : EngineRecord) (given lent : ℕ) → Known (first_refusal (run_table engine given lent))
+unfolding refusal_numbered
+run-known engine given lent = known (run_table engine given lent) (refl, (refl, (refl, tt)))
 
 pub record RunAllowed (engine : EngineRecord) (given lent : ℕ) : Type 0 where
   pub ok : valid engine ≡ true

@@ -1,7 +1,7 @@
 -- Run (01, "Engine, desks, queue": "Run takes the oldest batch", judges it and draws it, "frees its slot and ring bytes, and answers desk,
 -- ticket, status, fault and place"), for every record, ring and memory. Of a faulty batch "tasks before the faulty one stand" (02, 5). A refusal
 -- leaves record and memory as they were. The ring is lent to be read: "Run changes no ring byte."
-use Rattle.std.specs.Prelude.{◌≡◌, List, [], ◌∷◌, Bool, ◌||◌, not, ℕ, zero, suc, ◌+◌, ◌-◌, length, get_or, set, eqb}
+use Rattle.std.specs.Prelude.{◌≡◌, List, [], ◌∷◌, Bool, ◌||◌, not, ℕ, ◌+◌, ◌-◌, length, get_or, set, eqb}
 use Rattle.ring.specs.Segment.{batch_words, wrap_offset}
 use Rattle.register.specs.declared.bank.Bank.{Bank}
 use Rattle.register.specs.Bank.{reset_bank}
@@ -9,6 +9,7 @@ use Rattle.task_check.specs.declared.task.Bounds.{Bounds}
 use Rattle.batch.specs.declared.verdict.Verdict.{Verdict}
 use Rattle.batch.specs.Batch.{decode_batch, verdict_of}
 use Rattle.raster.specs.Batch.{draw_batch}
+use Rattle.renderer.specs.declared.Renderer.{Renderer}
 use Rattle.engine_record.specs.declared.Client.{Client}
 use Rattle.engine_record.specs.declared.Batch.{Batch}
 use Rattle.engine_record.specs.declared.EngineRecord.{EngineRecord}
@@ -17,10 +18,9 @@ use Rattle.engine_record.specs.Tickets.{ticket_before, slot_of_ticket, batch_of_
 use Rattle.engine_record.specs.Clients.{no_client, client_at, window_range}
 use Rattle.engine_record.specs.Queue.{ready_slots}
 use Rattle.engine_record.specs.Rules.{valid}
+use Rattle.queue.specs.Answers.{answer_unless_refused}
 use Rattle.queue.specs.Refusals.{RefusalRow, ◌when◌, first_refusal}
 use Rattle.queue.specs.Calls.{unless_refused}
-use Rattle.engine.specs.declared.Outcome.{Outcome}
-use Rattle.engine.specs.declared.Outcome.TheVariants.{Refused, Completed}
 use Rattle.engine.specs.declared.RunResult.{RunResult}
 
 -- when run is refused; ring and memory: the lengths of those that are lent
@@ -76,16 +76,11 @@ without_oldest engine = record {
   staged = engine.staged;
 }
 
--- with a refusal number, 0 for none: the refusal, or else the outcome
-unfoldable pub outcome_unless_refused : (number : ℕ) → Outcome → Outcome
-outcome_unless_refused zero otherwise = otherwise
-outcome_unless_refused (suc n) otherwise = Refused (suc n)
-
 unfoldable pub run_result : EngineRecord → (ring memory : List ℕ) → RunResult
 run_result engine ring memory =
     let number : ℕ = run_number engine ring memory in
     record {
-      outcome = outcome_unless_refused number (Completed (record { client = (oldest engine).client; ticket = (oldest engine).ticket; verdict = oldest_verdict engine ring }));
+      outcome = answer_unless_refused number (record { client = (oldest engine).client; ticket = (oldest engine).ticket; verdict = oldest_verdict engine ring });
       engine = unless_refused number engine (without_oldest engine);
     }
 
@@ -95,5 +90,5 @@ run_memory engine ring memory =
     unless_refused (run_number engine ring memory) memory (draw_batch (bounds_of_client engine (oldest engine).client) (reset_of engine) (oldest_words engine ring) memory)
 
 -- what a run gives and the memory that it leaves, by the slow engine or by the fast one (02, request 13): the same is promised of both
-abbrev pub RunBy : (slow : Bool) → EngineRecord → (ring memory : List ℕ) → RunResult → (left : List ℕ) → Type 0
-RunBy slow engine ring memory result left = (result ≡ run_result engine ring memory) × (left ≡ run_memory engine ring memory)
+abbrev pub RunBy : Renderer → EngineRecord → (ring memory : List ℕ) → RunResult → (left : List ℕ) → Type 0
+RunBy renderer engine ring memory result left = (result ≡ run_result engine ring memory) × (left ≡ run_memory engine ring memory)

@@ -6,6 +6,7 @@ pub mod answers;
 
 use batch::Verdict;
 use engine_record::EngineRecord;
+use queue::Refusal;
 
 // What run answers of the batch that it took. The verdict holds the fault, if there is one.
 #[derive(Clone, Copy)]
@@ -15,15 +16,9 @@ pub struct Completion {
     pub verdict: Verdict,
 }
 
-// The paper's numbers are those of `run_refusal_of` and `values_of` in specs.
-#[derive(Clone, Copy)]
-pub enum Outcome {
-    Refused(u32),
-    Completed(Completion),
-}
-
+// What run answers, and the record after it. The paper's numbers are those of `run_refusal_of` and `values_of` in specs.
 #[derive(Clone, Copy)]
 pub struct RunResult {
-    pub outcome: Outcome,
+    pub outcome: Result<Completion, Refusal>,
     pub engine: EngineRecord,
 }

@@ -1,23 +1,16 @@
 -- Laws of the open clients, one client at a time.
-use Rattle.std.proofs.Common.{◌≡◌, ℕ, zero, suc, ◌+◌, ◌<◌, ◌≤◌, Bool, true, false, cond, not, ◌&&◌, ◌||◌, eqb, ltb, leb, List, [], ◌∷◌, length, get_or, drop, refl, ap, ◌∙◌, add-one, arith, drop_of_length-le, drop-cons, ltb-true, lt-ltb, le-leb, leb-false, leb-true}
-use borrow.Author.Tests.{not-true, not-false, lt-leb}
+use Rattle.std.proofs.Common.{◌≡◌, ℕ, zero, suc, ◌+◌, ◌<◌, ◌≤◌, Bool, true, false, cond, not, ◌&&◌, ◌||◌, eqb, ltb, leb, List, [], ◌∷◌, length, get_or, drop, refl, ap, ◌∙◌, add-one, arith, drop_of_length-le, drop-cons, ltb-true, lt-ltb, le-leb, leb-false, leb-true, eq-eqb, ne_eqb}
+use borrow.Author.Tests.{lt-leb}
 use Rattle.word.proofs.Tests.{and-true}
 use Rattle.range.specs.declared.Range.{Range}
-use Rattle.range.specs.Range.{contained_in, overlaps}
+use Rattle.range.specs.Range.{overlaps}
 use Rattle.engine_record.specs.declared.Setup.{Setup}
 use Rattle.engine_record.specs.declared.Batch.{Batch}
 use Rattle.engine_record.specs.declared.Client.{Client}
 use Rattle.engine_record.specs.declared.Window.{Window}
 use Rattle.engine_record.specs.declared.EngineRecord.{EngineRecord}
 use Rattle.engine_record.specs.Slots.{count_of}
-use Rattle.engine_record.specs.Clients.{no_client, client_at, is_open, windows_of, lowest_closed, window_range, prefix_range, overlaps_any, bad_window, misplaced, windows_valid, pending_counts_match}
-
--- the tests behind a bad window
-pub bad-made : (setup : Setup) (others : List Window) (w : Window) (bytes : Range) (a b c : Bool) → bytes ≡ window_range w →
-    a ≡ contained_in bytes (prefix_range setup.memory) → b ≡ overlaps bytes (prefix_range setup.common) → c ≡ overlaps_any bytes others →
-    (eqb w.length 0 || not a || b || c) ≡ bad_window setup others w
-bad-made setup others w bytes a b c is ea eb ec =
-    rw (ea ∙ ap (λ (r : Range). contained_in r (prefix_range setup.memory)) is, eb ∙ ap (λ (r : Range). overlaps r (prefix_range setup.common)) is, ec ∙ ap (λ (r : Range). overlaps_any r others) is)
+use Rattle.engine_record.specs.Clients.{no_client, client_at, is_open, windows_of, lowest_closed, window_range, overlaps_any, bad_window, windows_valid, pending_counts_match}
 
 -- ---- the first client and the others
 
@@ -39,6 +32,24 @@ valid-cons setup c cs = go c.opened c.window (windows_of cs)
     go true w ws = refl
     go false w ws = refl
 
+module _ (setup : Setup) (rest : List Client) (c : Client) (cs : List Client) (is : rest ≡ c ∷ cs) where
+  turn : windows_valid setup (windows_of rest) ≡ (not (c.opened && bad_window setup (windows_of cs) c.window) && windows_valid setup (windows_of cs))
+  turn = rw is (valid-cons setup c cs)
+
+  pub valid_bad : c.opened ≡ true → bad_window setup (windows_of cs) c.window ≡ true → false ≡ windows_valid setup (windows_of rest)
+  valid_bad o e = rw (turn, o, e)
+
+  pub valid_good : c.opened ≡ true → bad_window setup (windows_of cs) c.window ≡ false → windows_valid setup (windows_of cs) ≡ windows_valid setup (windows_of rest)
+  valid_good o e = rw (turn, o, e)
+
+  pub valid_closed : c.opened ≡ false → windows_valid setup (windows_of cs) ≡ windows_valid setup (windows_of rest)
+  valid_closed o = rw (turn, o)
+
+pub valid_none : (setup : Setup) (rest : List Client) → length rest ≡ 0 → true ≡ windows_valid setup (windows_of rest)
+unfolding windows_valid windows_of
+valid_none setup [] e = refl
+valid_none setup (c ∷ cs) e = absurd (omega arith)
+
 -- ---- a turn of each loop: its test, and what that says of the clients from place k on
 
 module _ (cs : List Client) (k : ℕ) (h : k < length cs) where
@@ -55,30 +66,21 @@ module _ (cs : List Client) (k : ℕ) (h : k < length cs) where
     pub shares_next : ((get_or cs k no_client).opened && t) ≡ false → overlaps_any bytes (windows_of (drop (k + 1) cs)) ≡ overlaps_any bytes (windows_of (drop k cs))
     shares_next e = rw (shares_step, e)
 
-  module _ (setup : Setup) (t : Bool) (answered : t ≡ misplaced setup cs k) where
-    none-step : windows_valid setup (windows_of (drop k cs)) ≡ (not t && windows_valid setup (windows_of (drop (k + 1) cs)))
-    none-step = ap (λ (x : List Client). windows_valid setup (windows_of x)) head_at ∙ valid-cons setup (get_or cs k no_client) (drop (k + 1) cs) ∙ rw answered
+  pub counts_step : (bs : List Batch) → let c = get_or cs k no_client in
+      pending_counts_match k (drop k cs) bs ≡ ((not c.opened || eqb c.pending (count_of k bs)) && pending_counts_match (k + 1) (drop (k + 1) cs) bs)
+  unfolding pending_counts_match
+  counts_step bs = rw (head_at, add-one k)
 
-    pub none_found : t ≡ true → false ≡ windows_valid setup (windows_of (drop k cs))
-    none_found e = rw (none-step, e)
+  module _ (bs : List Batch) where
+    pub counts_wrong : (get_or cs k no_client).opened ≡ true → ((get_or cs k no_client).pending ≡ count_of k bs → ⊥) → false ≡ pending_counts_match k (drop k cs) bs
+    counts_wrong o e = rw (counts_step bs, o, ne_eqb _ _ e)
 
-    pub none-next : t ≡ false → windows_valid setup (windows_of (drop (k + 1) cs)) ≡ windows_valid setup (windows_of (drop k cs))
-    none-next e = rw (none-step, e)
+    pub counts_right : (get_or cs k no_client).opened ≡ true → (get_or cs k no_client).pending ≡ count_of k bs →
+        pending_counts_match (k + 1) (drop (k + 1) cs) bs ≡ pending_counts_match k (drop k cs) bs
+    counts_right o e = rw (counts_step bs, o, eq-eqb _ _ e)
 
-  module _ (bs : List Batch) (t : Bool) (answered : t ≡ (not (get_or cs k no_client).opened || eqb (get_or cs k no_client).pending (count_of k bs))) where
-    counts_step : pending_counts_match k (drop k cs) bs ≡ (t && pending_counts_match (k + 1) (drop (k + 1) cs) bs)
-    unfolding pending_counts_match
-    counts_step = rw (head_at, answered, add-one k)
-
-    pub counts-found : not t ≡ true → false ≡ pending_counts_match k (drop k cs) bs
-    counts-found e = rw (counts_step, not-true t e)
-
-    pub counts-next : not t ≡ false → pending_counts_match (k + 1) (drop (k + 1) cs) bs ≡ pending_counts_match k (drop k cs) bs
-    counts-next e = rw (counts_step, not-false t e)
-
-  pub closed-step : lowest_closed (drop k cs) ≡ cond (get_or cs k no_client).opened (suc (lowest_closed (drop (k + 1) cs))) 0
-  unfolding lowest_closed
-  closed-step = rw head_at
+    pub counts_closed : (get_or cs k no_client).opened ≡ false → pending_counts_match (k + 1) (drop (k + 1) cs) bs ≡ pending_counts_match k (drop k cs) bs
+    counts_closed o = rw (counts_step bs, o)
 
 module _ (cs : List Client) (k : ℕ) (h : length cs ≤ k) where
   past : drop k cs ≡ []
@@ -88,17 +90,9 @@ module _ (cs : List Client) (k : ℕ) (h : length cs ≤ k) where
   unfolding overlaps_any windows_of
   overlaps-end bytes = rw past
 
-  pub none_end : (setup : Setup) → windows_valid setup (windows_of (drop k cs)) ≡ true
-  unfolding windows_valid windows_of
-  none_end setup = rw past
-
   pub counts_end : (bs : List Batch) → pending_counts_match k (drop k cs) bs ≡ true
   unfolding pending_counts_match
   counts_end bs = rw past
-
-  pub closed-end : lowest_closed (drop k cs) ≡ 0
-  unfolding lowest_closed
-  closed-end = rw past
 
 -- ---- places
 

@@ -12,3 +12,4 @@ pub mod Unfinished
 pub mod Windows
 pub mod Taken
 pub mod Checking
+pub mod First

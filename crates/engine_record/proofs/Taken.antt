@@ -1,11 +1,10 @@
 -- Laws of the oldest batch when it is taken: it is the first in ticket order, the others stay, and the record stays valid.
-use Rattle.std.proofs.Common.{◌≡◌, ℕ, suc, ◌+◌, ◌-◌, ◌%◌, ◌<◌, ◌≤◌, true, cond, not, ◌&&◌, eqb, List, ◌∷◌, length, get_or, set, refl, ap, ◌∙◌, ⊎_elim, add-zero, arith, lt-ltb, eq-eqb}
+use Rattle.std.proofs.Common.{◌≡◌, ℕ, suc, ◌+◌, ◌-◌, ◌%◌, ◌<◌, ◌≤◌, true, cond, not, ◌&&◌, eqb, List, ◌∷◌, length, get_or, set, refl, ap, ◌∙◌, ⊎_elim, add-zero, arith, lt-ltb, eq-eqb, Option}
 use borrow.Author.Tests.{not-true}
 use Rattle.word.proofs.Tests.{split, and-true}
 use Rattle.ring.specs.Segment.{wrap_offset}
 use Rattle.ring.proofs.Wrapped.{wrapped_in, wrapped_over, wrapped_below}
 use Rattle.engine_record.specs.declared.Batch.{Batch}
-use Rattle.engine_record.specs.declared.Slot.{Slot}
 use Rattle.engine_record.specs.declared.Client.{Client}
 use Rattle.engine_record.specs.declared.EngineRecord.{EngineRecord}
 use Rattle.engine_record.specs.Setup.{bad_length}
@@ -36,7 +35,7 @@ module _ (engine : EngineRecord) (ok : valid engine ≡ true) (k : ℕ) (some : 
   rest = in_ticket_order k engine.next_ticket engine.slots
 
   -- the slots without it
-  abbrev pub left : List Slot
+  abbrev pub left : List (Option Batch)
   left = set engine.slots (slot_of_ticket ticket engine.slots) free
 
   pub waiting-first : waiting engine ≡ first ∷ rest
@@ -56,7 +55,7 @@ module _ (engine : EngineRecord) (ok : valid engine ≡ true) (k : ℕ) (some : 
   left-sum : (f : Batch → ℕ) → sum_over f (ready_batches engine.slots) ≡ f first + sum_over f (ready_batches left)
   left-sum f =
       sum-split f engine.slots (slot_of_ticket ticket engine.slots)
-      ∙ ap (λ (x : ℕ). x + sum_over f (ready_batches left)) (sum_has f ticket (get_or engine.slots (slot_of_ticket ticket engine.slots) free).state found.has)
+      ∙ ap (λ (x : ℕ). x + sum_over f (ready_batches left)) (sum_has f ticket (get_or engine.slots (slot_of_ticket ticket engine.slots) free) found.has)
 
   whole : first.length + total_length rest ≤ engine.setup.ring
   unfolding sum_over

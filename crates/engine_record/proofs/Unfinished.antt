@@ -1,11 +1,8 @@
 -- Laws of the staged submission: what its rules say as facts, and when a record keeps them.
-use Rattle.std.proofs.Common.{◌≡◌, ℕ, zero, suc, ◌+◌, ◌-◌, ◌<◌, ◌≤◌, Bool, true, false, cond, not, ◌&&◌, eqb, ltb, leb, ◌⊎◌, List, [], ◌∷◌, length, get_or, set, sym, refl, ap, ◌∙◌, inl, inr, ⊎_elim, arith, ltb-true, lt-ltb, eq-eqb, ne_eqb, eqb-true, le-leb, leb-false, leb-true}
+use Rattle.std.proofs.Common.{◌≡◌, ℕ, zero, suc, ◌+◌, ◌-◌, ◌<◌, ◌≤◌, Bool, true, false, cond, not, ◌&&◌, eqb, ltb, leb, ◌⊎◌, List, [], ◌∷◌, get_or, set, sym, refl, ap, ◌∙◌, inl, inr, ⊎_elim, arith, ltb-true, lt-ltb, eq-eqb, ne_eqb, eqb-true, le-leb, leb-false, leb-true, Option, Some, None}
 use borrow.Author.Tests.{not-true}
 use Rattle.word.proofs.Tests.{and-true}
 use Rattle.engine_record.specs.declared.Batch.{Batch}
-use Rattle.engine_record.specs.declared.Slot.{Slot}
-use Rattle.engine_record.specs.declared.SlotState.{SlotState}
-use Rattle.engine_record.specs.declared.SlotState.TheVariants.{Free, Ready}
 use Rattle.engine_record.specs.declared.Staged.{Staged}
 use Rattle.engine_record.specs.declared.EngineRecord.{EngineRecord}
 use Rattle.engine_record.specs.Setup.{bad_length}
@@ -17,9 +14,9 @@ use Rattle.engine_record.specs.Rules.{idle_rule, unfinished_rule, staged_rule}
 
 -- ---- the rules as facts
 
-pub free-state : (s : SlotState) → is_free_state s ≡ true → s ≡ Free
-free-state Free e = refl
-free-state (Ready b) e = absurd (let z : ◌≡◌ {A = ℕ} 0 1 = cc in omega arith)
+pub free-state : (s : Option Batch) → is_free_state s ≡ true → s ≡ None
+free-state None e = refl
+free-state (Some b) e = absurd (let z : ◌≡◌ {A = ℕ} 0 1 = cc in omega arith)
 
 none_of : (g : Staged) → g.client ≡ 0 → g.slot ≡ 0 → g.total ≡ 0 → g.received ≡ 0 → g ≡ no_staged
 none_of g a b c d = numbers g.client g.slot g.total g.received a b c d
@@ -39,7 +36,7 @@ pub record Unfinished (engine : EngineRecord) : Type 0 where
   pub room : ready_bytes engine + engine.staged.total ≤ engine.setup.ring
   pub short : engine.staged.received < engine.staged.total
   pub slot : engine.staged.slot < 8
-  pub held : (get_or engine.slots engine.staged.slot free).state ≡ Free
+  pub held : get_or engine.slots engine.staged.slot free ≡ None
 
 module _ (engine : EngineRecord) where
   pub staged-idle : staged_rule engine ≡ true → is_idle engine.staged ≡ true → engine.staged ≡ no_staged
@@ -60,7 +57,7 @@ module _ (engine : EngineRecord) where
       let x = and-true (o && a && t) b w.0 in
       let y = and-true (o && a) t x.0 in
       let z = and-true o a y.0 in
-      let h = and-true (ltb engine.staged.slot 8) (is_free_state (get_or engine.slots engine.staged.slot free).state) w.1 in
+      let h = and-true (ltb engine.staged.slot 8) (is_free_state (get_or engine.slots engine.staged.slot free)) w.1 in
       record {
         owner = z.0;
         allowed = not-true _ z.1;
@@ -95,7 +92,7 @@ module _ (engine : EngineRecord) where
 -- a record after it, with the same staged submission, whose client stays open, that frees slots and room
 pub staged-stays : (engine after : EngineRecord) → after.staged ≡ engine.staged → after.setup.ring ≡ engine.setup.ring →
     (is_idle engine.staged ≡ false → is_open engine engine.staged.client ≡ true → is_open after engine.staged.client ≡ true) →
-    ready_bytes after ≤ ready_bytes engine → ((i : ℕ) → (get_or engine.slots i free).state ≡ Free → (get_or after.slots i free).state ≡ Free) →
+    ready_bytes after ≤ ready_bytes engine → ((i : ℕ) → get_or engine.slots i free ≡ None → get_or after.slots i free ≡ None) →
     staged_rule engine ≡ true → staged_rule after ≡ true
 staged-stays engine after g r o b f e =
     ⊎_elim
@@ -113,7 +110,7 @@ staged-stays engine after g r o b f e =
     (staged_cases engine e)
 
 -- a slot that is freed leaves the free ones free
-pub freed_free : (ss : List Slot) (at i : ℕ) → (get_or ss i free).state ≡ Free → (get_or (set ss at free) i free).state ≡ Free
+pub freed_free : (ss : List (Option Batch)) (at i : ℕ) → get_or ss i free ≡ None → get_or (set ss at free) i free ≡ None
 freed_free [] at i e = refl
 freed_free (s ∷ ss) zero zero e = refl
 freed_free (s ∷ ss) zero (suc i) e = e
@@ -136,19 +133,6 @@ room_test ready total ring h = sym (go (leb total (ring - ready)) refl)
     go false e = over-leb (ready + total) ring (omega (arith, leb-false total (ring - ready) e))
 
 -- ---- the code's tests
-
-pub slot_out : (slots : List Slot) (at : ℕ) → 8 ≤ at → false ≡ slot_held slots at
-slot_out slots at h = rw (over-ltb at 8 h)
-  where
-    over-ltb : (a b : ℕ) → b ≤ a → ltb a b ≡ false
-    over-ltb a b p = go (ltb a b) refl
-      where
-        go : (t : Bool) → ltb a b ≡ t → t ≡ false
-        go true e = absurd (omega (arith, ltb-true a b e))
-        go false e = refl
-
-pub slot_in_lem : (slots : List Slot) (at : ℕ) → at < 8 → is_free_state (get_or slots at free).state ≡ slot_held slots at
-slot_in_lem slots at h = rw (lt-ltb at 8 h)
 
 module _ (engine : EngineRecord) where
   pub none_test : engine.staged.total ≡ 0 → idle_rule engine ≡ staged_rule engine

@@ -1,10 +1,9 @@
 -- How the check goes through the ready batches: from the oldest on, all the rules of one batch at a time. It decides the rules.
-use Rattle.std.proofs.Common.{◌≡◌, ℕ, zero, suc, ◌+◌, ◌-◌, ◌<◌, ◌≤◌, Bool, true, false, not, ◌&&◌, eqb, leb, List, length, get_or, refl, ap, ◌∙◌, ⊎_elim, arith, le-ltb, lt-ltb, eqb-true, le-leb, leb-true}
+use Rattle.std.proofs.Common.{◌≡◌, ℕ, zero, suc, ◌+◌, ◌-◌, ◌<◌, ◌≤◌, Bool, true, false, not, ◌&&◌, eqb, leb, List, length, get_or, refl, ap, ◌∙◌, ⊎_elim, arith, le-ltb, lt-ltb, eqb-true, le-leb, leb-true, Option}
 use borrow.Author.Tests.{lt-leb, not-true}
 use Rattle.word.proofs.Tests.{split, and-true}
 use Rattle.ring.specs.Segment.{wrap_offset}
 use Rattle.engine_record.specs.declared.Batch.{Batch}
-use Rattle.engine_record.specs.declared.Slot.{Slot}
 use Rattle.engine_record.specs.declared.EngineRecord.{EngineRecord}
 use Rattle.engine_record.specs.Setup.{bad_length}
 use Rattle.engine_record.specs.Slots.{free, sum_over, total_length}
@@ -17,7 +16,7 @@ abbrev pub fits_in : (ring : ℕ) (opened : ℕ → Bool) (offset room : ℕ) �
 fits_in ring opened offset room b = eqb b.offset offset && not (bad_length ring b.length) && leb b.length room && opened b.client
 
 -- the batches with the k tickets before the next one keep their rules, from `offset` on, in a room of so many bytes
-unfoldable pub walk : (ring : ℕ) (opened : ℕ → Bool) (k next : ℕ) → List Slot → (offset room : ℕ) → Bool
+unfoldable pub walk : (ring : ℕ) (opened : ℕ → Bool) (k next : ℕ) → List (Option Batch) → (offset room : ℕ) → Bool
 walk ring opened zero next slots offset room = true
 walk ring opened (suc k) next slots offset room =
     let b : Batch = batch_of_ticket (ticket_before next (suc k)) slots in
@@ -26,7 +25,7 @@ walk ring opened (suc k) next slots offset room =
 
 -- ---- a turn
 
-module _ (ring : ℕ) (opened : ℕ → Bool) (k next : ℕ) (slots : List Slot) (offset room : ℕ) (some : 0 < k) (i : ℕ) (at : i ≡ slot_of_ticket (ticket_before next k) slots) where
+module _ (ring : ℕ) (opened : ℕ → Bool) (k next : ℕ) (slots : List (Option Batch)) (offset room : ℕ) (some : 0 < k) (i : ℕ) (at : i ≡ slot_of_ticket (ticket_before next k) slots) where
   pub walk-missing : length slots ≤ i → false ≡ walk ring opened k next slots offset room
   unfolding walk
   walk-missing h = go k some at
@@ -35,7 +34,7 @@ module _ (ring : ℕ) (opened : ℕ → Bool) (k next : ℕ) (slots : List Slot)
       go zero q e = absurd (omega arith)
       go (suc k) q e = rw (← e, le-ltb i (length slots) h)
 
-  module _ (h : i < length slots) (b : Batch) (is : b ≡ batch_in_state (get_or slots i free).state) where
+  module _ (h : i < length slots) (b : Batch) (is : b ≡ batch_in_state (get_or slots i free)) where
     walk-found : walk ring opened k next slots offset room ≡
         (fits_in ring opened offset room b && walk ring opened (k - 1) next slots (wrap_offset ring (offset + b.length)) (room - b.length))
     unfolding walk
@@ -55,7 +54,7 @@ module _ (ring : ℕ) (opened : ℕ → Bool) (k next : ℕ) (slots : List Slot)
         walk ring opened (k - 1) next slots on (room - b.length) ≡ walk ring opened k next slots offset room
     walk-next e on o = rw (walk-found, e, o)
 
-pub walk-done : (ring : ℕ) (opened : ℕ → Bool) (k next : ℕ) (slots : List Slot) (offset room : ℕ) → k ≤ 0 → true ≡ walk ring opened k next slots offset room
+pub walk-done : (ring : ℕ) (opened : ℕ → Bool) (k next : ℕ) (slots : List (Option Batch)) (offset room : ℕ) → k ≤ 0 → true ≡ walk ring opened k next slots offset room
 unfolding walk
 walk-done ring opened k next slots offset room h =
     let e : k ≡ 0 = omega arith in
@@ -110,7 +109,7 @@ leb_add x y n = ⊎_elim over under (split n x)
         (λ (p : x + y ≤ n). rw (le-leb x n h, le-leb (x + y) n p, le-leb y (n - x) (omega arith)))
         (split n (x + y))
 
-pub walk-rules : (engine : EngineRecord) (ring k next : ℕ) (slots : List Slot) (offset room : ℕ) →
+pub walk-rules : (engine : EngineRecord) (ring k next : ℕ) (slots : List (Option Batch)) (offset room : ℕ) →
     walk ring (is_open engine) k next slots offset room ≡
     (tickets_consecutive k next slots && end_to_end ring offset (in_ticket_order k next slots) && lengths_allowed ring (in_ticket_order k next slots)
     && leb (total_length (in_ticket_order k next slots)) room && clients_open engine (in_ticket_order k next slots))

@@ -1,6 +1,6 @@
 -- Clients (01: desks) and their windows (01, "Engine, desks, queue"). A client's id is its place, 0 to 3, and any of them may be open (02, 11:
 -- "Record rules amended for gaps in ids"). What a place that is not open holds is free: no definition looks at it.
-use Rattle.std.specs.Prelude.{ℕ, suc, ◌+◌, Bool, true, false, cond, not, ◌&&◌, ◌||◌, List, [], ◌∷◌, get_or, drop, ◌==◌, nat_lt, slice_index_or}
+use Rattle.std.specs.Prelude.{ℕ, suc, Bool, true, false, cond, not, ◌&&◌, ◌||◌, List, [], ◌∷◌, ◌==◌, nat_lt, slice_index_or}
 use Rattle.range.specs.declared.Range.{Range}
 use Rattle.range.specs.Range.{range_of, contained_in, overlaps}
 use Rattle.engine_record.specs.declared.Setup.{Setup}
@@ -53,10 +53,6 @@ overlaps_any bytes (w ∷ ws) = overlaps bytes (window_range w) || overlaps_any 
 abbrev pub bad_window : Setup → (others : List Window) → Window → Bool
 bad_window setup others w =
     (w.length == 0) || not (contained_in (window_range w) (prefix_range setup.memory)) || overlaps (window_range w) (prefix_range setup.common) || overlaps_any (window_range w) others
-
--- Internal: the client at a place is open, and its window is bad beside those of the later ones
-abbrev pub misplaced : Setup → List Client → ℕ → Bool
-misplaced setup clients place = (get_or clients place no_client).opened && bad_window setup (windows_of (drop (place + 1) clients)) (get_or clients place no_client).window
 
 -- 4 is true of none of the windows. Overlap is symmetric, so each window is compared with the later ones.
 unfoldable pub windows_valid : Setup → List Window → Bool

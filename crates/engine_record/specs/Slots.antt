@@ -1,30 +1,25 @@
 -- The slots and the ready batches in them (01, "Engine, desks, queue": "A slot is free, or ready with its desk and ticket,
 -- offset and length").
-use Rattle.std.specs.Prelude.{ℕ, suc, ◌+◌, Bool, true, false, cond, List, [], ◌∷◌, ◌==◌}
-use Rattle.engine_record.specs.declared.Amount.{Amount}
-use Rattle.engine_record.specs.declared.Amount.TheVariants.{One, Length, OwnedBy}
+use Rattle.std.specs.Prelude.{ℕ, suc, ◌+◌, Bool, true, false, cond, List, [], ◌∷◌, ◌==◌, Option, Some, None}
 use Rattle.engine_record.specs.declared.Batch.{Batch}
-use Rattle.engine_record.specs.declared.Slot.{Slot}
-use Rattle.engine_record.specs.declared.SlotState.{SlotState}
-use Rattle.engine_record.specs.declared.SlotState.TheVariants.{Free, Ready}
 
 -- a slot that is free
-abbrev pub free : Slot
-free = record { state = Free }
+abbrev pub free : Option Batch
+free = None
 
 -- a slot that is ready with a batch
-abbrev pub ready_with : Batch → Slot
-ready_with b = record { state = Ready b }
+abbrev pub ready_with : Batch → Option Batch
+ready_with b = Some b
 
 -- what a slot adds to the ready batches of the slots after it
-abbrev pub cons_if_ready : SlotState → List Batch → List Batch
-cons_if_ready Free bs = bs
-cons_if_ready (Ready b) bs = b ∷ bs
+abbrev pub cons_if_ready : Option Batch → List Batch → List Batch
+cons_if_ready None bs = bs
+cons_if_ready (Some b) bs = b ∷ bs
 
 -- the ready batches, slot by slot
-unfoldable pub ready_batches : List Slot → List Batch
+unfoldable pub ready_batches : List (Option Batch) → List Batch
 ready_batches [] = []
-ready_batches (s ∷ ss) = cons_if_ready s.state (ready_batches ss)
+ready_batches (s ∷ ss) = cons_if_ready s (ready_batches ss)
 
 -- a number of each batch, summed
 unfoldable pub sum_over : (Batch → ℕ) → List Batch → ℕ
@@ -39,18 +34,12 @@ total_length bs = sum_over (λ b. b.length) bs
 abbrev pub count_of : ℕ → List Batch → ℕ
 count_of client bs = sum_over (λ b. cond (b.client == client) 1 0) bs
 
--- the state is free
-abbrev pub is_free_state : SlotState → Bool
-is_free_state Free = true
-is_free_state (Ready b) = false
+-- no batch is in the slot
+abbrev pub is_free_state : Option Batch → Bool
+is_free_state None = true
+is_free_state (Some b) = false
 
 -- the lowest free slot; the number of slots if none is free
-unfoldable pub lowest_free : List Slot → ℕ
+unfoldable pub lowest_free : List (Option Batch) → ℕ
 lowest_free [] = 0
-lowest_free (s ∷ ss) = cond (is_free_state s.state) 0 (suc (lowest_free ss))
-
--- Internal: the amount of a batch that the code sums, by its name; the sum of `Length` is `total_length`, that of `OwnedBy` is `count_of`
-abbrev pub amount_of : Amount → Batch → ℕ
-amount_of One = λ b. 1
-amount_of Length = λ b. b.length
-amount_of (OwnedBy client) = λ b. cond (b.client == client) 1 0
+lowest_free (s ∷ ss) = cond (is_free_state s) 0 (suc (lowest_free ss))

@@ -1,6 +1,6 @@
 -- The staged submission (02, 6: hand-over): the unfinished batch of a client that hands it over by pieces, or none. "One hand-over at a time".
-use Rattle.std.specs.Prelude.{ℕ, ◌-◌, Bool, false, cond, ◌&&◌, List, ◌==◌, nat_lt, slice_index_or}
-use Rattle.engine_record.specs.declared.Slot.{Slot}
+use Rattle.std.specs.Prelude.{ℕ, ◌-◌, Bool, false, cond, ◌&&◌, List, ◌==◌, nat_lt, slice_index_or, Option}
+use Rattle.engine_record.specs.declared.Batch.{Batch}
 use Rattle.engine_record.specs.declared.Staged.{Staged}
 use Rattle.engine_record.specs.Slots.{free, is_free_state}
 
@@ -25,5 +25,5 @@ abbrev pub staged_slots : Staged → ℕ
 staged_slots g = cond (is_idle g) 0 1
 
 -- there is such a slot, and no ready batch is in it
-abbrev pub slot_held : List Slot → ℕ → Bool
-slot_held slots at = nat_lt at 8 && is_free_state (slice_index_or slots at free).state
+abbrev pub slot_held : List (Option Batch) → ℕ → Bool
+slot_held slots at = nat_lt at 8 && is_free_state (slice_index_or slots at free)

@@ -30,6 +30,7 @@ pub struct Window {
 }
 
 // The place of a client (01: desk): its window, how many of its batches are ready, and whether it is open. What a closed place holds is free.
+// Kept (C interface): a flag and no Option of window and pending: `encode` gives back what the bytes of a closed place said.
 #[derive(Clone, Copy)]
 pub struct Client {
     pub window: Window,
@@ -46,19 +47,12 @@ pub struct Batch {
     pub length: usize,
 }
 
-#[derive(Clone, Copy)]
-pub enum SlotState {
-    Free,
-    Ready(Batch),
-}
-
-#[derive(Clone, Copy)]
-pub struct Slot {
-    pub state: SlotState,
-}
+// A slot: free, or ready with a batch.
+pub type Slot = Option<Batch>;
 
 // The staged submission (02, 6: hand-over): whose it is, the slot that it holds, its total length, and how many of its bytes have come. With none
 // all four are 0.
+// Kept (C interface): no Option: bytes with total 0 and another field not 0 are a record, refused with 11, and `encode` gives them back.
 #[derive(Clone, Copy)]
 pub struct Staged {
     pub client: u32,
@@ -72,24 +66,15 @@ pub struct Staged {
 pub struct EngineRecord {
     pub setup: Setup,
     pub clients: [Client; 4],
-    pub slots: [Slot; 8],
+    pub slots: [Option<Batch>; 8],
     pub read_offset: usize,
     pub next_ticket: u32,
     pub staged: Staged,
 }
 
-// What is summed over the ready batches: 1 for each, the length of each, or 1 for each of a client.
+// What the check of a record that keeps every rule finds: how many slots are ready, and how many ring bytes their batches have.
 #[derive(Clone, Copy)]
-pub enum Amount {
-    One,
-    Length,
-    OwnedBy(u32),
-}
-
-// What the check of a record finds: whether it keeps every rule, and, if it does, how many slots are ready and how many ring bytes their batches have.
-#[derive(Clone, Copy)]
-pub struct Checked {
-    pub valid: bool,
+pub struct Counted {
     pub ready: usize,
     pub bytes: usize,
 }
@@ -97,8 +82,7 @@ pub struct Checked {
 pub fn bad_ring(setup: Setup) -> bool
     ensures { result ≡ bad_ring setup }
 {
-    let ring = setup.ring;
-    (ring == 0) | (32768 < ring) | !(ring % 128 == 0)
+    (setup.ring == 0) | (32768 < setup.ring) | !(setup.ring % 128 == 0)
 }
 
 pub fn bad_memory(setup: Setup) -> bool
@@ -113,19 +97,16 @@ pub fn bad_length(ring: usize, size: usize) -> bool
     (size == 0) | !(size % 4 == 0) | (ring < size)
 }
 
+// The batch of a slot; of a free one all its numbers are 0.
 pub fn batch_of(slot: Slot) -> Batch
-    ensures { result ≡ batch_in_state slot.state }
+    ensures { result ≡ batch_in_state slot }
 {
-    let state = slot.state;
-    match state {
-        SlotState::Free => Batch {
-            client: 0,
-            ticket: 0,
-            offset: 0,
-            length: 0,
-        },
-        SlotState::Ready(b) => b,
-    }
+    slot.unwrap_or(Batch {
+        client: 0,
+        ticket: 0,
+        offset: 0,
+        length: 0,
+    })
 }
 
 // An offset that may have run over the ring's end goes on at byte 0.

@@ -1,7 +1,7 @@
 // The check of the engine record: whether it keeps every rule.
-ghost use Rattle.std.specs.Prelude.{◌≡◌, ◌<◌, ◌≤◌, true, not, ◌&&◌, ◌||◌, length, ◌==◌, nat_le};
+ghost use Rattle.std.specs.Prelude.{◌≡◌, ◌<◌, ◌≤◌, true, not, ◌&&◌, ◌==◌, nat_le};
 ghost use Rattle.engine_record.specs.Setup.{bad_length};
-ghost use Rattle.engine_record.specs.Slots.{ready_batches, count_of};
+ghost use Rattle.engine_record.specs.Slots.{ready_batches};
 ghost use Rattle.engine_record.specs.Staged.{slot_held};
 ghost use Rattle.engine_record.specs.Clients.{pending_counts_match};
 ghost use Rattle.engine_record.specs.Queue.{ready_slots};
@@ -9,32 +9,20 @@ ghost use Rattle.engine_record.specs.Rules.{number_rules, batch_rules, staged_ru
 ghost use Rattle.engine_record.specs.Checking.{checked_of};
 
 use crate::client_table::{is_open, windows_valid};
-use crate::slot_table::{count_of, is_free, ready_bytes, ready_slots, slot_of_age};
+use crate::slot_table::{count_of, ready_bytes, ready_slots, slot_of_age};
 use crate::{
-    Batch, Checked, Client, EngineRecord, Slot, bad_length, bad_memory, bad_ring, batch_of,
+    Batch, Client, Counted, EngineRecord, Slot, bad_length, bad_memory, bad_ring, batch_of,
     wrap_offset,
 };
 
-// Whether a client is closed, or its count is that of its ready batches. Nothing is counted for a closed one: that is a pass over the slots.
-fn count_matches(client: Client, slots: [Slot; 8], id: u32) -> bool
-    ensures { result ≡ (not client.opened || client.pending == count_of id (ready_batches slots)) }
+// Whether each open client's count is that of its ready batches. Nothing is counted for a closed one: that is a pass over the slots.
+fn pending_counts_match(clients: &[Client; 4], slots: &[Slot; 8]) -> bool
+    ensures { result ≡ pending_counts_match 0 clients.now (ready_batches slots.now) }
 {
-    if !client.opened {
-        return true;
-    }
-    client.pending as usize == count_of(slots, id)
-}
-
-// Whether each open client's count is that of its ready batches.
-fn pending_counts_match(clients: [Client; 4], slots: [Slot; 8]) -> bool
-    ensures { result ≡ pending_counts_match 0 clients (ready_batches slots) }
-{
-    let mut k: usize = 0;
-    while k < 4 {
-        if !count_matches(clients[k], slots, k as u32) {
+    for (id, client) in clients.iter().enumerate() {
+        if client.opened && client.pending as usize != count_of(slots, id as u32) {
             return false;
         }
-        k += 1;
     }
     true
 }
@@ -43,37 +31,28 @@ fn pending_counts_match(clients: [Client; 4], slots: [Slot; 8]) -> bool
 fn fits_in(ring: usize, offset: usize, room: usize, owned: bool, b: Batch) -> bool
     ensures { result ≡ (b.offset == offset && not (bad_length ring b.length) && nat_le b.length room && owned) }
 {
-    let at = b.offset;
-    let size = b.length;
-    (at == offset) & !bad_length(ring, size) & (size <= room) & owned
+    (b.offset == offset) & !bad_length(ring, b.length) & (b.length <= room) & owned
 }
 
 // Whether the ready batches, so many, from the oldest on lie end to end from the read offset and keep their other rules.
 fn batches_valid(engine: EngineRecord, ready: usize) -> bool
-    requires { (engine.setup.ring ≤ 32768) × (engine.read_offset < engine.setup.ring) × (ready ≡ ready_slots engine) × (ready ≤ 8) × (length engine.slots ≡ 8) }
+    requires { (engine.setup.ring ≤ 32768) × (engine.read_offset < engine.setup.ring) × (ready ≡ ready_slots engine) }
     ensures { result ≡ batch_rules engine }
 {
-    let slots = engine.slots;
-    let next = engine.next_ticket;
-    let setup = engine.setup;
-    let ring = setup.ring;
-    let mut k = ready;
+    let ring = engine.setup.ring;
     let mut offset = engine.read_offset;
     let mut room = ring;
-    while 0 < k {
-        let i = slot_of_age(slots, next, k);
-        if 8 <= i {
+    for k in (1..=ready).rev() {
+        let Some(i) = slot_of_age(&engine.slots, engine.next_ticket, k) else {
             return false;
-        }
-        let b = batch_of(slots[i]);
+        };
+        let b = batch_of(engine.slots[i]);
         let owned = is_open(engine, b.client);
         if !fits_in(ring, offset, room, owned, b) {
             return false;
         }
-        let size = b.length;
-        offset = wrap_offset(ring, offset + size);
-        room -= size;
-        k -= 1;
+        offset = wrap_offset(ring, offset + b.length);
+        room -= b.length;
     }
     true
 }
@@ -81,20 +60,17 @@ fn batches_valid(engine: EngineRecord, ready: usize) -> bool
 fn numbers_valid(engine: EngineRecord) -> bool
     ensures { result ≡ number_rules engine }
 {
-    let setup = engine.setup;
-    let ring = setup.ring;
     let read = engine.read_offset;
-    !bad_ring(setup) & !bad_memory(setup) & ((read % 4 == 0) & (read < ring))
+    !bad_ring(engine.setup)
+        & !bad_memory(engine.setup)
+        & ((read % 4 == 0) & (read < engine.setup.ring))
 }
 
 // Whether there is such a slot, with no ready batch in it.
-fn slot_held(slots: [Slot; 8], at: usize) -> bool
-    ensures { (result ≡ slot_held slots at) × (length slots ≡ 8) }
+fn slot_held(slots: &[Slot; 8], at: usize) -> bool
+    ensures { result ≡ slot_held slots.now at }
 {
-    if 8 <= at {
-        return false;
-    }
-    is_free(slots[at])
+    at < 8 && slots[at].is_none()
 }
 
 // Whether the unfinished batch keeps its rules, or there is none.
@@ -107,59 +83,48 @@ fn staged_valid(engine: EngineRecord) -> bool
     if total == 0 {
         return (staged.client == 0) & (staged.slot == 0) & (staged.received == 0);
     }
-    let setup = engine.setup;
-    let slots = engine.slots;
-    let ring = setup.ring;
-    let held = slot_held(slots, staged.slot);
+    let ring = engine.setup.ring;
+    let held = slot_held(&engine.slots, staged.slot);
     let owned = is_open(engine, staged.client);
-    let room = ring - ready_bytes(slots);
+    let room = ring - ready_bytes(&engine.slots);
     owned & !bad_length(ring, total) & (total <= room) & (staged.received < total) & held
 }
 
 // Whether the record, with so many ready slots, keeps every rule.
 fn rules_kept(engine: EngineRecord, ready: usize) -> bool
-    requires { (ready ≡ ready_slots engine) × (ready ≤ 8) × (length engine.slots ≡ 8) }
+    requires { ready ≡ ready_slots engine }
     ensures { result ≡ valid engine }
 {
     if !numbers_valid(engine) {
         return false;
     }
-    let setup = engine.setup;
-    let clients = engine.clients;
-    let slots = engine.slots;
-    let windows = windows_valid(setup, clients);
+    let windows = windows_valid(engine.setup, &engine.clients);
     let batches = batches_valid(engine, ready);
-    let counts = pending_counts_match(clients, slots);
+    let counts = pending_counts_match(&engine.clients, &engine.slots);
     if !(windows & batches & counts) {
         return false;
     }
     staged_valid(engine)
 }
 
-// Checks a record. A call does so once and hands on what was found: a pass over the slots, and the copy of them that it takes, cost more than the rest of the call.
-pub fn check(engine: EngineRecord) -> Checked
-    ensures { (result ≡ checked_of engine) × (ready_slots engine ≤ 8) × (length engine.slots ≡ 8) }
+// Checks a record. A call does so once and hands on what was found: a pass over the slots costs more than the rest of the call.
+pub fn check(engine: EngineRecord) -> Option<Counted>
+    ensures found { result ≡ checked_of engine }
+    ensures few { ready_slots engine ≤ 8 }
 {
-    let slots = engine.slots;
-    let ready = ready_slots(slots);
+    let ready = ready_slots(&engine.slots);
     if !rules_kept(engine, ready) {
-        return Checked {
-            valid: false,
-            ready: 0,
-            bytes: 0,
-        };
+        return None;
     }
-    Checked {
-        valid: true,
+    Some(Counted {
         ready: ready,
-        bytes: ready_bytes(slots),
-    }
+        bytes: ready_bytes(&engine.slots),
+    })
 }
 
 // Whether the record keeps every rule.
 pub fn is_valid(engine: EngineRecord) -> bool
     ensures { result ≡ valid engine }
 {
-    let found = check(engine);
-    found.valid
+    check(engine).is_some()
 }

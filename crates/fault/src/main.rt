@@ -2,19 +2,16 @@
 #![tactic(auto)]
 
 use inquiry::Question;
-use inquiry_io::Asked;
-use ppm::ParsedNumber;
 use std::rt::Env;
 
 // The ticket that the arguments name. What is wrong with them is reported.
-fn ticket_argument(rt: &(impl Env + Eprint)) -> ParsedNumber {
+fn ticket_argument(rt: &(impl Env + Eprint)) -> Option<u32> {
     if command::argument_count(rt) != 3 {
         command::complain(rt, b"fault", b" takes two arguments\n");
-        return ParsedNumber::Invalid;
+        return None;
     }
     let mut text = command::buffer();
-    let n = command::argument(rt, 2, &mut text);
-    command::number_in(rt, &text[..n], b"TICKET")
+    command::number_in(rt, command::argument(rt, 2, &mut text), b"TICKET")
 }
 
 // How to give the arguments.
@@ -23,12 +20,12 @@ fn usage(rt: &impl Eprint) {
 }
 
 fn main(rt: HostRuntime) {
-    let ParsedNumber::Value(ticket) = ticket_argument(&rt) else {
+    let Some(ticket) = ticket_argument(&rt) else {
         usage(&rt);
         return;
     };
     let question = Question { address: 0, ticket };
-    let Asked::Read(inquiry) = inquiry_io::ask(&rt, question) else {
+    let Ok(inquiry) = inquiry_io::ask(&rt, question) else {
         return;
     };
     let mut line = [0u8; 128];

@@ -21,10 +21,8 @@ pub fn fetch_gradient(
     requires { (width * 4 ≤ length buffer.old) × (width ≤ n) }
     ensures { HoldsColours buffer.new width (λ x. gradient_colour start steps (mirrored flipped n x)) }
 {
-    let mut x = 0;
-    while x < width {
+    for x in 0..width {
         let i = mirror(flipped, n as usize, x);
         store_word(buffer, x * 4, word_of(colour_at(start, steps, i as u16)));
-        x += 1;
     }
 }

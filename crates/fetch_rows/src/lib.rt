@@ -35,18 +35,9 @@ fn widen(buffer: &mut [u8], row: &[u8], width: usize, format: Format)
     ensures { buffer.new ≡ row_stored Format.Argb8888 (λ x. load_pixel format row.now (x * bytes_per_pixel format)) buffer.old }
 {
     match format {
-        Format::Argb8888 => {
-            copy(buffer, row);
-            return;
-        }
-        Format::Rgb888 => {
-            from_888(buffer, row, width);
-            return;
-        }
-        Format::Rgb565 => {
-            from_565(buffer, row, width);
-            return;
-        }
+        Format::Argb8888 => copy(buffer, row),
+        Format::Rgb888 => from_888(buffer, row, width),
+        Format::Rgb565 => from_565(buffer, row, width),
     }
 }
 

@@ -35,14 +35,12 @@ fn fetch_strided_pixels(
     requires { StridedFetchInBounds memory.now buffer.old start step back width format }
     ensures { HoldsColours buffer.new width (λ x. load_pixel format memory.now (strided_address start step back x)) }
 {
-    let mut x = 0;
-    while x < width {
+    for x in 0..width {
         store_word(
             buffer,
             x * 4,
             load_as_word(memory, strided_address(start, step, back, x), format),
         );
-        x += 1;
     }
 }
 
@@ -62,15 +60,12 @@ pub fn fetch_strided(
     match format {
         Format::Argb8888 => {
             fetch_strided_pixels(buffer, width, memory, start, step, back, Format::Argb8888);
-            return;
         }
         Format::Rgb888 => {
             fetch_strided_pixels(buffer, width, memory, start, step, back, Format::Rgb888);
-            return;
         }
         Format::Rgb565 => {
             fetch_strided_pixels(buffer, width, memory, start, step, back, Format::Rgb565);
-            return;
         }
     }
 }

@@ -34,11 +34,7 @@ pub fn fill_words(row: &mut [u8], width: usize, word: u32)
     requires { RowIsWide row.old width Format.Argb8888 }
     ensures { row.new ≡ row_stored Format.Argb8888 (λ x. word_colour word) row.old }
 {
-    let mut x = 0;
-    let mut at = 0;
-    while x < width {
-        store_word(row, at, word);
-        at += 4;
-        x += 1;
+    for x in 0..width {
+        store_word(row, x * 4, word);
     }
 }

@@ -1,6 +1,6 @@
 -- The answers, a record at a time, and whatever the pieces of the file.
 use mathlib.Core.Path.{◌≡◌, refl, sym, ap, subst, ◌∙◌}
-use mathlib.Core.Bool.{Bool, true, false, cond, not, ◌||◌}
+use mathlib.Core.Bool.{Bool, true, false, cond, ◌||◌}
 use mathlib.Core.Logic.{◌⊎◌, inl, inr}
 use mathlib.Core.List.{List, [], ◌∷◌, ◌++◌, append-nil, append_assoc}
 use Prim.Native.Nat.{ℕ, ◌+◌, ◌-◌, ◌%◌, ◌≤◌, ◌<◌}
@@ -27,9 +27,9 @@ use Rattle.records.specs.Reading.{file_at, entry_in, onto, ReaderReady, Takes}
 use Rattle.records.proofs.Onward.{ends-here}
 use Rattle.lines.proofs.acceptance.Taken.{taken_facts, whole_words}
 use Rattle.lines.specs.Answered.{record_refusal, replay_window, count_after}
-use Rattle.provenance.specs.declared.Touched.{Touched}
-use Rattle.provenance.specs.declared.Touched.TheVariants.{By}
-use Rattle.provenance.specs.declared.Why.{Why}
+use Rattle.std.specs.Prelude.{Option, Some}
+use Rattle.provenance.specs.declared.Touch.{Touch}
+use Rattle.provenance.specs.declared.Explanation.{Explanation}
 use Rattle.inquiry.specs.declared.Question.{Question}
 use Rattle.inquiry.specs.declared.Finding.{Finding}
 use Rattle.inquiry.specs.declared.Inquiry.{Inquiry}
@@ -52,7 +52,7 @@ module _ (q : Question) (f : Finding) (entry : Entry) where
       let same : f.accepted + 0 ≡ f.accepted = omega arith in
       rw (none, same)
 
-  pub after-accepted : (bounds : Bounds) (last : Touched) (reason : Why) → eqb (record_refusal entry) 0 ≡ true → f.accepted ≤ 1024
+  pub after-accepted : (bounds : Bounds) (last : Option Touch) (reason : Option Explanation) → eqb (record_refusal entry) 0 ≡ true → f.accepted ≤ 1024
       → bounds ≡ bounds_of (replay_window entry.client) 16384
       → last ≡ last_from f.touched q.address (numbered f.accepted 0 (tasks_drawn (decode_batch bounds (file_reset First) (batch_words entry.batch 0 size))))
       → reason ≡ cond (eqb f.accepted q.ticket) (explained (batch_words entry.batch 0 size) (decode_batch bounds (file_reset First) (batch_words entry.batch 0 size))) f.why
@@ -66,10 +66,10 @@ module _ (q : Question) (f : Finding) (entry : Entry) where
 -- ---- what the records say
 
 module _ (q : Question) where
-  last-append : (found : Touched) (i : ℕ) (xs ys : List Drawn) → last_from found i (xs ++ ys) ≡ last_from (last_from found i xs) i ys
+  last-append : (found : Option Touch) (i : ℕ) (xs ys : List Drawn) → last_from found i (xs ++ ys) ≡ last_from (last_from found i xs) i ys
   unfolding last_from
   last-append found i [] ys = refl
-  last-append found i (x ∷ xs) ys = last-append (cond (holds x.task.output i) (By (touch_of x)) found) i xs ys
+  last-append found i (x ∷ xs) ys = last-append (cond (holds x.task.output i) (Some (touch_of x)) found) i xs ys
 
   found-touched : (f : Finding) (entries : List Entry) → (finding_from q f entries).touched ≡ last_from f.touched q.address (drawn_from f.accepted entries)
   unfolding finding_from drawn_from last_from

@@ -1,6 +1,6 @@
 -- A file handed over in pieces: whatever its pieces, the answers are those of `provenance/specs/Answers` ("The session is read again for the answer and not
 -- kept", 02, request 10).
-use Rattle.std.specs.Prelude.{◌≡◌, List, [], ◌∷◌, ◌++◌, cond, ◌&&◌, ◌||◌, ℕ, ◌+◌, ◌≤◌, length, take, eqb, ltb}
+use Rattle.std.specs.Prelude.{◌≡◌, List, [], ◌∷◌, ◌++◌, cond, ◌&&◌, ◌||◌, ℕ, ◌+◌, ◌≤◌, length, take, eqb, ltb, Option, None, Result}
 use Rattle.records.specs.declared.Edition.TheVariants.{First}
 use Rattle.word.specs.Word.{words}
 use Rattle.records.specs.Records.{Entry, records}
@@ -8,8 +8,9 @@ use Rattle.records.specs.declared.Found.{Found}
 use Rattle.records.specs.declared.Found.TheVariants.{Nothing, Record, BadVersion, BadRecord}
 use Rattle.records.specs.Reading.{file_at, entry_in, ReaderReady}
 use Rattle.lines.specs.Answered.{record_refusal, ticket_of_count, count_after}
-use Rattle.provenance.specs.declared.Touched.TheVariants.{NotDrawn}
-use Rattle.provenance.specs.declared.Why.TheVariants.{NoFault}
+use Rattle.provenance.specs.declared.Touch.{Touch}
+use Rattle.provenance.specs.declared.Explanation.{Explanation}
+use Rattle.provenance.specs.declared.Refusal.{Refusal}
 use Rattle.provenance.specs.Drawn.{reading_of, drawn_by}
 use Rattle.provenance.specs.Touched.{last_from}
 use Rattle.provenance.specs.Faulted.{explained}
@@ -17,14 +18,12 @@ use Rattle.inquiry.specs.declared.Question.{Question}
 use Rattle.inquiry.specs.declared.Finding.{Finding}
 use Rattle.inquiry.specs.declared.Inquiry.{Inquiry}
 use Rattle.inquiry.specs.declared.FeedResult.{FeedResult}
-use Rattle.provenance.specs.declared.TouchedAnswer.{TouchedAnswer}
-use Rattle.provenance.specs.declared.FaultAnswer.{FaultAnswer}
 use Rattle.provenance.specs.Answers.{answer_touched, answer_fault}
 
 -- ---- a record at a time
 
 abbrev pub nothing_yet : Finding
-nothing_yet = record { records = 0; accepted = 0; touched = NotDrawn; why = NoFault }
+nothing_yet = record { records = 0; accepted = 0; touched = None; why = None }
 
 abbrev pub finding_after : Question → Finding → Entry → Finding
 finding_after q f entry = record {
@@ -40,8 +39,8 @@ finding_from q f (entry ∷ entries) = finding_from q (finding_after q f entry) 
 
 -- both answers of a finding
 pub record Answers : Type 0 where
-  pub touched : TouchedAnswer
-  pub fault : FaultAnswer
+  pub touched : Result (Option Touch) Refusal
+  pub fault : Result Explanation Refusal
 
 unfoldable pub inquiry_answers : Question → Finding → Answers
 inquiry_answers q f = record { touched = answer_touched f.records q.address f.touched; fault = answer_fault f.records f.why }

@@ -6,22 +6,20 @@ ghost use Rattle.provenance.specs.Answers.{touched_answer, fault_answer};
 ghost use Rattle.inquiry.specs.Inquiry.{Stands};
 
 use crate::{Inquiry, Question};
-use provenance::{FaultAnswer, TouchedAnswer};
+use provenance::{Explanation, Refusal, Touch};
 
 // Who drew the byte last, at the end of the file.
-pub fn who_touched(question: Question, inquiry: Inquiry) -> TouchedAnswer
+pub fn who_touched(question: Question, inquiry: Inquiry) -> Result<Option<Touch>, Refusal>
     ensures { (seen held : List ℕ) → Stands question seen inquiry held → result ≡ touched_answer (records First seen) question.address }
 {
     let finding = inquiry.finding;
-    let touched = finding.touched;
-    provenance::answer_touched(finding.records, question.address, touched)
+    provenance::answer_touched(finding.records, question.address, finding.touched)
 }
 
 // Why the batch with the ticket faulted, at the end of the file.
-pub fn why_faulted(question: Question, inquiry: Inquiry) -> FaultAnswer
+pub fn why_faulted(question: Question, inquiry: Inquiry) -> Result<Explanation, Refusal>
     ensures { (seen held : List ℕ) → Stands question seen inquiry held → result ≡ fault_answer (records First seen) question.ticket }
 {
     let finding = inquiry.finding;
-    let why = finding.why;
-    provenance::answer_fault(finding.records, why)
+    provenance::answer_fault(finding.records, finding.why)
 }

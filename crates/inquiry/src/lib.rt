@@ -14,13 +14,12 @@ ghost use Rattle.provenance.specs.Faulted.{explained};
 ghost use Rattle.inquiry.specs.declared.Question.{Question};
 ghost use Rattle.inquiry.specs.Inquiry.{finding_next, finding_on, Stands, InquiryFeedContract};
 
-use lines::acceptance::Submitted;
-use provenance::{Touched, Why};
+use provenance::{Explanation, Touch};
 use records::{Edition, Found, Reader};
 use task_check::Bounds;
 
 // What is asked: who drew the byte at this address, and why the batch with this ticket faulted.
-#[derive(Clone, Copy)]
+#[derive(Clone, Copy, PartialEq, Eq)]
 pub struct Question {
     pub address: usize,
     pub ticket: u32,
@@ -31,8 +30,8 @@ pub struct Question {
 pub struct Finding {
     pub records: u32,
     pub accepted: u32,
-    pub touched: Touched,
-    pub why: Why,
+    pub touched: Option<Touch>,
+    pub why: Option<Explanation>,
 }
 
 // A file that is being read for the answers.
@@ -52,11 +51,24 @@ pub struct FeedResult {
 // ---- a record
 
 // Why the batch with the asked ticket faulted, if this is it.
-fn after_why(asked: u32, ticket: u32, batch: &[u8], bounds: Bounds, why: Why) -> Why
+fn after_why(
+    asked: u32,
+    ticket: u32,
+    batch: &[u8],
+    bounds: Bounds,
+    why: Option<Explanation>,
+) -> Option<Explanation>
     ensures { result ≡ cond (eqb ticket asked) (explained (batch_words batch.now 0 (length batch.now)) (decode_batch bounds (file_reset First) (batch_words batch.now 0 (length batch.now)))) why }
 {
     if ticket == asked {
-        provenance::explain::explain(batch, 0, batch.len(), bounds)
+        provenance::explain::explain(
+            ring::Reader {
+                ring: batch,
+                offset: 0,
+                size: batch.len(),
+            },
+            bounds,
+        )
     } else {
         why
     }
@@ -71,25 +83,24 @@ fn after_record(question: Question, finding: Finding, client: u32, batch: &[u8])
     }
     let records = finding.records + 1;
     let ticket = finding.accepted;
-    let touched = finding.touched;
-    let why = finding.why;
-    let submitted = lines::acceptance::accept(client, batch);
-    match submitted {
-        Submitted::Refused => Finding {
-            records: records,
-            accepted: ticket,
-            touched: touched,
-            why: why,
-        },
-        Submitted::Within(bounds) => {
-            let n = batch.len();
-            let address = question.address;
+    match lines::acceptance::accept(client, batch) {
+        None => Finding { records, ..finding },
+        Some(bounds) => {
+            let whole = ring::Reader {
+                ring: batch,
+                offset: 0,
+                size: batch.len(),
+            };
             let last = provenance::last_touch::after_batch(
-                batch, 0, n, bounds, ticket, address, touched,
+                whole,
+                bounds,
+                ticket,
+                question.address,
+                finding.touched,
             );
-            let reason = after_why(question.ticket, ticket, batch, bounds, why);
+            let reason = after_why(question.ticket, ticket, batch, bounds, finding.why);
             Finding {
-                records: records,
+                records,
                 accepted: ticket + 1,
                 touched: last,
                 why: reason,
@@ -105,9 +116,7 @@ fn after_found(question: Question, finding: Finding, found: Found, held: &[u8]) 
 {
     match found {
         Found::Record(end) => after_record(question, finding, held[4] as u32, &held[5..end]),
-        Found::Nothing => finding,
-        Found::BadVersion => finding,
-        Found::BadRecord => finding,
+        Found::Nothing | Found::BadVersion | Found::BadRecord => finding,
     }
 }
 
@@ -122,8 +131,8 @@ pub fn start() -> Inquiry
         finding: Finding {
             records: 0,
             accepted: 0,
-            touched: Touched::NotDrawn,
-            why: Why::NoFault,
+            touched: None,
+            why: None,
         },
     }
 }
@@ -133,22 +142,18 @@ pub fn feed(question: Question, inquiry: Inquiry, held: &mut [u8], input: &[u8])
     ensures { (result.used ≤ length input.now)
         × ((seen : List ℕ) → Stands question seen inquiry held.old → InquiryFeedContract question seen input.now result held.new) }
 {
-    let reader = inquiry.reader;
-    let finding = inquiry.finding;
-    let taken = records::take(Edition::First, reader, held, input);
-    let after = taken.reader;
-    let found = taken.found;
-    let next = after_found(question, finding, found, held);
+    let taken = records::take(Edition::First, inquiry.reader, held, input);
     FeedResult {
         inquiry: Inquiry {
-            reader: after,
-            finding: next,
+            reader: taken.reader,
+            finding: after_found(question, inquiry.finding, taken.found, held),
         },
         used: taken.used,
     }
 }
 
 // Takes a piece of the file, whole.
+// Kept (no plainer): a turn takes as many bytes as it used, so neither a range nor chunks of one size fit.
 pub fn feed_piece(question: Question, inquiry: Inquiry, held: &mut [u8], piece: &[u8]) -> Inquiry
     ensures { (seen : List ℕ) → Stands question seen inquiry held.old → Stands question (seen ++ piece.now) result held.new }
 {
@@ -156,12 +161,10 @@ pub fn feed_piece(question: Question, inquiry: Inquiry, held: &mut [u8], piece: 
     let mut used = 0;
     while used < piece.len() {
         let fed = feed(question, current, held, &piece[used..]);
-        let after = fed.inquiry;
-        let count = fed.used;
-        current = after;
-        used = used + count;
+        current = fed.inquiry;
+        used += fed.used;
         // It happens only where `held` is too short.
-        if count == 0 {
+        if fed.used == 0 {
             return current;
         }
     }

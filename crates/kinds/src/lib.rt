@@ -40,76 +40,80 @@ pub enum Finish {
 }
 
 // Whether a task is SRC_OVER of one colour on its own output, with the output's own alphas.
+#[tactic(auto, unfolding(crate::specs::Kinds::is_solid))]
 fn is_solid(task: Task) -> bool
     ensures { result ≡ is_solid task }
 {
     is_src_over(task.blending.rule)
-        & is_colour(task.source)
-        & is_pixel_alpha(task.destination.alpha)
-        & is_in_place(task.destination.surface, task.output)
+        && is_colour(task.source)
+        && is_pixel_alpha(task.destination.alpha)
+        && is_in_place(task.destination.surface, task.output)
 }
 
 // Whether the output rows of a task are blended with rows of its source as both lie in the window.
+#[tactic(auto, unfolding(crate::specs::Kinds::is_blended_within))]
 fn is_blended_within(window: Range, task: Task) -> bool
     ensures { result ≡ is_blended_within window task }
 {
-    let surface = task.source.surface;
     let destination = task.destination;
     is_moved(task.source, task.output)
-        & surface.is_inside(window)
-        & is_in_place(destination.surface, task.output)
-        & !task.blending.premultiplied
-        & is_pixel_alpha(task.source.alpha)
-        & is_pixel_alpha(destination.alpha)
+        && task.source.surface.is_inside(window)
+        && is_in_place(destination.surface, task.output)
+        && !task.blending.premultiplied
+        && is_pixel_alpha(task.source.alpha)
+        && is_pixel_alpha(destination.alpha)
 }
 
 fn blended_kind(window: Range, task: Task) -> Kind
     ensures { result ≡ blended_kind window task }
 {
     if is_solid(task) {
-        return Kind::Solid;
+        Kind::Solid
+    } else if is_blended_within(window, task) {
+        Kind::Within
+    } else {
+        Kind::Buffered
     }
-    if is_blended_within(window, task) {
-        return Kind::Within;
-    }
-    Kind::Buffered
 }
 
 fn unblended_kind(window: Range, task: Task) -> Kind
     ensures { result ≡ unblended_kind window task }
 {
-    let surface = task.source.surface;
     if is_moved(task.source, task.output) {
-        if surface.is_inside(window) {
-            return Kind::Moved;
+        if task.source.surface.is_inside(window) {
+            Kind::Moved
+        } else {
+            Kind::Carried
         }
-        return Kind::Carried;
+    } else if is_uniform(task.source) {
+        Kind::Filled
+    } else {
+        Kind::Buffered
     }
-    if is_uniform(task.source) {
-        return Kind::Filled;
-    }
-    Kind::Buffered
 }
 
 // The kind of a task's rows.
+#[tactic(auto, unfolding(crate::specs::Kinds::kind_of))]
 pub fn kind_of(window: Range, task: Task) -> Kind
     ensures { result ≡ kind_of window task }
 {
     if task.blending.on {
-        return blended_kind(window, task);
+        blended_kind(window, task)
+    } else {
+        unblended_kind(window, task)
     }
-    unblended_kind(window, task)
 }
 
 // How the rows of a task become its output's, where they go by way of buffers.
+#[tactic(auto, unfolding(crate::specs::Kinds::finish_of))]
 pub fn finish_of(task: Task) -> Finish
     ensures { result ≡ finish_of task }
 {
     if !task.blending.on {
-        return Finish::Copied;
+        Finish::Copied
+    } else if is_in_place(task.destination.surface, task.output) {
+        Finish::InPlace
+    } else {
+        Finish::Blended
     }
-    if is_in_place(task.destination.surface, task.output) {
-        return Finish::InPlace;
-    }
-    Finish::Blended
 }

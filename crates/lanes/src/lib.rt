@@ -7,17 +7,11 @@ pub mod opacity;
 ghost use Rattle.std.specs.Prelude.{◌≡◌, ℕ, ◌+◌, ◌*◌, ◌/◌, ◌%◌, ◌-◌, ◌≤◌, ◌<◌, length, get_or};
 ghost use Rattle.lanes.specs.Lanes.{two, Done};
 
-pub fn wide(x: u8) -> u16
-    ensures { (result ≡ x) × (result ≤ 255) }
-{
-    x as u16
-}
-
 pub fn get2(s: &[u8], o: usize) -> u16
     requires { o + 2 ≤ length s.now }
     ensures { result ≡ two s.now o }
 {
-    wide(s[o]) + wide(s[o + 1]) * 256
+    s[o] as u16 + s[o + 1] as u16 * 256
 }
 
 pub fn put2(d: &mut [u8], o: usize, w: u16)
@@ -36,24 +30,8 @@ pub fn load8(s: &[u8], o: usize) -> [u16; 8]
     ensures { (k : ℕ) → k < 8 → get_or result k 0 ≡ two s.now (o + k * 2) }
 {
     let mut r = [0u16; 8];
-    let mut i = 0;
-    while i < 8 {
+    for i in 0..8 {
         r[i] = get2(s, o + i * 2);
-        i += 1;
-    }
-    r
-}
-
-// The complements of the bytes.
-pub fn load8c(s: &[u8], o: usize) -> [u16; 8]
-    requires { o + 16 ≤ length s.now }
-    ensures { (k : ℕ) → k < 8 → get_or result k 0 ≡ 65535 - two s.now (o + k * 2) }
-{
-    let mut r = [0u16; 8];
-    let mut i = 0;
-    while i < 8 {
-        r[i] = 65535 - get2(s, o + i * 2);
-        i += 1;
     }
     r
 }
@@ -65,25 +43,22 @@ pub fn store8(d: &mut [u8], o: usize, r: &[u16; 8])
     ensures under { (j : ℕ) → j < o → get_or d.new j 0 ≡ get_or d.old j 0 }
     ensures past { (j : ℕ) → o + 16 ≤ j → get_or d.new j 0 ≡ get_or d.old j 0 }
 {
-    let mut i = 0;
-    while i < 8 {
+    for i in 0..8 {
         put2(d, o + i * 2, r[i]);
-        i += 1;
     }
 }
 
-pub fn top(x: u16) -> u16
-    ensures { (result ≡ x / 256) × (result ≤ 255) }
+pub fn top(x: u16) -> u8
+    ensures { result ≡ x / 256 }
 {
-    x / 256
+    (x / 256) as u8
 }
 
 pub fn copy(d: &mut [u8], s: &[u8], o: usize)
     requires { (o + 16 ≤ length d.old) × (o + 16 ≤ length s.now) }
     ensures { Done (λ j. get_or s.now j 0) d.old d.new o (o + 16) }
 {
-    let r = load8(s, o);
-    store8(d, o, &r);
+    d[o..o + 16].copy_from_slice(&s[o..o + 16]);
 }
 
 // The next sixteen bytes, where there are more. In this form a loop is not taken for one to be made of vectors as a whole.

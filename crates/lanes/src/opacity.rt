@@ -2,14 +2,12 @@
 ghost use Rattle.std.specs.Prelude.{◌≡◌, ℕ, ◌+◌, ◌*◌, ◌≤◌, ◌<◌, length, get_or, eqb};
 ghost use Rattle.lanes.specs.Alphas.{alpha_sum};
 
-use crate::wide;
-
 // The alphas of four pixels, added up.
 pub fn alphas(s: &[u8], o: usize) -> u16
     requires { o + 16 ≤ length s.now }
     ensures { result ≡ alpha_sum s.now o }
 {
-    wide(s[o + 3]) + wide(s[o + 7]) + wide(s[o + 11]) + wide(s[o + 15])
+    s[o + 3] as u16 + s[o + 7] as u16 + s[o + 11] as u16 + s[o + 15] as u16
 }
 
 // Whether a sum of four alphas is that of opaque pixels. It takes the sum, so that a turn of a loop adds it up once and goes three ways by it.
@@ -19,17 +17,11 @@ pub fn is_opaque(sum: u16) -> bool
     sum == 1020
 }
 
-fn long(x: u8) -> u64
-    ensures { (result ≡ x) × (result ≤ 255) }
-{
-    x as u64
-}
-
 fn get4(s: &[u8], o: usize) -> u64
     requires { o + 4 ≤ length s.now }
     ensures { (result ≡ get_or s.now o 0 + 256 * get_or s.now (o + 1) 0 + 65536 * get_or s.now (o + 2) 0 + 16777216 * get_or s.now (o + 3) 0) × (result ≤ 4294967295) }
 {
-    long(s[o]) + long(s[o + 1]) * 256 + long(s[o + 2]) * 65536 + long(s[o + 3]) * 16777216
+    s[o] as u64 + s[o + 1] as u64 * 256 + s[o + 2] as u64 * 65536 + s[o + 3] as u64 * 16777216
 }
 
 // Zero only where all sixteen bytes are.

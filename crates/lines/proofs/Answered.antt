@@ -2,14 +2,12 @@
 -- waits; submit and run, one after the other, lead to such a model again.
 use mathlib.Core.Path.{◌≡◌, refl, sym, ap, ◌∙◌}
 use mathlib.Core.Bool.{Bool, true, false, cond, ◌||◌, not}
-use mathlib.Core.Logic.{⊎_elim}
 use mathlib.Core.List.{List, [], ◌∷◌}
-use Prim.Native.Nat.{ℕ, zero, suc, ◌+◌, ◌%◌, ◌≤◌, ◌<◌}
+use Prim.Native.Nat.{ℕ, zero, suc, ◌+◌, ◌%◌, ◌≤◌}
 use native.Mathlib.Omega.{arith}
 use lib.ListN.{length, get_or, replicate, length-replicate}
 use lib.Dec.{ltb, eqb, eqb-suc-zero}
-use borrow.Author.Tests.{lt-ltb, le-ltb, ltb-false}
-use Rattle.word.proofs.Tests.{split}
+use borrow.Author.Tests.{lt-ltb, ltb-false}
 use Rattle.queue.specs.Answers.{answer_unless_refused}
 use Rattle.queue.specs.Refusals.{first_refusal as firstRow}
 use Rattle.queue.specs.Calls.{set_up_result}
@@ -27,7 +25,7 @@ use Rattle.claims.proofs.Simulation.{step_simulates, at-end}
 use Rattle.records.specs.declared.Edition.{Edition}
 use Rattle.records.specs.Records.{Entry, FileEnd, File}
 use Rattle.records.specs.Editions.{score_holds, submission}
-use Rattle.lines.specs.Lines.{setup, file_reset, opening, engine_opened, replay_start, submit_and_run, entry_line, ending_line, bad_score_line, printed_from, lines}
+use Rattle.lines.specs.Lines.{setup, file_reset, opening, engine_opened, replay_start, submit_and_run, entry_line, ending_line, printed_from, lines}
 use Rattle.lines.specs.Answered.{record_refusal, replay_window, verdict, ticket_of_count, answer_after, count_after, drawn_after, lines_after, line_feeds, OneLine, accepted_from, submit_and_run_all, RecordAnswered, ReplayAnswersHold}
 use Rattle.lines.proofs.LineFeeds.{feeds-append, one-feed, answer-one, bad_score-feed}
 

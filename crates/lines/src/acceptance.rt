@@ -7,19 +7,12 @@ ghost use Rattle.lines.specs.Submitted.{submitted_as};
 use range::Range;
 use task_check::Bounds;
 
-// Submit refuses the record, or its batch is run within these bounds.
-#[derive(Clone, Copy)]
-pub enum Submitted {
-    Refused,
-    Within(Bounds),
-}
-
 // Whether submit takes a record of this client with this batch.
 fn is_accepted(client: u32, batch: &[u8]) -> bool
     ensures { result ≡ eqb (record_refusal (record { client = client; batch = batch.now })) 0 }
 {
     let size = batch.len();
-    !(3 < client) & !((size == 0) | !(size % 4 == 0) | (32768 < size))
+    client <= 3 && (1..=32768).contains(&size) && size % 4 == 0
 }
 
 // What a client may touch.
@@ -33,12 +26,13 @@ fn bounds_of(client: u32) -> Bounds
     }
 }
 
-// What comes of a record of this client with this batch.
-pub fn accept(client: u32, batch: &[u8]) -> Submitted
+// The bounds within which the batch of a record of this client is run, none where submit refuses it.
+pub fn accept(client: u32, batch: &[u8]) -> Option<Bounds>
     ensures { result ≡ submitted_as (record { client = client; batch = batch.now }) }
 {
-    if !is_accepted(client, batch) {
-        return Submitted::Refused;
+    if is_accepted(client, batch) {
+        Some(bounds_of(client))
+    } else {
+        None
     }
-    Submitted::Within(bounds_of(client))
 }

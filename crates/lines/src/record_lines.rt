@@ -1,5 +1,6 @@
-// The lines of a replay file's records, printed into a lent line of at least 128 bytes.
-ghost use Rattle.std.specs.Prelude.{◌≡◌, ℕ, ◌≤◌, ◌<◌, length};
+// The lines of a replay file's records, printed into a lent buffer of at least 128 bytes.
+// Kept (promise): `refusal_line`, `outcome_line` and `bad_version` take any slice of so many bytes, and say of each what stands behind the text.
+ghost use Rattle.std.specs.Prelude.{◌≡◌, ◌≤◌, length};
 ghost use Rattle.batch.specs.Batch.{status_word_of, fault_number_of as faultOf, fault_offset_of};
 ghost use Rattle.engine.specs.Outcome.{run_refusal_of as refusalOf, values_of};
 ghost use Rattle.claims.specs.Engine.{answer_or_refusal, completion};
@@ -8,8 +9,9 @@ ghost use Rattle.lines.specs.Lines.{completion_line, refusal_line, answer_line, 
 ghost use Rattle.lines.specs.Prints.{Prints};
 
 use batch::Verdict;
-use engine::Outcome;
-use text::line;
+use engine::Completion;
+use queue::Refusal;
+use text::line::{self, Line};
 
 // What run completed.
 fn completion_line(line: &mut [u8], client: u32, ticket: u32, verdict: Verdict) -> usize
@@ -17,13 +19,15 @@ fn completion_line(line: &mut [u8], client: u32, ticket: u32, verdict: Verdict) 
     ensures { Prints (completion_line client ticket (record { status = status_word_of verdict; fault = faultOf verdict; offset = fault_offset_of verdict }))
         line.old result line.new }
 {
-    let a = line::decimal(line, 0, client as u64);
-    let b = line::field(line, a, ticket as u64);
-    let c = line::push(line, b, b' ');
-    let d = line::hex_word(line, c, verdict.status());
-    let e = line::field(line, d, verdict.number() as u64);
-    let f = line::field(line, e, verdict.offset() as u64);
-    line::push(line, f, b'\n')
+    let mut text = Line::new(line);
+    text.decimal(client as u64);
+    text.field(ticket as u64);
+    text.push(b' ');
+    text.hex(verdict.status(), 8);
+    text.field(verdict.number() as u64);
+    text.field(verdict.offset() as u64);
+    text.push(b'\n');
+    text.length
 }
 
 // A record that was refused.
@@ -31,23 +35,22 @@ pub fn refusal_line(line: &mut [u8], client: u32, number: u32) -> usize
     requires { 128 ≤ length line.old }
     ensures { Prints (refusal_line client number) line.old result line.new }
 {
-    let a = line::decimal(line, 0, client as u64);
-    let b = line::append(line, a, b" - - ");
-    let c = line::decimal(line, b, number as u64);
-    line::append(line, c, b" 0\n")
+    let mut text = Line::new(line);
+    text.decimal(client as u64);
+    text.append(b" - - ");
+    text.decimal(number as u64);
+    text.append(b" 0\n");
+    text.length
 }
 
 // What run answered of a client's record, or that it was refused.
-pub fn outcome_line(line: &mut [u8], client: u32, outcome: Outcome) -> usize
-    requires { (128 ≤ length line.old) × ((number : ℕ) → outcome ≡ Outcome.Refused number → 0 < number) }
+pub fn outcome_line(line: &mut [u8], client: u32, outcome: Result<Completion, Refusal>) -> usize
+    requires { 128 ≤ length line.old }
     ensures { Prints (answer_line client (answer_or_refusal (refusalOf outcome) (completion (values_of outcome)))) line.old result line.new }
 {
     match outcome {
-        Outcome::Refused(number) => refusal_line(line, client, number),
-        Outcome::Completed(c) => {
-            let verdict = c.verdict;
-            completion_line(line, c.client, c.ticket, verdict)
-        }
+        Err(refusal) => refusal_line(line, client, refusal.number()),
+        Ok(done) => completion_line(line, done.client, done.ticket, done.verdict),
     }
 }
 

@@ -6,8 +6,7 @@ use lib.Dec.{T, eqb, eqb→eq}
 use Rattle.transform.specs.declared.Rotation.{Rotation}
 use Rattle.transform.specs.declared.Rotation.TheVariants.{Rotate0, Rotate90, Rotate180, Rotate270}
 use Rattle.transform.specs.declared.Transform.{Transform}
-use Rattle.transform.specs.Transform.{rotation_of}
-use Rattle.orientation.specs.Bits.{turns}
+use Rattle.transform.specs.Transform.{rotation_of, turns}
 
 -- ---- all settings
 

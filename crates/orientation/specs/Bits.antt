@@ -1,17 +1,8 @@
 -- A setting as bits, where the source control word, register 0x010, has it (01, "Groups and registers"): 7 V flip, 6 H flip, 5:4 quarter turns. Settings
 -- are handed over so by the library (02, request 8).
 use Rattle.std.specs.Prelude.{ℕ, ◌+◌, ◌*◌, ◌/◌, ◌%◌, Bool, cond, eqb}
-use Rattle.transform.specs.declared.Rotation.{Rotation}
-use Rattle.transform.specs.declared.Rotation.TheVariants.{Rotate0, Rotate90, Rotate180, Rotate270}
 use Rattle.transform.specs.declared.Transform.{Transform}
-use Rattle.transform.specs.Transform.{rotation_of}
-
--- quarter turns clockwise, 0 to 3
-abbrev pub turns : Rotation → ℕ
-turns Rotate0 = 0
-turns Rotate90 = 1
-turns Rotate180 = 2
-turns Rotate270 = 3
+use Rattle.transform.specs.Transform.{rotation_of, turns}
 
 -- the setting in any word; its other bits are not looked at
 unfoldable pub setting_of : ℕ → Transform

@@ -6,48 +6,24 @@ ghost use Rattle.std.specs.Prelude.{false, ◌≤◌};
 ghost use Rattle.records.specs.declared.Edition.TheVariants.{First};
 ghost use Rattle.replay_pieces.specs.Reached.{ReplayedInZeros};
 
-use ppm::{ParsedFormat, ParsedNumber, Rectangle};
+use command::Failed;
 use records::Edition;
-use replay_io::Replaying;
+use renderer::Renderer;
 use std::rt::{Env, Files};
 use surface::Surface;
 
-// The number that an argument holds; that it holds none is reported, with the argument's name.
-fn number_argument(rt: &(impl Env + Eprint), index: usize, name: &[u8]) -> ParsedNumber {
-    let mut text = command::buffer();
-    let n = command::argument(rt, index, &mut text);
-    command::number_in(rt, &text[..n], name)
-}
-
-// The format that an argument names; that it names none is reported.
-fn format_argument(rt: &(impl Env + Eprint), index: usize) -> ParsedFormat {
-    let mut text = command::buffer();
-    let n = command::argument(rt, index, &mut text);
-    command::format_in(rt, &text[..n])
-}
-
 // The rectangle given by the five arguments after the file. What is wrong with them is reported.
-fn rectangle_argument(rt: &(impl Env + Eprint), file: usize) -> Rectangle
+fn rectangle_argument(rt: &(impl Env + Eprint), file: usize) -> Option<Surface>
     requires { file ≤ 2 }
 {
-    let last = file + 5;
-    let ParsedNumber::Value(address) = number_argument(rt, file + 1, b"ADDRESS") else {
-        return Rectangle::Outside;
-    };
-    let ParsedNumber::Value(stride) = number_argument(rt, file + 2, b"STRIDE") else {
-        return Rectangle::Outside;
-    };
-    let ParsedNumber::Value(width) = number_argument(rt, file + 3, b"WIDTH") else {
-        return Rectangle::Outside;
-    };
-    let ParsedNumber::Value(height) = number_argument(rt, file + 4, b"HEIGHT") else {
-        return Rectangle::Outside;
-    };
-    let ParsedFormat::Known(format) = format_argument(rt, last) else {
-        return Rectangle::Outside;
-    };
+    let mut text = command::buffer();
+    let address = command::number_in(rt, command::argument(rt, file + 1, &mut text), b"ADDRESS")?;
+    let stride = command::number_in(rt, command::argument(rt, file + 2, &mut text), b"STRIDE")?;
+    let width = command::number_in(rt, command::argument(rt, file + 3, &mut text), b"WIDTH")?;
+    let height = command::number_in(rt, command::argument(rt, file + 4, &mut text), b"HEIGHT")?;
+    let format = command::format_in(rt, command::argument(rt, file + 5, &mut text))?;
     let rectangle = ppm::rectangle_of(address, stride, width, height, format);
-    if let Rectangle::Outside = rectangle {
+    if rectangle.is_none() {
         command::complain(
             rt,
             b"the rectangle",
@@ -57,38 +33,33 @@ fn rectangle_argument(rt: &(impl Env + Eprint), file: usize) -> Rectangle
     rectangle
 }
 
-// Writes the rows, from the first to the last.
-fn write_rows(rt: &(impl Print + Eprint), memory: &[u8], s: Surface) {
-    let mut out = command::large_buffer();
-    let height = s.height;
-    let mut y = 0;
-    let mut ok = true;
-    while y < height && ok {
-        let n = ppm::row(memory, s, y, &mut out);
-        let printed = command::print(rt, &out, n);
-        ok = printed.ok;
-        y += 1;
-    }
-}
-
-fn write_picture(rt: &(impl Print + Eprint), memory: &[u8], s: Surface) {
+// Writes the header and the rows, from the first to the last.
+fn write_picture(rt: &(impl Print + Eprint), memory: &[u8], s: Surface) -> Result<(), Failed> {
     let mut line = [0u8; 64];
     let n = ppm::header(&mut line, s.width as u32, s.height as u32);
-    let printed = command::print(rt, &line, n);
-    if printed.ok {
-        write_rows(rt, memory, s);
+    command::print(rt, &line, n).outcome?;
+    let mut out = command::large_buffer();
+    for y in 0..s.height {
+        let n = ppm::row(memory, s, y, &mut out).unwrap_or(0);
+        command::print(rt, &out, n).outcome?;
     }
+    Ok(())
 }
 
 // Replays the file that an argument names in 65,536 zero bytes, by the slow engine or by the fast one, and, if nothing failed, writes the picture of the
-// rectangle.
-fn show(rt: &(impl Files + Env + Print + Eprint), s: Surface, file: usize, slow: bool) -> Replaying
-    ensures { ReplayedInZeros First false result.handed result.ok }
+// rectangle. Of what is written no contract can say anything.
+fn show(
+    rt: &(impl Files + Env + Print + Eprint),
+    s: Surface,
+    file: usize,
+    renderer: Renderer,
+) -> Result<u64, Failed>
+    ensures { ReplayedInZeros First false result }
 {
     let mut memory = [0u8; 65536];
-    let came = replay_io::replay_argument(rt, Edition::First, file, &mut memory, false, slow);
-    if came.ok {
-        write_picture(rt, &memory, s);
+    let came = replay_io::replay_argument(rt, Edition::First, file, &mut memory, false, renderer);
+    if came.is_ok() {
+        let _written = write_picture(rt, &memory, s);
     }
     came
 }
@@ -114,9 +85,9 @@ fn main(rt: HostRuntime) {
         usage(&rt);
         return;
     }
-    let Rectangle::Inside(s) = rectangle_argument(&rt, file) else {
+    let Some(s) = rectangle_argument(&rt, file) else {
         usage(&rt);
         return;
     };
-    show(&rt, s, file, choice.slow);
+    let _came = show(&rt, s, file, choice.renderer);
 }

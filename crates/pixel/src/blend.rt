@@ -7,14 +7,14 @@ ghost use Rattle.pixel.specs.Rules.{blend_mode_factors};
 use crate::colour::Colour;
 
 // Which alpha a pixel has: its own, its surface's global one, or the product of the two.
-#[derive(Clone, Copy)]
+#[derive(Clone, Copy, Debug, PartialEq, Eq)]
 pub enum AlphaMode {
     Pixel,
     Global,
     Mixed,
 }
 
-#[derive(Clone, Copy)]
+#[derive(Clone, Copy, Debug, PartialEq, Eq)]
 pub enum Factor {
     Zero,
     One,
@@ -25,13 +25,13 @@ pub enum Factor {
 }
 
 // The factor of the source and that of the destination.
-#[derive(Clone, Copy)]
+#[derive(Clone, Copy, Debug, PartialEq, Eq)]
 pub struct BlendFactors {
     pub source: Factor,
     pub destination: Factor,
 }
 
-#[derive(Clone, Copy)]
+#[derive(Clone, Copy, Debug, PartialEq, Eq)]
 pub enum BlendMode {
     None,
     Clear,
@@ -53,7 +53,7 @@ pub enum BlendMode {
 fn product(a: u8, b: u8) -> u32
     ensures { (result ≡ a * b) × (result ≤ 65025) }
 {
-    (a as u32) * (b as u32)
+    u32::from(a) * u32::from(b)
 }
 
 impl AlphaMode {
@@ -62,17 +62,6 @@ impl AlphaMode {
         ensures { result ≡ is_alpha_mode code }
     {
         code <= 2
-    }
-
-    // The mode of a code. Any number above 2 counts as 2.
-    pub fn from_code(code: u32) -> AlphaMode
-        ensures { result ≡ alpha_mode_of code }
-    {
-        match code {
-            0 => AlphaMode::Pixel,
-            1 => AlphaMode::Global,
-            _ => AlphaMode::Mixed,
-        }
     }
 
     // The alpha of a pixel under this mode.
@@ -99,26 +88,25 @@ impl AlphaMode {
     }
 }
 
+// The mode of a code. Any number above 2 counts as 2.
+impl From<u32> for AlphaMode {
+    ghost from_gives = { λ code mode. mode ≡ alpha_mode_of code };
+
+    fn from(code: u32) -> Self {
+        match code {
+            0 => AlphaMode::Pixel,
+            1 => AlphaMode::Global,
+            _ => AlphaMode::Mixed,
+        }
+    }
+}
+
 impl Factor {
     // Whether a number is the code of a factor.
     pub fn is_code(code: u32) -> bool
         ensures { result ≡ is_factor code }
     {
         code <= 5
-    }
-
-    // The factor of a code. Any number above 5 counts as 5.
-    pub fn from_code(code: u32) -> Factor
-        ensures { result ≡ factor_of code }
-    {
-        match code {
-            0 => Factor::Zero,
-            1 => Factor::One,
-            2 => Factor::SourceAlpha,
-            3 => Factor::InverseSourceAlpha,
-            4 => Factor::DestinationAlpha,
-            _ => Factor::InverseDestinationAlpha,
-        }
     }
 
     // The factor for a source alpha and a destination alpha.
@@ -132,6 +120,22 @@ impl Factor {
             Factor::InverseSourceAlpha => 255 - source,
             Factor::DestinationAlpha => destination,
             Factor::InverseDestinationAlpha => 255 - destination,
+        }
+    }
+}
+
+// The factor of a code. Any number above 5 counts as 5.
+impl From<u32> for Factor {
+    ghost from_gives = { λ code factor. factor ≡ factor_of code };
+
+    fn from(code: u32) -> Self {
+        match code {
+            0 => Factor::Zero,
+            1 => Factor::One,
+            2 => Factor::SourceAlpha,
+            3 => Factor::InverseSourceAlpha,
+            4 => Factor::DestinationAlpha,
+            _ => Factor::InverseDestinationAlpha,
         }
     }
 }
@@ -229,6 +233,7 @@ impl BlendFactors {
     }
 
     // The colour of a source pixel blended with a destination pixel.
+    #[tactic(auto, unfolding(crate::specs::Blending::blended))]
     pub fn blend(self, s: Colour, d: Colour) -> Colour
         ensures { result ≡ blended self s d }
     {
@@ -251,5 +256,5 @@ pub fn blend_channel(s: u8, fs: u8, d: u8, fd: u8) -> u8
     ensures { result ≡ blended_channel s fs d fd }
 {
     let sum = division::div_255(product(s, fs) + product(d, fd));
-    if sum < 255 { sum as u8 } else { 255 }
+    sum.min(255) as u8
 }

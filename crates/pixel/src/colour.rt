@@ -1,5 +1,5 @@
 // A colour with its alpha, eight bits a channel.
-#[derive(Clone, Copy)]
+#[derive(Clone, Copy, Debug, PartialEq, Eq)]
 pub struct Colour {
     pub alpha: u8,
     pub red: u8,

@@ -5,7 +5,7 @@ ghost use Rattle.pixel.specs.Gradient.{signed_step, rounded_down, held, gradient
 use crate::Colour;
 
 // What each channel changes by from one place to the next, as register words: 25 bits in two's complement, the low 16 a fraction.
-#[derive(Clone, Copy)]
+#[derive(Clone, Copy, Debug, PartialEq, Eq)]
 pub struct Steps {
     pub alpha: u32,
     pub red: u32,
@@ -45,11 +45,7 @@ fn floor(v: i64) -> i64
 fn clamp(v: i64) -> u8
     ensures { result ≡ held v }
 {
-    if v < 0 {
-        0
-    } else {
-        if v > 255 { 255 } else { v as u8 }
-    }
+    v.clamp(0, 255) as u8
 }
 
 // A channel i places along. The sum is exact; it is rounded once and held once.
@@ -63,6 +59,7 @@ fn channel(start: u8, step: u32, i: u16) -> u8
 }
 
 // The colour i places along.
+#[tactic(auto, unfolding(crate::specs::Gradient::gradient_colour))]
 pub fn colour_at(start: Colour, steps: Steps, i: u16) -> Colour
     ensures { result ≡ gradient_colour start steps i }
 {

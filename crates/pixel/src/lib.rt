@@ -8,4 +8,4 @@ pub mod gradient;
 
 pub use blend::{AlphaMode, BlendFactors, BlendMode, Factor};
 pub use colour::Colour;
-pub use format::{Argb8888, Format, Layout, Rgb565, Rgb888};
+pub use format::{Argb8888, Format, Layout, Rgb565, Rgb888, StoredPixel};

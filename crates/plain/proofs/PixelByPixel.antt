@@ -14,9 +14,9 @@ use Rattle.pixel.specs.Formats.{bytes_per_pixel, layout_of}
 use Rattle.pixel.specs.Colours.{packed}
 use Rattle.transform.specs.Transform.{InPicture}
 use Rattle.transform.specs.declared.Point.{Point}
-use Rattle.surface.specs.Surface.{row_length, row_start, pixel_start, DisjointRows}
+use Rattle.surface.specs.Surface.{row_start, pixel_start, DisjointRows}
 use Rattle.surface.specs.Memory.{mapi}
-use Rattle.surface.specs.Rows.{overwrite_rows, row_byte}
+use Rattle.surface.specs.Rows.{overwrite_rows}
 use Rattle.surface.specs.Drawn.{store_pixel}
 use Rattle.surface.specs.declared.Surface.{Surface}
 use Rattle.surface.proofs.Sizes.{bytes-some}

@@ -1,6 +1,5 @@
 -- Internal: one pixel of a task, drawn by itself (02, request 13); what the functions of the slow engine ask.
 use Rattle.std.specs.Prelude.{◌≡◌, true, List, ℕ, ◌≤◌, ◌<◌, length}
-use Rattle.range.specs.declared.Range.{Range}
 use Rattle.transform.specs.Transform.{InPicture, rotated_size}
 use Rattle.surface.specs.Surface.{span}
 use Rattle.register.specs.Task.{is_buffer}

@@ -7,56 +7,36 @@ ghost use Rattle.transform.specs.Transform.{InPicture, rotated_size};
 ghost use Rattle.surface.specs.Surface.{pixel_start};
 ghost use Rattle.surface.specs.Drawn.{store_pixel};
 ghost use Rattle.register.specs.Size.{size_of};
-ghost use Rattle.row_pixels.specs.Row.{source_pixel_of};
 ghost use Rattle.raster.specs.Task.{source_colour, destination_colour, pixel_colour, draw_task};
 ghost use Rattle.raster.specs.Row.{draw_row};
 ghost use Rattle.plain.specs.Pixel.{SourcePixel, DestinationPixel, Pixel, Row, Whole};
 
 use pixel::Colour;
 use pixel::gradient::colour_at;
+use raster::draw_rows;
 use register::{Destination, Source, SourceMode, Task};
 use row_pixels::{composite, origin, source_point};
 use surface::{Surface, load, store};
-use transform::Transform;
-
-// The column of the source's own picture that output pixel (x, y) comes from.
-fn column_of(s: Surface, transform: Transform, x: usize, y: usize) -> u16
-    requires { InPicture (rotated_size transform.rotation (size_of s)) (record { x = x; y = y }) }
-    ensures { result ≡ (source_pixel_of s transform x y).x }
-{
-    let p = source_point(s, transform, x, y);
-    p.x as u16
-}
-
-// And the row.
-fn row_of(s: Surface, transform: Transform, x: usize, y: usize) -> u16
-    requires { InPicture (rotated_size transform.rotation (size_of s)) (record { x = x; y = y }) }
-    ensures { result ≡ (source_pixel_of s transform x y).y }
-{
-    let p = source_point(s, transform, x, y);
-    p.y as u16
-}
 
 // The source colour of output pixel (x, y), by source mode.
 fn source_colour(memory: &[u8], source: Source, x: usize, y: usize) -> Colour
     requires { SourcePixel memory.now source x y }
     ensures { result ≡ source_colour source memory.now x y }
 {
-    let mode = source.mode;
-    match mode {
+    match source.mode {
         SourceMode::Buffer => {
             let surface = source.surface;
-            let format = surface.format;
-            load(memory, origin(surface, source.transform, x, y), format)
+            let at = origin(surface, source.transform, x, y);
+            load(memory, at, surface.format)
         }
         SourceMode::Colour => source.colour,
         SourceMode::GradientX => {
-            let i = column_of(source.surface, source.transform, x, y);
-            colour_at(source.colour, source.steps, i)
+            let p = source_point(source.surface, source.transform, x, y);
+            colour_at(source.colour, source.steps, p.x as u16)
         }
         SourceMode::GradientY => {
-            let i = row_of(source.surface, source.transform, x, y);
-            colour_at(source.colour, source.steps, i)
+            let p = source_point(source.surface, source.transform, x, y);
+            colour_at(source.colour, source.steps, p.y as u16)
         }
     }
 }
@@ -67,8 +47,7 @@ fn destination_colour(memory: &[u8], destination: Destination, x: u16, y: u16) -
     ensures { result ≡ destination_colour destination memory.now x y }
 {
     let surface = destination.surface;
-    let format = surface.format;
-    load(memory, surface.pixel_start(x, y), format)
+    load(memory, surface.pixel_start(x, y), surface.format)
 }
 
 // The colour of output pixel (x, y).
@@ -93,9 +72,8 @@ fn draw_pixel(memory: &mut [u8], task: Task, x: u16, y: u16)
     ensures { memory.new ≡ store_pixel task.output.format memory.old (pixel_start task.output x y) (pixel_colour task memory.old x y) }
 {
     let output = task.output;
-    let format = output.format;
     let c = pixel_colour(memory, task, x, y);
-    store(memory, output.pixel_start(x, y), format, c);
+    store(memory, output.pixel_start(x, y), output.format, c);
 }
 
 // Draws row y, pixel by pixel.
@@ -103,12 +81,8 @@ fn draw_row(memory: &mut [u8], task: Task, y: u16)
     requires { Row memory.old task y }
     ensures { memory.new ≡ draw_row task y memory.old }
 {
-    let output = task.output;
-    let width = output.width;
-    let mut x: u16 = 0;
-    while x < width {
+    for x in 0..task.output.width {
         draw_pixel(memory, task, x, y);
-        x += 1;
     }
 }
 
@@ -117,11 +91,5 @@ pub fn draw_task(memory: &mut [u8], task: Task)
     requires { Whole memory.old task }
     ensures { memory.new ≡ draw_task task memory.old }
 {
-    let output = task.output;
-    let height = output.height;
-    let mut y: u16 = 0;
-    while y < height {
-        draw_row(memory, task, y);
-        y += 1;
-    }
+    draw_rows(memory, task, |m: &mut [u8], y| draw_row(m, task, y));
 }

@@ -2,10 +2,8 @@
 ghost use Rattle.std.specs.Prelude.{◌≡◌, ◌+◌, ◌*◌, ◌/◌, ◌-◌, ◌≤◌, min};
 ghost use Rattle.pixel.specs.Blending.{factor_value, blended_channel};
 ghost use Rattle.plan.specs.Blend.{duo};
-ghost use Rattle.plan.specs.Plan.{Planned};
 
 use crate::{Plan, factor};
-use lanes::wide;
 
 fn prod(a: u16, b: u16) -> u16
     requires { (a ≤ 255) × (b ≤ 255) }
@@ -74,21 +72,22 @@ fn two_by_factors(s: u16, fs: u16, d: u16, fd: u16) -> u16
 }
 
 // SRC_OVER, of the complement of the source.
-pub fn over_two(c: u16, d: u16, f: u16) -> u16
-    requires { f ≤ 255 }
+pub fn over_two(c: u16, d: u16, f: u8) -> u16
     ensures { result ≡ duo (65535 - c) 255 d f }
 {
-    65535 - (left(c % 256, d % 256, f) + left(c / 256, d / 256, f) * 256)
+    let g = f as u16;
+    65535 - (left(c % 256, d % 256, g) + left(c / 256, d / 256, g) * 256)
 }
 
 // Two channels under any rule; x and y are the alphas of the two pixels.
-pub fn blend_two(p: Plan, s: u16, d: u16, x: u16, y: u16) -> u16
-    requires { Planned p × ((x ≤ 255) × (y ≤ 255)) }
+pub fn blend_two(p: Plan, s: u16, d: u16, x: u8, y: u8) -> u16
     ensures { result ≡ duo s (factor_value p.rule.source x y) d (factor_value p.rule.destination x y) }
 {
     let fs = p.source;
     let fd = p.destination;
-    two_by_factors(s, factor(fs, x, y), d, factor(fd, x, y))
+    let u = x as u16;
+    let v = y as u16;
+    two_by_factors(s, factor(fs, u, v), d, factor(fd, u, v))
 }
 
 // One channel by two factors.
@@ -96,18 +95,17 @@ pub fn mix_one(s: u8, fs: u16, d: u8, fd: u16) -> u8
     requires { (fs ≤ 255) × (fd ≤ 255) }
     ensures { result ≡ blended_channel s fs d fd }
 {
-    two_products(wide(s), fs, wide(d), fd) as u8
+    two_products(s as u16, fs, d as u16, fd) as u8
 }
 
 // One channel under any rule; x and y are the alphas of the two pixels.
 pub fn blend_one(p: Plan, s: u8, d: u8, x: u8, y: u8) -> u8
-    requires { Planned p }
     ensures { result ≡ blended_channel s (factor_value p.rule.source x y) d (factor_value p.rule.destination x y) }
 {
     let fs = p.source;
     let fd = p.destination;
-    let u = wide(x);
-    let v = wide(y);
+    let u = x as u16;
+    let v = y as u16;
     mix_one(s, factor(fs, u, v), d, factor(fd, u, v))
 }
 

@@ -1,5 +1,5 @@
 -- Laws of words and pictures.
--- numbers and names, character by character
+-- numbers
 pub mod Texts
 -- headers and rows
 pub mod Shown

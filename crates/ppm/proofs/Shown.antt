@@ -45,11 +45,11 @@ byte_of_colour colour x k j l e =
 
 -- one pixel more
 pub shown_more : (colour : ℕ → Colour) (out₀ out : List ℕ) (x at : ℕ) (c : Colour) → out ≡ row_shown colour at out₀ → at ≡ 3 * x → c ≡ colour x →
-    set (set (set out at c.red) (at + 1) c.green) (at + 2) c.blue ≡ row_shown colour (at + 3) out₀
+    set (set (set out at c.red) (at + 1) c.green) (at + 2) c.blue ≡ row_shown colour (3 * (x + 1)) out₀
 unfolding row_shown channel_of
 shown_more colour out₀ out x at c so is e =
     let two : at + 1 + 1 ≡ at + 2 = omega arith in
-    let three : at + 2 + 1 ≡ at + 3 = omega arith in
+    let three : at + 2 + 1 ≡ 3 * (x + 1) = omega arith in
     let red = set-within 0 at _ out₀ out at c.red so (omega arith) (ap (λ (k : Colour). k.red) e ∙ byte_of_colour colour x 0 at (omega arith) (omega arith)) in
     let green = set-within 0 (at + 1) _ out₀ (set out at c.red) (at + 1) c.green red (omega arith)
     (ap (λ (k : Colour). k.green) e ∙ byte_of_colour colour x 1 (at + 1) (omega arith) (omega arith)) in

@@ -1,5 +1,5 @@
 -- A picture of a rectangle in the PPM format: a header, then row after row three bytes a pixel, red, green and blue. Alpha is not shown.
-use Rattle.std.specs.Prelude.{ℕ, ◌+◌, ◌*◌, ◌/◌, ◌%◌, Bool, cond, ◌&&◌, List, [], ◌∷◌, ◌++◌, length, eqb, leb}
+use Rattle.std.specs.Prelude.{ℕ, ◌+◌, ◌*◌, ◌/◌, ◌%◌, Bool, cond, ◌&&◌, List, [], ◌∷◌, ◌++◌, length, eqb, leb, Option, Some, None}
 use Rattle.text.specs.Decimal.{decimal}
 use Rattle.pixel.specs.declared.colour.Colour.{Colour}
 use Rattle.surface.specs.declared.Surface.{Surface}
@@ -32,8 +32,8 @@ abbrev pub has_room : Surface → (memory : List ℕ) → ℕ → (out : List �
 has_room s memory y out = leb (row_start s y + row_length s) (length memory) && leb (shown_length s) (length out)
 
 -- how many bytes of a buffer are written: the row's, or none where it has no room
-abbrev pub shown_size : Surface → (memory : List ℕ) → ℕ → (out : List ℕ) → ℕ
-shown_size s memory y out = cond (has_room s memory y out) (shown_length s) 0
+abbrev pub shown_size : Surface → (memory : List ℕ) → ℕ → (out : List ℕ) → Option ℕ
+shown_size s memory y out = cond (has_room s memory y out) (Some (shown_length s)) None
 
 -- a buffer after the first n bytes of a row of pixels in these colours were put at its start; other bytes are as they were
 unfoldable pub row_shown : (ℕ → Colour) → ℕ → List ℕ → List ℕ

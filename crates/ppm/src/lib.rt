@@ -6,5 +6,5 @@ pub mod rectangle;
 pub mod words;
 
 pub use picture::{header, row};
-pub use rectangle::{Pixel, Rectangle, pixel_of, rectangle_of};
-pub use words::{ParsedFormat, ParsedNumber, format_named, number_of};
+pub use rectangle::{pixel_of, rectangle_of};
+pub use words::{format_named, number_of};

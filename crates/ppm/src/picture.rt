@@ -1,5 +1,5 @@
 // The bytes of a picture.
-ghost use Rattle.std.specs.Prelude.{◌≡◌, ℕ, ◌+◌, ◌*◌, ◌≤◌, length, set};
+ghost use Rattle.std.specs.Prelude.{◌≡◌, ℕ, ◌+◌, ◌*◌, ◌≤◌, length, set, unwrap_or};
 ghost use Rattle.text.specs.Line.{line_of, appended};
 ghost use Rattle.pixel.specs.Formats.{bytes_per_pixel};
 ghost use Rattle.surface.specs.Drawn.{load_pixel};
@@ -36,31 +36,25 @@ fn put_row(memory: &[u8], start: usize, format: Format, width: usize, out: &mut 
     ensures { out.new ≡ row_shown (λ (x : ℕ). load_pixel format memory.now (start + x * bytes_per_pixel format)) (3 * width) out.old }
 {
     let bytes = format.bytes();
-    let mut x = 0;
-    let mut from = start;
-    let mut to = 0;
-    while x < width {
-        let c = surface::load(memory, from, format);
-        put(out, to, c);
-        from += bytes;
-        to += 3;
-        x += 1;
+    for x in 0..width {
+        let c = surface::load(memory, start + x * bytes, format);
+        put(out, 3 * x, c);
     }
 }
 
-// Writes row y of a rectangle at the start of a buffer, and answers its length, or 0 if the row does not lie in memory or
-// has no room.
-pub fn row(memory: &[u8], s: Surface, y: u16, out: &mut [u8]) -> usize
+// Writes row y of a rectangle at the start of a buffer, and answers its length. There is none if the row does not lie in memory or
+// has no room; then the buffer stays as it was.
+#[tactic(auto, using(crate::proofs::Shown::shown_none))]
+pub fn row(memory: &[u8], s: Surface, y: u16, out: &mut [u8]) -> Option<usize>
     ensures { (result ≡ shown_size s memory.now y out.old)
-        × (out.new ≡ row_shown (row_colour s memory.now y) result out.old) }
+        × (out.new ≡ row_shown (row_colour s memory.now y) (unwrap_or result 0) out.old) }
 {
     let width = s.width as usize;
-    let format = s.format;
     let start = s.row_start(y);
     let has_room = (start + s.row_length() <= memory.len()) & (3 * width <= out.len());
     if !has_room {
-        return 0;
+        return None;
     }
-    put_row(memory, start, format, width, out);
-    3 * width
+    put_row(memory, start, s.format, width, out);
+    Some(3 * width)
 }

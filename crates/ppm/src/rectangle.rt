@@ -6,12 +6,6 @@ use pixel::Format;
 use range::Range;
 use surface::Surface;
 
-#[derive(Clone, Copy)]
-pub enum Rectangle {
-    Inside(Surface),
-    Outside,
-}
-
 fn is_side(side: u32) -> bool
     ensures { result ≡ is_side side }
 {
@@ -19,12 +13,19 @@ fn is_side(side: u32) -> bool
 }
 
 // The surface of these numbers, if it lies in the memory of a replay.
-pub fn rectangle_of(address: u32, stride: u32, width: u32, height: u32, format: Format) -> Rectangle
+#[tactic(auto, unfolding(crate::specs::Rectangle::rectangle_of))]
+pub fn rectangle_of(
+    address: u32,
+    stride: u32,
+    width: u32,
+    height: u32,
+    format: Format,
+) -> Option<Surface>
     ensures { result ≡ rectangle_of address stride width height format }
 {
     let sized = is_side(width) & is_side(height) & (stride < 65536);
     if !sized {
-        return Rectangle::Outside;
+        return None;
     }
     let s = Surface {
         address,
@@ -34,25 +35,19 @@ pub fn rectangle_of(address: u32, stride: u32, width: u32, height: u32, format: 
         format,
     };
     if s.is_inside(Range::new(0, 65536)) {
-        return Rectangle::Inside(s);
+        return Some(s);
     }
-    Rectangle::Outside
+    None
 }
 
-// The address of a pixel of a page, which may lie outside memory, or none.
-#[derive(Clone, Copy)]
-pub enum Pixel {
-    At(usize),
-    TooFar,
-}
-
-// The first byte of pixel (x, y) of a page with this address, stride and format.
-pub fn pixel_of(address: u32, stride: u32, format: Format, x: u32, y: u32) -> Pixel
+// The first byte of pixel (x, y) of a page with this address, stride and format. It may lie outside memory; none is so far away.
+#[tactic(auto, unfolding(crate::specs::Rectangle::pixel_of))]
+pub fn pixel_of(address: u32, stride: u32, format: Format, x: u32, y: u32) -> Option<usize>
     ensures { result ≡ pixel_of address stride format x y }
 {
     let near = (stride < 65536) & (x < 4096) & (y < 4096);
     if !near {
-        return Pixel::TooFar;
+        return None;
     }
     // The sides do not matter to where a pixel lies.
     let s = Surface {
@@ -62,5 +57,5 @@ pub fn pixel_of(address: u32, stride: u32, format: Format, x: u32, y: u32) -> Pi
         height: 4096,
         format,
     };
-    Pixel::At(s.pixel_start(x as u16, y as u16))
+    Some(s.pixel_start(x as u16, y as u16))
 }

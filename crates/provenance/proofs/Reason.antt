@@ -1,10 +1,9 @@
 -- The reason is true: the law of a list of tasks, lifted over a record and over the records.
 use mathlib.Core.Path.{◌≡◌, refl, sym, ap, subst, ◌∙◌}
 use mathlib.Core.Bool.{Bool, true, false, cond}
-use mathlib.Core.Logic.{◌⊎◌, inl, inr}
+use mathlib.Core.Logic.{inl, inr}
 use mathlib.Core.List.{List, [], ◌∷◌, ◌++◌}
 use Prim.Native.Nat.{ℕ, ◌<◌}
-use native.Mathlib.Omega.{arith}
 use lib.ListN.{length, get_or, replicate, length-replicate, get_or-replicate}
 use lib.Dec.{eqb}
 use Rattle.records.specs.declared.Edition.TheVariants.{First}
@@ -23,14 +22,14 @@ use Rattle.lines.specs.Lines.{file_reset, engine_opened, replay_start, submit_an
 use Rattle.lines.specs.Answered.{record_refusal, replay_window, ticket_of_count, count_after, drawn_after, accepted_from, submit_and_run_all}
 use Rattle.lines.proofs.Answered.{promise as answered}
 use Rattle.lines.proofs.Start.{starting_state}
-use Rattle.provenance.specs.declared.Touched.{Touched}
-use Rattle.provenance.specs.declared.Touched.TheVariants.{NotDrawn, By}
+use Rattle.std.specs.Prelude.{Option, None}
+use Rattle.provenance.specs.declared.Touch.{Touch}
 use Rattle.provenance.specs.Drawn.{Drawn, numbered, reading_of, drawn_by, drawn_from, tasks_of}
-use Rattle.provenance.specs.Touched.{touch_of, last_from, touched_by}
-use Rattle.provenance.specs.Reason.{zeros, memory_drawn, byte_after, Wrote, Untouched, True, ProvenanceHolds}
+use Rattle.provenance.specs.Touched.{last_from, touched_by}
+use Rattle.provenance.specs.Reason.{zeros, memory_drawn, byte_after, True, ProvenanceHolds}
 use Rattle.provenance.proofs.Given.{given}
 use Rattle.provenance.proofs.Blamed.{blames}
-use Rattle.provenance.proofs.Tasks.{tasks-append, tasks-numbered, draw-append, AllRows, rows_append, LastOf, Last, last-is, writes, keeps, untouched}
+use Rattle.provenance.proofs.Tasks.{tasks-append, tasks-numbered, draw-append, AllRows, rows_append, Last, last-is, writes, keeps, untouched}
 
 -- ---- a record
 
@@ -119,21 +118,21 @@ module _ (entries : List Entry) (i : ℕ) (l : i < 65536) where
   abbrev all : List Drawn
   all = drawn_from 0 entries
 
-  abbrev answer : Touched
-  answer = last_from NotDrawn i all
+  abbrev answer : Option Touch
+  answer = last_from None i all
 
   byte-is : byte_after entries i ≡ get_or (memory_drawn all) i 0
   byte-is = ap (λ (m : List ℕ). get_or m i 0) (engine entries)
 
-  true_by : Last NotDrawn i all answer → True entries i answer
-  true_by (inl none) = subst (λ (a : Touched). True entries i a) (sym none.0) (record {
+  true_by : Last None i all answer → True entries i answer
+  true_by (inl none) = subst (λ (a : Option Touch). True entries i a) (sym none.0) (record {
     outside = none.1;
     zero = byte-is ∙ untouched all (drawn-rows 0 entries) zeros i none.1 ∙ zeros-zero i l;
   })
   true_by (inr w) =
       let rows : AllRows (tasks_of (w.before ++ w.drawn ∷ w.after)) = rw w.among at (drawn-rows 0 entries) in
       let inside : i < length zeros = rw zeros_long l in
-      subst (λ (a : Touched). True entries i a) (sym w.named) (record {
+      subst (λ (a : Option Touch). True entries i a) (sym w.named) (record {
         before = w.before;
         drawn = w.drawn;
         after = w.after;
@@ -150,7 +149,7 @@ module _ (entries : List Entry) (i : ℕ) (l : i < 65536) where
 
   reason : True entries i (touched_by entries i)
   unfolding touched_by
-  reason = true_by (last-is NotDrawn i all (drawn-rows 0 entries))
+  reason = true_by (last-is None i all (drawn-rows 0 entries))
 
 pub promise : ProvenanceHolds
 promise = record { engine = engine; reason = reason; blames = blames }

@@ -1,10 +1,9 @@
 -- The last task of a list whose output rows hold a byte: it wrote what the list leaves there.
-use mathlib.Core.Path.{◌≡◌, refl, sym, ap, subst, ◌∙◌}
+use mathlib.Core.Path.{◌≡◌, refl, ap, ◌∙◌}
 use mathlib.Core.Bool.{Bool, true, false, cond}
 use mathlib.Core.Logic.{◌⊎◌, inl, inr}
 use mathlib.Core.List.{List, [], ◌∷◌, ◌++◌}
 use Prim.Native.Nat.{ℕ, ◌+◌, ◌<◌}
-use native.Mathlib.Omega.{arith}
 use lib.ListN.{length, get_or}
 use Rattle.surface.specs.Surface.{InRow}
 use Rattle.register.specs.declared.task.Task.{Task}
@@ -13,8 +12,8 @@ use Rattle.raster.specs.Task.{draw_task, draw_tasks}
 use Rattle.raster.specs.WriteFrame.{OutsideRows, OutsideAllRows, output_byte}
 use Rattle.raster.proofs.Judged.{rectangle}
 use Rattle.raster.proofs.Outside.{length-tasks, outside-task, inside-task}
-use Rattle.provenance.specs.declared.Touched.{Touched}
-use Rattle.provenance.specs.declared.Touched.TheVariants.{By}
+use Rattle.std.specs.Prelude.{Option, Some}
+use Rattle.provenance.specs.declared.Touch.{Touch}
 use Rattle.provenance.specs.Drawn.{Drawn, numbered, tasks_of}
 use Rattle.provenance.specs.Touched.{holds, touch_of, last_from}
 use Rattle.provenance.proofs.Holds.{holds_row, holds_out}
@@ -57,23 +56,23 @@ stays-outside (t ∷ ts) h memory i out =
 
 -- ---- the last that holds a byte
 
-pub record LastOf (i : ℕ) (ds : List Drawn) (answer : Touched) : Type 0 where
+pub record LastOf (i : ℕ) (ds : List Drawn) (answer : Option Touch) : Type 0 where
   pub before : List Drawn
   pub drawn : Drawn
   pub after : List Drawn
   pub among : ds ≡ before ++ drawn ∷ after
-  pub named : answer ≡ By (touch_of drawn)
+  pub named : answer ≡ Some (touch_of drawn)
   pub row : ℕ
   pub place : ℕ
   pub held : InRow drawn.task.output i row place
   pub later : OutsideAllRows (tasks_of after) i
 
 -- none of them, and the answer is the one before; or the last
-abbrev pub Last : (found : Touched) (i : ℕ) → List Drawn → (answer : Touched) → Type 0
+abbrev pub Last : (found : Option Touch) (i : ℕ) → List Drawn → (answer : Option Touch) → Type 0
 Last found i ds answer = ((answer ≡ found) × OutsideAllRows (tasks_of ds) i) ⊎ LastOf i ds answer
 
 -- one more in front
-module _ (i : ℕ) (d : Drawn) (ds : List Drawn) (answer : Touched) where
+module _ (i : ℕ) (d : Drawn) (ds : List Drawn) (answer : Option Touch) where
   further : LastOf i ds answer → LastOf i (d ∷ ds) answer
   further l = record {
     before = d ∷ l.before;
@@ -87,7 +86,7 @@ module _ (i : ℕ) (d : Drawn) (ds : List Drawn) (answer : Touched) where
     later = l.later;
   }
 
-  hit : holds d.task.output i ≡ true → (found : Touched) → Last (By (touch_of d)) i ds answer → Last found i (d ∷ ds) answer
+  hit : holds d.task.output i ≡ true → (found : Option Touch) → Last (Some (touch_of d)) i ds answer → Last found i (d ∷ ds) answer
   hit e found (inl none) = inr (record {
     before = [];
     drawn = d;
@@ -101,19 +100,19 @@ module _ (i : ℕ) (d : Drawn) (ds : List Drawn) (answer : Touched) where
   })
   hit e found (inr l) = inr (further l)
 
-  miss : OutsideRows d.task i → (found : Touched) → Last found i ds answer → Last found i (d ∷ ds) answer
+  miss : OutsideRows d.task i → (found : Option Touch) → Last found i ds answer → Last found i (d ∷ ds) answer
   unfolding tasks_of
   miss out found (inl none) = inl (none.0, (out, none.1))
   miss out found (inr l) = inr (further l)
 
-pub last-is : (found : Touched) (i : ℕ) (ds : List Drawn) → AllRows (tasks_of ds) → Last found i ds (last_from found i ds)
+pub last-is : (found : Option Touch) (i : ℕ) (ds : List Drawn) → AllRows (tasks_of ds) → Last found i ds (last_from found i ds)
 unfolding last_from tasks_of
 last-is found i [] h = inl (refl, tt)
-last-is found i (d ∷ ds) h = go (holds d.task.output i) refl (last-is (By (touch_of d)) i ds h.1) (last-is found i ds h.1)
+last-is found i (d ∷ ds) h = go (holds d.task.output i) refl (last-is (Some (touch_of d)) i ds h.1) (last-is found i ds h.1)
   where
-    go : (b : Bool) → holds d.task.output i ≡ b → Last (By (touch_of d)) i ds (last_from (By (touch_of d)) i ds) → Last found i ds (last_from found i ds)
-        → Last found i (d ∷ ds) (last_from (cond b (By (touch_of d)) found) i ds)
-    go true e this rest = hit i d ds (last_from (By (touch_of d)) i ds) e found this
+    go : (b : Bool) → holds d.task.output i ≡ b → Last (Some (touch_of d)) i ds (last_from (Some (touch_of d)) i ds) → Last found i ds (last_from found i ds)
+        → Last found i (d ∷ ds) (last_from (cond b (Some (touch_of d)) found) i ds)
+    go true e this rest = hit i d ds (last_from (Some (touch_of d)) i ds) e found this
     go false e this rest = miss i d ds (last_from found i ds) (holds_out d.task.output i h.0.some h.0.roomy e) found rest
 
 -- ---- what is there in the end

@@ -1,6 +1,6 @@
 -- "the fault number, the place and the word at that place, and for 24 also the register's offset and what it held before that word"
 -- (02, request 10; 01, "Groups and registers" and "Faults of a taken batch").
-use Rattle.std.specs.Prelude.{List, [], ◌∷◌, cond, ◌&&◌, ℕ, zero, suc, ◌+◌, ◌-◌, ◌/◌, get_or, eqb}
+use Rattle.std.specs.Prelude.{List, [], ◌∷◌, cond, ◌&&◌, ℕ, zero, suc, ◌+◌, ◌-◌, ◌/◌, get_or, eqb, Option, Some, None}
 use Rattle.word.specs.Word.{words}
 use Rattle.word.specs.Field.{field}
 use Rattle.pixel.specs.declared.gradient.Steps.{Steps}
@@ -8,16 +8,12 @@ use Rattle.register.specs.declared.bank.SurfaceRegisters.{SurfaceRegisters}
 use Rattle.register.specs.declared.bank.Bank.{Bank}
 use Rattle.task_check.specs.declared.fault.Fault.{Fault}
 use Rattle.task_check.specs.declared.fault.Fault.TheVariants.{ReservedBits, GroupLength, OpenTask, NotWritable, Forbidden, BadSurface, SizeMismatch, OutOfBounds, Overlap}
-use Rattle.task_check.specs.Faults.{fault_number}
 use Rattle.batch.specs.Batch.{DecodedBatch, BatchEnd, finished, faulty}
 use Rattle.records.specs.Records.{Entry}
 use Rattle.lines.specs.Answered.{record_refusal, ticket_of_count, count_after}
 use Rattle.provenance.specs.declared.Group.{Group}
-use Rattle.provenance.specs.declared.Detail.{Detail}
-use Rattle.provenance.specs.declared.Detail.TheVariants.{Nothing, Register}
+use Rattle.provenance.specs.declared.HeldRegister.{HeldRegister}
 use Rattle.provenance.specs.declared.Explanation.{Explanation}
-use Rattle.provenance.specs.declared.Why.{Why}
-use Rattle.provenance.specs.declared.Why.TheVariants.{NoFault, Faulted}
 use Rattle.provenance.specs.Drawn.{reading_of}
 
 -- 01, "Groups and registers", by the headers alone: bits 31:16 the first register's offset, 15:2 the number of words. So many words of a
@@ -64,32 +60,32 @@ held_in bank offset =
     (cond (eqb offset 0x090) bank.blending 0)))))
 
 -- for 24 alone; the bank is that of all words before this one, those of earlier tasks and of the same group included
-abbrev pub detail_of : Fault → (register : ℕ) → Bank → Detail
-detail_of Forbidden register bank = Register register (held_in bank register)
-detail_of ReservedBits register bank = Nothing
-detail_of GroupLength register bank = Nothing
-detail_of OpenTask register bank = Nothing
-detail_of NotWritable register bank = Nothing
-detail_of BadSurface register bank = Nothing
-detail_of SizeMismatch register bank = Nothing
-detail_of OutOfBounds register bank = Nothing
-detail_of Overlap register bank = Nothing
+abbrev pub detail_of : Fault → (register : ℕ) → Bank → Option HeldRegister
+detail_of Forbidden register bank = Some (record { offset = register; held = held_in bank register })
+detail_of ReservedBits register bank = None
+detail_of GroupLength register bank = None
+detail_of OpenTask register bank = None
+detail_of NotWritable register bank = None
+detail_of BadSurface register bank = None
+detail_of SizeMismatch register bank = None
+detail_of OutOfBounds register bank = None
+detail_of Overlap register bank = None
 
 -- a batch of these words that ended so, with this bank
-abbrev pub explained_by : List ℕ → Bank → BatchEnd → Why
-explained_by ws bank finished = NoFault
-explained_by ws bank (faulty fault place) = Faulted (record {
-  fault = fault_number fault;
+abbrev pub explained_by : List ℕ → Bank → BatchEnd → Option Explanation
+explained_by ws bank finished = None
+explained_by ws bank (faulty fault place) = Some (record {
+  fault = fault;
   place = place;
   word = get_or ws (place / 4) 0;
   detail = detail_of fault (register_at ws (place / 4)) bank;
 })
 
-unfoldable pub explained : List ℕ → DecodedBatch → Why
+unfoldable pub explained : List ℕ → DecodedBatch → Option Explanation
 explained ws reading = explained_by ws reading.bank reading.ending
 
 -- of the record that was accepted with this ticket
-unfoldable pub why_from : Why → (count ticket : ℕ) → List Entry → Why
+unfoldable pub why_from : Option Explanation → (count ticket : ℕ) → List Entry → Option Explanation
 why_from found count ticket [] = found
 why_from found count ticket (entry ∷ entries) =
     why_from
@@ -98,5 +94,5 @@ why_from found count ticket (entry ∷ entries) =
     ticket
     entries
 
-unfoldable pub faulted_by : List Entry → (ticket : ℕ) → Why
-faulted_by entries ticket = why_from NoFault 0 ticket entries
+unfoldable pub faulted_by : List Entry → (ticket : ℕ) → Option Explanation
+faulted_by entries ticket = why_from None 0 ticket entries

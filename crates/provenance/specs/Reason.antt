@@ -1,13 +1,13 @@
 -- "Prove the reason true: the named task did write the byte, no later one did, and a byte not drawn is as at the start" (02, request 10).
 -- proofs/Reason.antt proves `ProvenanceHolds`.
-use Rattle.std.specs.Prelude.{◌≡◌, List, [], ◌∷◌, ◌++◌, ℕ, ◌<◌, ◌/◌, length, get_or, replicate}
+use Rattle.std.specs.Prelude.{◌≡◌, List, ◌∷◌, ◌++◌, ℕ, ◌<◌, ◌/◌, length, get_or, replicate, Option, Some, None, Err}
 use Rattle.records.specs.declared.Edition.TheVariants.{First}
 use Rattle.word.specs.Word.{words}
 use Rattle.surface.specs.Surface.{InRow}
 use Rattle.register.specs.Bank.{write_register}
-use Rattle.register.specs.declared.bank.WriteResult.TheVariants.{Refused}
 use Rattle.register.specs.declared.bank.WriteFault.TheVariants.{Forbidden as NotTaken}
 use Rattle.register.specs.declared.task.Task.{Task}
+use Rattle.task_check.specs.Faults.{fault_number}
 use Rattle.batch.specs.Batch.{tasks_drawn}
 use Rattle.raster.specs.Task.{draw_task, draw_tasks}
 use Rattle.raster.specs.WriteFrame.{OutsideAllRows, output_byte}
@@ -15,12 +15,8 @@ use Rattle.records.specs.Records.{Entry}
 use Rattle.model.specs.Calls.{completed}
 use Rattle.lines.specs.Lines.{replay_start, submit_and_run}
 use Rattle.lines.specs.Answered.{verdict, submit_and_run_all}
-use Rattle.provenance.specs.declared.Detail.TheVariants.{Register}
 use Rattle.provenance.specs.declared.Explanation.{Explanation}
-use Rattle.provenance.specs.declared.Why.TheVariants.{Faulted}
 use Rattle.provenance.specs.declared.Touch.{Touch}
-use Rattle.provenance.specs.declared.Touched.{Touched}
-use Rattle.provenance.specs.declared.Touched.TheVariants.{NotDrawn, By}
 use Rattle.provenance.specs.Drawn.{Drawn, reading_of, drawn_from, tasks_of}
 use Rattle.provenance.specs.Touched.{touch_of, touched_by}
 use Rattle.provenance.specs.Faulted.{register_at, held_in, faulted_by}
@@ -73,9 +69,9 @@ pub record Untouched (entries : List Entry) (i : ℕ) : Type 0 where
   pub zero : byte_after entries i ≡ 0
 
 -- what an answer says
-abbrev pub True : List Entry → (i : ℕ) → Touched → Type 0
-True entries i NotDrawn = Untouched entries i
-True entries i (By answer) = Wrote entries i answer
+abbrev pub True : List Entry → (i : ℕ) → Option Touch → Type 0
+True entries i None = Untouched entries i
+True entries i (Some answer) = Wrote entries i answer
 
 -- the batch with this ticket, of which this is answered
 pub record Blamed (entries : List Entry) (ticket : ℕ) (answer : Explanation) : Type 0 where
@@ -85,15 +81,15 @@ pub record Blamed (entries : List Entry) (ticket : ℕ) (answer : Explanation) :
   pub among : entries ≡ before ++ entry ∷ after
   -- the engine's run answered this ticket, this fault and this place
   pub status : ℕ
-  pub completes : (submit_and_run entry (submit_and_run_all before (replay_start First))).answer ≡ completed entry.client ticket (record { status = status; fault = answer.fault; offset = answer.place })
+  pub completes : (submit_and_run entry (submit_and_run_all before (replay_start First))).answer ≡ completed entry.client ticket (record { status = status; fault = fault_number answer.fault; offset = answer.place })
   pub word : answer.word ≡ get_or (words entry.batch) (answer.place / 4) 0
   -- 24: this is the register that the word is for, this is what it held, and it does not take the word
-  pub refuses : (register held : ℕ) → answer.detail ≡ Register register held
-      → (register ≡ register_at (words entry.batch) (answer.place / 4)) × (held ≡ held_in (reading_of entry).bank register) × (write_register (reading_of entry).bank register answer.word ≡ Refused NotTaken)
+  pub refuses : (register held : ℕ) → answer.detail ≡ Some (record { offset = register; held = held })
+      → (register ≡ register_at (words entry.batch) (answer.place / 4)) × (held ≡ held_in (reading_of entry).bank register) × (write_register (reading_of entry).bank register answer.word ≡ Err NotTaken)
 
 pub record ProvenanceHolds : Type 0 where
   -- the engine draws just these tasks, record for record
   pub engine : (entries : List Entry) → (submit_and_run_all entries (replay_start First)).memory ≡ memory_drawn (drawn_from 0 entries)
   -- the reason is true
   pub reason : (entries : List Entry) (i : ℕ) → i < 65536 → True entries i (touched_by entries i)
-  pub blames : (entries : List Entry) (ticket : ℕ) (answer : Explanation) → faulted_by entries ticket ≡ Faulted answer → Blamed entries ticket answer
+  pub blames : (entries : List Entry) (ticket : ℕ) (answer : Explanation) → faulted_by entries ticket ≡ Some answer → Blamed entries ticket answer

@@ -1,14 +1,12 @@
 -- "the ticket, the task's number in its batch (from 0) and the source mode of the last drawn task whose output rows hold that byte, or
 -- `not drawn`" (02, request 10).
-use Rattle.std.specs.Prelude.{List, [], ◌∷◌, Bool, cond, ◌&&◌, ℕ, ◌-◌, ◌/◌, ◌%◌, leb, ltb}
+use Rattle.std.specs.Prelude.{List, [], ◌∷◌, Bool, cond, ◌&&◌, ℕ, ◌-◌, ◌/◌, ◌%◌, leb, ltb, Option, Some, None}
 use Rattle.surface.specs.declared.Surface.{Surface}
 use Rattle.surface.specs.Surface.{row_length}
 use Rattle.register.specs.declared.task.SourceMode.{SourceMode}
 use Rattle.register.specs.declared.task.SourceMode.TheVariants.{Buffer, Colour, GradientX, GradientY}
 use Rattle.records.specs.Records.{Entry}
 use Rattle.provenance.specs.declared.Touch.{Touch}
-use Rattle.provenance.specs.declared.Touched.{Touched}
-use Rattle.provenance.specs.declared.Touched.TheVariants.{NotDrawn, By}
 use Rattle.provenance.specs.Drawn.{Drawn, drawn_from}
 
 -- a row of the surface holds byte i; what the stride leaves between rows is in none. Stride 0 never comes: 25
@@ -28,13 +26,13 @@ mode_number GradientY = 3
 
 -- what is answered of a task
 abbrev pub touch_of : Drawn → Touch
-touch_of d = record { ticket = d.ticket; number = d.number; mode = mode_number d.task.source.mode }
+touch_of d = record { ticket = d.ticket; number = d.number; mode = d.task.source.mode }
 
 -- the last of these tasks whose output rows hold byte i; what was found before them if none does
-unfoldable pub last_from : Touched → (i : ℕ) → List Drawn → Touched
+unfoldable pub last_from : Option Touch → (i : ℕ) → List Drawn → Option Touch
 last_from found i [] = found
-last_from found i (d ∷ ds) = last_from (cond (holds d.task.output i) (By (touch_of d)) found) i ds
+last_from found i (d ∷ ds) = last_from (cond (holds d.task.output i) (Some (touch_of d)) found) i ds
 
 -- of all that these records draw
-unfoldable pub touched_by : List Entry → (i : ℕ) → Touched
-touched_by entries i = last_from NotDrawn i (drawn_from 0 entries)
+unfoldable pub touched_by : List Entry → (i : ℕ) → Option Touch
+touched_by entries i = last_from None i (drawn_from 0 entries)

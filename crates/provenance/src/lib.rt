@@ -6,46 +6,52 @@ pub mod explain;
 pub mod last_touch;
 
 ghost use Rattle.std.specs.Prelude.{◌≡◌};
-ghost use Rattle.provenance.specs.Answers.{refusal_number, answer_touched, answer_why, answer_fault};
+ghost use Rattle.provenance.specs.Touched.{mode_number};
+ghost use Rattle.provenance.specs.Answers.{refusal_number, answer_touched, answer_fault};
 
-// The task that drew a byte: the ticket of its batch, its number there (from 0), and its source mode's number.
+use register::SourceMode;
+use task_check::Fault;
+
+// The task that drew a byte: the ticket of its batch, its number there (from 0), and its source mode.
 #[derive(Clone, Copy)]
 pub struct Touch {
     pub ticket: u32,
     pub number: usize,
-    pub mode: u32,
+    pub mode: SourceMode,
 }
 
-#[derive(Clone, Copy)]
-pub enum Touched {
-    NotDrawn,
-    By(Touch),
+impl Touch {
+    // The papers' number of the source mode.
+    pub fn mode_number(self) -> u32
+        ensures { result ≡ mode_number self.mode }
+    {
+        match self.mode {
+            SourceMode::Buffer => 0,
+            SourceMode::Colour => 1,
+            SourceMode::GradientX => 2,
+            SourceMode::GradientY => 3,
+        }
+    }
 }
 
-// What a word that its register does not take (24) was for: the register's offset, and what it held.
-#[derive(Clone, Copy)]
-pub enum Detail {
-    Nothing,
-    Register(u32, u32),
+// The register of a word that it does not take (24): its offset, and what it held.
+#[derive(Clone, Copy, PartialEq, Eq)]
+pub struct HeldRegister {
+    pub offset: u32,
+    pub held: u32,
 }
 
-// A fault: its number, its place, and the word there.
+// A fault of a batch: which, its place, and the word there; for 24 the register that the word was for.
 #[derive(Clone, Copy)]
 pub struct Explanation {
-    pub fault: u32,
+    pub fault: Fault,
     pub place: usize,
     pub word: u32,
-    pub detail: Detail,
-}
-
-#[derive(Clone, Copy)]
-pub enum Why {
-    NoFault,
-    Faulted(Explanation),
+    pub detail: Option<HeldRegister>,
 }
 
 // How many words of a group are to come, and the offset of the register that the next of them is for.
-#[derive(Clone, Copy)]
+#[derive(Clone, Copy, PartialEq, Eq)]
 pub struct Group {
     pub left: u32,
     pub register: u32,
@@ -53,7 +59,7 @@ pub struct Group {
 
 // Why a question is not answered: the address lies outside memory, there are more than 1,024 records, no faulted batch has the
 // ticket.
-#[derive(Clone, Copy)]
+#[derive(Clone, Copy, PartialEq, Eq)]
 pub enum Refusal {
     OutsideMemory,
     TooManyRecords,
@@ -73,46 +79,29 @@ impl Refusal {
     }
 }
 
-#[derive(Clone, Copy)]
-pub enum TouchedAnswer {
-    Refused(Refusal),
-    Answered(Touched),
-}
-
-#[derive(Clone, Copy)]
-pub enum FaultAnswer {
-    Refused(Refusal),
-    Answered(Explanation),
-}
-
-// Who drew the byte at an address last, of so many records.
-pub fn answer_touched(records: u32, address: usize, touched: Touched) -> TouchedAnswer
+// Who drew the byte at an address last, of so many records; none if no task drew it.
+pub fn answer_touched(
+    records: u32,
+    address: usize,
+    touched: Option<Touch>,
+) -> Result<Option<Touch>, Refusal>
     ensures { result ≡ answer_touched records address touched }
 {
     if 65536 <= address {
-        return TouchedAnswer::Refused(Refusal::OutsideMemory);
+        return Err(Refusal::OutsideMemory);
     }
     if 1024 < records {
-        return TouchedAnswer::Refused(Refusal::TooManyRecords);
+        return Err(Refusal::TooManyRecords);
     }
-    TouchedAnswer::Answered(touched)
+    Ok(touched)
 }
 
-fn answer_why(why: Why) -> FaultAnswer
-    ensures { result ≡ answer_why why }
-{
-    match why {
-        Why::NoFault => FaultAnswer::Refused(Refusal::NotFaulted),
-        Why::Faulted(explanation) => FaultAnswer::Answered(explanation),
-    }
-}
-
-// Why a batch faulted, of so many records.
-pub fn answer_fault(records: u32, why: Why) -> FaultAnswer
+// Why a batch faulted, of so many records; `why` is none where no batch with its ticket did.
+pub fn answer_fault(records: u32, why: Option<Explanation>) -> Result<Explanation, Refusal>
     ensures { result ≡ answer_fault records why }
 {
     if records > 1024 {
-        return FaultAnswer::Refused(Refusal::TooManyRecords);
+        return Err(Refusal::TooManyRecords);
     }
-    answer_why(why)
+    why.ok_or(Refusal::NotFaulted)
 }

@@ -1,83 +1,78 @@
 -- The calls as a whole: their numbers are the table's, a refusal changes nothing, and a valid record stays valid.
-use Rattle.std.proofs.Common.{◌≡◌, ℕ, zero, suc, ◌+◌, Bool, true, false, cond, List, length, sym, refl, arith}
+use Rattle.std.proofs.Common.{◌≡◌, ℕ, zero, suc, ◌+◌, Bool, true, false, cond, List, length, Err, sym, refl, arith}
 use borrow.Author.Tests.{eqb-false}
 use Rattle.engine_record.specs.declared.Setup.{Setup}
 use Rattle.engine_record.specs.declared.Window.{Window}
 use Rattle.engine_record.specs.declared.EngineRecord.{EngineRecord}
 use Rattle.engine_record.specs.Slots.{lowest_free}
 use Rattle.engine_record.specs.Clients.{lowest_closed}
-use Rattle.engine_record.specs.Staged.{no_staged, missing_bytes}
+use Rattle.engine_record.specs.Staged.{no_staged}
 use Rattle.engine_record.specs.Rules.{staged_rule, valid}
 use Rattle.engine_record.proofs.Rules.{length-good}
 use Rattle.engine_record.proofs.Unfinished.{unfinished_kept, idle-kept}
-use Rattle.queue.specs.declared.Answer.{Answer}
-use Rattle.queue.specs.declared.Answer.TheVariants.{Refused, Done, Opened, Accepted, Missing}
-use Rattle.queue.specs.Answers.{refusal_number_of, answer_unless_refused}
+use Rattle.queue.specs.declared.Answer.TheVariants.{Done, Opened, Accepted}
+use Rattle.queue.specs.Answers.{refusal_numbered, refusal_number_of, answer_unless_refused}
 use Rattle.queue.specs.Refusals.{first_refusal, set_up_table, open_table, submit_table, cancel_table, close_table}
 use Rattle.queue.specs.Calls.{unless_refused, set_up_result, with_client, open_result, new_batch, with_batch, submitted, submit_number, submit_result, submit_ring, with_staged, begun, begin_result, more, is_last, piece_number, piece_answer, after_piece, piece_result, piece_ring, cancel_result, without_client, close_result}
-use Rattle.queue.proofs.Refusals.{set-up-allowed, open_allowed, SubmitAllowed, submit-allowed, PieceAllowed, piece-allowed, close-allowed}
+use Rattle.queue.proofs.Refusals.{Known, set-up-known, open_known, submit-known, piece-known, cancel-known, close-known, set-up-allowed, open_allowed, SubmitAllowed, submit-allowed, PieceAllowed, piece-allowed, close-allowed}
 use Rattle.queue.proofs.Calls.{open_refused, submit-refused, piece-refused}
 use Rattle.queue.proofs.Validity.{Sized, fresh_valid, open_sized, open_valid, staged-sized, staged-valid, close-sized, close-valid}
 use Rattle.queue.proofs.Submitted.{added-sized, added-valid, submit_addable, staged_addable}
 
 -- ---- the paper's numbers
 
-number-answered : (n : ℕ) (a : Answer) → refusal_number_of a ≡ 0 → refusal_number_of (answer_unless_refused n a) ≡ n
+pub number-answered : {A : Type 0} (n : ℕ) (a : A) → Known n → refusal_number_of (answer_unless_refused n a) ≡ n
 unfolding answer_unless_refused
-number-answered zero a e = e
-number-answered (suc n) a e = refl
+number-answered zero a k = refl
+number-answered (suc n) a k = k (λ z. absurd (omega arith))
 
 pub set-up-number : (setup : Setup) → refusal_number_of (set_up_result setup.ring setup.memory setup.common setup.reset).answer ≡ first_refusal (set_up_table setup)
 unfolding set_up_result
-set-up-number setup = number-answered (first_refusal (set_up_table setup)) Done refl
+set-up-number setup = number-answered (first_refusal (set_up_table setup)) Done (set-up-known setup)
 
 pub open_number : (engine : EngineRecord) (w : Window) → refusal_number_of (open_result engine w).answer ≡ first_refusal (open_table engine w)
 unfolding open_result
-open_number engine w = number-answered (first_refusal (open_table engine w)) (Opened (lowest_closed engine.clients)) refl
+open_number engine w = number-answered (first_refusal (open_table engine w)) (Opened (lowest_closed engine.clients)) (open_known engine w)
 
 pub submit-number : (engine : EngineRecord) (ring : List ℕ) (client : ℕ) (batch : List ℕ) → refusal_number_of (submit_result engine ring client batch).answer ≡ submit_number engine ring client batch
 unfolding submit_result
-submit-number engine ring client batch = number-answered (submit_number engine ring client batch) (Accepted engine.next_ticket) refl
+submit-number engine ring client batch = number-answered (submit_number engine ring client batch) (Accepted engine.next_ticket) (submit-known engine (length ring) client (length batch))
 
 pub begin-number : (engine : EngineRecord) (ring client total : ℕ) → refusal_number_of (begin_result engine ring client total).answer ≡ first_refusal (submit_table engine ring client total)
 unfolding begin_result
-begin-number engine ring client total = number-answered (first_refusal (submit_table engine ring client total)) Done refl
-
-piece_answer-number : (engine : EngineRecord) (size : ℕ) → refusal_number_of (piece_answer engine size) ≡ 0
-piece_answer-number engine size = go (is_last engine.staged size)
-  where
-    go : (b : Bool) → refusal_number_of (cond b (Accepted engine.next_ticket) (Missing (missing_bytes (more engine.staged size)))) ≡ 0
-    go true = refl
-    go false = refl
+begin-number engine ring client total = number-answered (first_refusal (submit_table engine ring client total)) Done (submit-known engine ring client total)
 
 pub piece-number : (engine : EngineRecord) (ring : List ℕ) (client : ℕ) (piece : List ℕ) → refusal_number_of (piece_result engine ring client piece).answer ≡ piece_number engine ring client piece
 unfolding piece_result
-piece-number engine ring client piece = number-answered (piece_number engine ring client piece) (piece_answer engine (length piece)) (piece_answer-number engine (length piece))
+piece-number engine ring client piece = number-answered (piece_number engine ring client piece) (piece_answer engine (length piece)) (piece-known engine (length ring) client (length piece))
 
 pub cancel-number : (engine : EngineRecord) (client : ℕ) → refusal_number_of (cancel_result engine client).answer ≡ first_refusal (cancel_table engine client)
 unfolding cancel_result
-cancel-number engine client = number-answered (first_refusal (cancel_table engine client)) Done refl
+cancel-number engine client = number-answered (first_refusal (cancel_table engine client)) Done (cancel-known engine client)
 
 pub close-number : (engine : EngineRecord) (memory client : ℕ) → refusal_number_of (close_result engine memory client).answer ≡ first_refusal (close_table engine memory client)
 unfolding close_result
-close-number engine memory client = number-answered (first_refusal (close_table engine memory client)) Done refl
+close-number engine memory client = number-answered (first_refusal (close_table engine memory client)) Done (close-known engine memory client)
 
 -- ---- a refusal changes nothing
 
 pub open_refused_no_op : (engine : EngineRecord) (w : Window) → (first_refusal (open_table engine w) ≡ 0 → ⊥) →
-    open_result engine w ≡ record { answer = Refused (first_refusal (open_table engine w)); engine = engine }
-open_refused_no_op engine w z = sym (open_refused engine w (first_refusal (open_table engine w)) refl z)
+    open_result engine w ≡ record { answer = Err (refusal_numbered (first_refusal (open_table engine w))); engine = engine }
+open_refused_no_op engine w z =
+    let n : ℕ = first_refusal (open_table engine w) in sym (open_refused engine w n refl (refusal_numbered n) (sym (open_known engine w z)))
 
 pub submit-refused_no_op : (engine : EngineRecord) (ring : List ℕ) (client : ℕ) (batch : List ℕ) → (submit_number engine ring client batch ≡ 0 → ⊥) →
-    (submit_result engine ring client batch ≡ record { answer = Refused (submit_number engine ring client batch); engine = engine }) × (submit_ring engine ring client batch ≡ ring)
+    (submit_result engine ring client batch ≡ record { answer = Err (refusal_numbered (submit_number engine ring client batch)); engine = engine }) × (submit_ring engine ring client batch ≡ ring)
 submit-refused_no_op engine ring client batch z =
-    let both = submit-refused engine ring client batch (submit_number engine ring client batch) refl z in
+    let n : ℕ = submit_number engine ring client batch in
+    let both = submit-refused engine ring client batch n refl (refusal_numbered n) (sym (submit-known engine (length ring) client (length batch) z)) in
     (sym both.0, sym both.1)
 
 pub piece-refused_no_op : (engine : EngineRecord) (ring : List ℕ) (client : ℕ) (piece : List ℕ) → (piece_number engine ring client piece ≡ 0 → ⊥) →
-    (piece_result engine ring client piece ≡ record { answer = Refused (piece_number engine ring client piece); engine = engine }) × (piece_ring engine ring client piece ≡ ring)
+    (piece_result engine ring client piece ≡ record { answer = Err (refusal_numbered (piece_number engine ring client piece)); engine = engine }) × (piece_ring engine ring client piece ≡ ring)
 piece-refused_no_op engine ring client piece z =
-    let both = piece-refused engine ring client piece (piece_number engine ring client piece) refl z in
+    let n : ℕ = piece_number engine ring client piece in
+    let both = piece-refused engine ring client piece n refl (refusal_numbered n) (sym (piece-known engine (length ring) client (length piece) z)) in
     (sym both.0, sym both.1)
 
 -- ---- a valid record stays valid

@@ -1,5 +1,5 @@
 -- What it says of a call that no row of its table holds.
-use Rattle.std.proofs.Common.{◌≡◌, ℕ, ◌+◌, ◌<◌, ◌≤◌, Bool, true, false, cond, not, eqb, ltb, List, [], ◌∷◌, length, refl, arith, ltb-false, eqb-true, leb-false}
+use Rattle.std.proofs.Common.{◌≡◌, ℕ, ◌+◌, ◌<◌, ◌≤◌, Bool, true, false, cond, not, eqb, ltb, List, [], ◌∷◌, length, Result, Ok, Err, refl, arith, ltb-false, eqb-true, leb-false}
 use borrow.Author.Tests.{not-false}
 use Rattle.engine_record.specs.declared.Setup.{Setup}
 use Rattle.engine_record.specs.declared.Window.{Window}
@@ -13,12 +13,97 @@ use Rattle.engine_record.specs.Rules.{valid}
 use Rattle.engine_record.proofs.Rules.{valid_facts}
 use Rattle.engine_record.proofs.Unfinished.{Unfinished, staged-idle, staged_open}
 use Rattle.word.proofs.Tests.{or_false}
+use Rattle.queue.specs.declared.Refusal.{Refusal}
+use Rattle.queue.specs.declared.Refusal.TheVariants.{BadRing, BadMemory, NoPlace, BadWindow, NotOpen, BadLength, NoSlot, NoRoom, NothingToRun, OtherLength, BadRecord, OneStaged, NotStaged, NotIdle}
+use Rattle.queue.specs.Answers.{number_of, refusal_numbered, refusal_number_of}
 use Rattle.queue.specs.Refusals.{RefusalRow, ◌when◌, first_refusal, set_up_table, open_table, submit_table, piece_table, cancel_table, close_table, pending_table}
 
--- a record that breaks a rule
-pub eleven : (rows : List RefusalRow) (v : Bool) → v ≡ false → 11 ≡ first_refusal (11 when not v ∷ rows)
+-- ---- refusals and their numbers
+
+positive : (r : Refusal) → 0 < number_of r
+positive BadRing = omega arith
+positive BadMemory = omega arith
+positive NoPlace = omega arith
+positive BadWindow = omega arith
+positive NotOpen = omega arith
+positive BadLength = omega arith
+positive NoSlot = omega arith
+positive NoRoom = omega arith
+positive NothingToRun = omega arith
+positive OtherLength = omega arith
+positive BadRecord = omega arith
+positive OneStaged = omega arith
+positive NotStaged = omega arith
+positive NotIdle = omega arith
+
+pub not_zero : (r : Refusal) (n : ℕ) → n ≡ number_of r → n ≡ 0 → ⊥
+not_zero r n e z = let p = positive r in omega arith
+
+pub numbered : (r : Refusal) → refusal_numbered (number_of r) ≡ r
+unfolding refusal_numbered
+numbered BadRing = refl
+numbered BadMemory = refl
+numbered NoPlace = refl
+numbered BadWindow = refl
+numbered NotOpen = refl
+numbered BadLength = refl
+numbered NoSlot = refl
+numbered NoRoom = refl
+numbered NothingToRun = refl
+numbered OtherLength = refl
+numbered BadRecord = refl
+numbered OneStaged = refl
+numbered NotStaged = refl
+numbered NotIdle = refl
+
+-- a number that is 0 or a refusal's
+abbrev pub Known : ℕ → Type 0
+Known n = (n ≡ 0 → ⊥) → number_of (refusal_numbered n) ≡ n
+
+abbrev pub AllKnown : List RefusalRow → Type 0
+AllKnown [] = Unit {0}
+AllKnown ((n when t) ∷ rows) = (number_of (refusal_numbered n) ≡ n) × AllKnown rows
+
+pub known : (rows : List RefusalRow) → AllKnown rows → Known (first_refusal rows)
 unfolding first_refusal
-eleven rows v e = rw e
+known [] k z = absurd (z refl)
+known ((n when true) ∷ rows) k z = k.0
+known ((n when false) ∷ rows) k z = known rows k.1 z
+
+-- what the code was not refused with
+pub accepted : (d : Result (Unit {0}) Refusal) → ((r : Refusal) → d ≡ Err r → ⊥) → refusal_number_of d ≡ 0
+accepted (Ok u) h = refl
+accepted (Err r) h = absurd (h r refl)
+
+-- each table's
+
+pub set-up-known : (setup : Setup) → Known (first_refusal (set_up_table setup))
+unfolding refusal_numbered
+set-up-known setup = known (set_up_table setup) (refl, (refl, tt))
+
+pub open_known : (engine : EngineRecord) (w : Window) → Known (first_refusal (open_table engine w))
+unfolding refusal_numbered
+open_known engine w = known (open_table engine w) (refl, (refl, (refl, tt)))
+
+pub submit-known : (engine : EngineRecord) (given client size : ℕ) → Known (first_refusal (submit_table engine given client size))
+unfolding refusal_numbered
+submit-known engine given client size = known (submit_table engine given client size) (refl, (refl, (refl, (refl, (refl, (refl, (refl, tt)))))))
+
+pub piece-known : (engine : EngineRecord) (given client size : ℕ) → Known (first_refusal (piece_table engine given client size))
+unfolding refusal_numbered
+piece-known engine given client size = known (piece_table engine given client size) (refl, (refl, (refl, (refl, tt))))
+
+pub cancel-known : (engine : EngineRecord) (client : ℕ) → Known (first_refusal (cancel_table engine client))
+unfolding refusal_numbered
+cancel-known engine client = known (cancel_table engine client) (refl, (refl, (refl, tt)))
+
+pub close-known : (engine : EngineRecord) (given client : ℕ) → Known (first_refusal (close_table engine given client))
+unfolding refusal_numbered
+close-known engine given client = known (close_table engine given client) (refl, (refl, (refl, (refl, tt))))
+
+pub pending-known : (engine : EngineRecord) (client : ℕ) → Known (first_refusal (pending_table engine client))
+unfolding refusal_numbered
+pending-known engine client = known (pending_table engine client) (refl, (refl, tt))
 
 -- no row holds
 abbrev pub Clear : List RefusalRow → Type 0

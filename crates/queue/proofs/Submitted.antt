@@ -1,13 +1,11 @@
 -- What an accepted submit does, and a last piece: the record stays valid, the batches that waited stay with their bytes, and the new one is the last.
-use Rattle.std.proofs.Common.{◌≡◌, ℕ, suc, ◌+◌, ◌<◌, ◌≤◌, true, false, cond, eqb, List, [], ◌∷◌, ◌++◌, length, get_or, set, refl, ap, ◌∙◌, arith, length-set}
+use Rattle.std.proofs.Common.{◌≡◌, ℕ, suc, ◌+◌, ◌<◌, ◌≤◌, true, false, cond, eqb, List, [], ◌∷◌, ◌++◌, length, get_or, set, refl, ap, ◌∙◌, arith, length-set, Option, None}
 use Rattle.ring.specs.Segment.{wrap_offset}
 use Rattle.ring.specs.Copied.{copied_in}
 use Rattle.engine_record.specs.declared.Batch.{Batch}
-use Rattle.engine_record.specs.declared.Slot.{Slot}
 use Rattle.engine_record.specs.declared.EngineRecord.{EngineRecord}
-use Rattle.engine_record.specs.declared.SlotState.TheVariants.{Free}
 use Rattle.engine_record.specs.Setup.{bad_length}
-use Rattle.engine_record.specs.Slots.{free, ready_with, ready_batches, total_length, count_of, lowest_free}
+use Rattle.engine_record.specs.Slots.{free, ready_with, ready_batches, total_length, lowest_free}
 use Rattle.engine_record.specs.Tickets.{ticket_after, slot_of_ticket, in_ticket_order}
 use Rattle.engine_record.specs.Clients.{is_open, no_client, open_windows, pending_counts_match}
 use Rattle.engine_record.specs.Queue.{ready_slots, ready_bytes, write_offset, waiting}
@@ -37,7 +35,7 @@ pub record Addable (engine : EngineRecord) (at client size : ℕ) : Type 0 where
   pub allowed : bad_length engine.setup.ring size ≡ false
   pub room : ready_bytes engine + size ≤ engine.setup.ring
   pub slot : at < 8
-  pub unused : (get_or engine.slots at free).state ≡ Free
+  pub unused : get_or engine.slots at free ≡ None
 
 -- a submit's batch may, into the lowest free slot
 pub submit_addable : (engine : EngineRecord) → Sized engine → (given client size : ℕ) → SubmitAllowed engine given client size → Addable engine (lowest_free engine.slots) client size
@@ -62,7 +60,7 @@ module _ (engine : EngineRecord) (s : Sized engine) (at client size : ℕ) (a : 
   abbrev b : Batch
   b = new_batch engine client size
 
-  abbrev slots : List Slot
+  abbrev slots : List (Option Batch)
   slots = set engine.slots at (ready_with b)
 
   v : Valid engine

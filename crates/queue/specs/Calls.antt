@@ -1,6 +1,6 @@
 -- What each call answers, and record and ring after it, for every record, ring and batch (01, "Engine, desks, queue"). A refusal leaves
 -- record and ring as they were. Batches handed over by pieces: 02, 6. Closing: 02, 11.
-use Rattle.std.specs.Prelude.{ℕ, zero, suc, ◌+◌, Bool, true, cond, List, [], ◌∷◌, length, set, ◌==◌, slice_index_or, slice_set}
+use Rattle.std.specs.Prelude.{ℕ, zero, suc, ◌+◌, Bool, true, cond, List, [], ◌∷◌, length, ◌==◌, slice_index_or, slice_set, Result}
 use Rattle.ring.specs.Segment.{wrap_offset}
 use Rattle.reset.specs.declared.ResetRule.{ResetRule}
 use Rattle.reset.specs.declared.ResetRule.TheVariants.{Unblended}
@@ -16,6 +16,7 @@ use Rattle.engine_record.specs.Tickets.{ticket_after}
 use Rattle.engine_record.specs.Clients.{no_client, lowest_closed}
 use Rattle.engine_record.specs.Staged.{no_staged, missing_bytes}
 use Rattle.engine_record.specs.Queue.{write_offset}
+use Rattle.queue.specs.declared.Refusal.{Refusal}
 use Rattle.queue.specs.declared.Answer.{Answer}
 use Rattle.queue.specs.declared.Answer.TheVariants.{Done, Opened, Accepted, Ready, Missing}
 use Rattle.queue.specs.declared.Reply.{Reply}
@@ -200,5 +201,5 @@ close_result engine memory client =
 -- ---- pending
 
 -- "Pending is the desk's ready batches."
-unfoldable pub pending_answer : EngineRecord → (client : ℕ) → Answer
+unfoldable pub pending_answer : EngineRecord → (client : ℕ) → Result Answer Refusal
 pending_answer engine client = answer_unless_refused (first_refusal (pending_table engine client)) (Ready (count_of client (ready_batches engine.slots)))

@@ -1,11 +1,12 @@
 // The clients of a record: set up, open and pending, and what close does to the record.
 ghost use Rattle.std.specs.Prelude.{◌≡◌, ◌<◌, length, slice_index_or};
 ghost use Rattle.engine_record.specs.Clients.{no_client, window_range, lowest_closed};
+ghost use Rattle.queue.specs.Answers.{refusal_number_of};
 ghost use Rattle.queue.specs.Refusals.{first_refusal, set_up_table, open_table, close_table, pending_table};
 ghost use Rattle.queue.specs.Calls.{initial_record, set_up_result, with_client, open_result, without_client, pending_answer};
 
-use crate::{Answer, Reply};
-use engine_record::{Client, EngineRecord, Setup, Slot, SlotState, Window};
+use crate::{Answer, Refusal, Reply};
+use engine_record::{Client, EngineRecord, Setup, Window};
 use range::Range;
 use reset::ResetRule;
 
@@ -29,24 +30,22 @@ fn fresh_record(setup: Setup) -> EngineRecord
     ensures { result ≡ initial_record setup }
 {
     let clients = [no_client(); 4];
-    let slots = [Slot {
-        state: SlotState::Free,
-    }; 8];
     EngineRecord {
         setup: setup,
         clients: clients,
-        slots: slots,
+        slots: [None; 8],
         read_offset: 0,
         next_ticket: 0,
         staged: engine_record::no_staged(),
     }
 }
 
-fn set_up_refusal(setup: Setup) -> u32
-    ensures { result ≡ first_refusal (set_up_table setup) }
+#[tactic(auto, unfolding(crate::specs::Refusals::first_refusal))]
+fn set_up_refusal(setup: Setup) -> Result<(), Refusal>
+    ensures { refusal_number_of result ≡ first_refusal (set_up_table setup) }
 {
-    let no2 = crate::first_refusal(engine_record::bad_memory(setup), 2, 0);
-    crate::first_refusal(engine_record::bad_ring(setup), 1, no2)
+    crate::refuse(engine_record::bad_ring(setup), Refusal::BadRing)?;
+    crate::refuse(engine_record::bad_memory(setup), Refusal::BadMemory)
 }
 
 // Set up with the lengths of ring, memory and common, and the reset rule.
@@ -59,36 +58,36 @@ pub fn set_up(ring: usize, memory: usize, common: usize, reset: ResetRule) -> Re
         common: common,
         reset: reset,
     };
-    let number = set_up_refusal(setup);
-    if number == 0 {
+    if let Err(refusal) = set_up_refusal(setup) {
+        let none = Setup {
+            ring: 0,
+            memory: 0,
+            common: 0,
+            reset: ResetRule::Unblended,
+        };
         return Reply {
-            answer: Answer::Done,
-            engine: fresh_record(setup),
+            answer: Err(refusal),
+            engine: fresh_record(none),
         };
     }
-    let none = Setup {
-        ring: 0,
-        memory: 0,
-        common: 0,
-        reset: ResetRule::Unblended,
-    };
     Reply {
-        answer: Answer::Refused(number),
-        engine: fresh_record(none),
+        answer: Ok(Answer::Done),
+        engine: fresh_record(setup),
     }
 }
 
-fn open_refusal(engine: EngineRecord, w: Window) -> u32
-    ensures { result ≡ first_refusal (open_table engine w) }
+#[tactic(auto, unfolding(crate::specs::Refusals::first_refusal))]
+fn open_refusal(engine: EngineRecord, w: Window) -> Result<(), Refusal>
+    ensures { refusal_number_of result ≡ first_refusal (open_table engine w) }
 {
-    if !engine_record::validity::is_valid(engine) {
-        return 11;
-    }
-    let setup = engine.setup;
-    let clients = engine.clients;
-    let id = engine_record::client_table::lowest_closed(clients);
-    let bad = engine_record::client_table::bad_window(setup, clients, 0, w);
-    crate::first_refusal(4 <= id, 3, crate::first_refusal(bad, 4, 0))
+    crate::refuse(
+        !engine_record::validity::is_valid(engine),
+        Refusal::BadRecord,
+    )?;
+    let id = engine_record::client_table::lowest_closed(&engine.clients);
+    let bad = engine_record::client_table::bad_window(engine.setup, &engine.clients, w);
+    crate::refuse(id.is_none(), Refusal::NoPlace)?;
+    crate::refuse(bad, Refusal::BadWindow)
 }
 
 // The record with a client more, whose id is the lowest that is free.
@@ -115,38 +114,38 @@ pub fn open(engine: EngineRecord, start: u32, size: u32) -> Reply
         start: start,
         length: size,
     };
-    let number = open_refusal(engine, w);
-    if number != 0 {
+    if let Err(refusal) = open_refusal(engine, w) {
         return Reply {
-            answer: Answer::Refused(number),
+            answer: Err(refusal),
             engine: engine,
         };
     }
-    let clients = engine.clients;
-    let id = engine_record::client_table::lowest_closed(clients);
+    let id = engine_record::client_table::lowest_closed(&engine.clients).unwrap();
     Reply {
-        answer: Answer::Opened(id as u32),
+        answer: Ok(Answer::Opened(id as u32)),
         engine: with_client(engine, id, w),
     }
 }
 
-// What close is refused with, 0 if it is not; `given` is the length of the memory that is lent.
-pub fn close_refusal(engine: EngineRecord, given: usize, client: u32) -> u32
-    ensures { result ≡ first_refusal (close_table engine given client) }
+// Whether close is refused; `given` is the length of the memory that is lent.
+#[tactic(auto, unfolding(crate::specs::Refusals::first_refusal))]
+pub fn close_refusal(engine: EngineRecord, given: usize, client: u32) -> Result<(), Refusal>
+    ensures { refusal_number_of result ≡ first_refusal (close_table engine given client) }
 {
     let setup = engine.setup;
-    let slots = engine.slots;
     let staged = engine.staged;
-    let ready = engine_record::slot_table::count_of(slots, client);
-    let own = crate::staged_by(staged, client);
-    let no18 = crate::first_refusal((0 < ready) | own, 18, 0);
-    let no5 = crate::first_refusal(
+    crate::refuse(
+        !engine_record::validity::is_valid(engine),
+        Refusal::BadRecord,
+    )?;
+    crate::refuse(!(given == setup.memory), Refusal::OtherLength)?;
+    crate::refuse(
         !engine_record::client_table::is_open(engine, client),
-        5,
-        no18,
-    );
-    let no10 = crate::first_refusal(!(given == setup.memory), 10, no5);
-    crate::first_refusal(!engine_record::validity::is_valid(engine), 11, no10)
+        Refusal::NotOpen,
+    )?;
+    let ready = engine_record::slot_table::count_of(&engine.slots, client);
+    let own = crate::staged_by(staged, client);
+    crate::refuse((0 < ready) | own, Refusal::NotIdle)
 }
 
 // The record without a client: its id and its window are free.
@@ -182,21 +181,25 @@ fn pending_at(clients: [Client; 4], client: u32) -> u32
     own.pending
 }
 
-fn pending_refusal(engine: EngineRecord, client: u32) -> u32
-    ensures { result ≡ first_refusal (pending_table engine client) }
+#[tactic(auto, unfolding(crate::specs::Refusals::first_refusal))]
+fn pending_refusal(engine: EngineRecord, client: u32) -> Result<(), Refusal>
+    ensures { refusal_number_of result ≡ first_refusal (pending_table engine client) }
 {
-    let no5 = crate::first_refusal(!engine_record::client_table::is_open(engine, client), 5, 0);
-    crate::first_refusal(!engine_record::validity::is_valid(engine), 11, no5)
+    crate::refuse(
+        !engine_record::validity::is_valid(engine),
+        Refusal::BadRecord,
+    )?;
+    crate::refuse(
+        !engine_record::client_table::is_open(engine, client),
+        Refusal::NotOpen,
+    )
 }
 
 // How many batches of a client are ready.
-pub fn pending(engine: EngineRecord, client: u32) -> Answer
+pub fn pending(engine: EngineRecord, client: u32) -> Result<Answer, Refusal>
     ensures { result ≡ pending_answer engine client }
 {
-    let number = pending_refusal(engine, client);
-    if number != 0 {
-        return Answer::Refused(number);
-    }
+    pending_refusal(engine, client)?;
     let clients = engine.clients;
-    Answer::Ready(pending_at(clients, client))
+    Ok(Answer::Ready(pending_at(clients, client)))
 }

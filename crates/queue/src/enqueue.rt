@@ -7,10 +7,12 @@ ghost use Rattle.engine_record.specs.Queue.{ready_slots, ready_bytes, taken_slot
 ghost use Rattle.engine_record.specs.Staged.{staged_slots};
 ghost use Rattle.engine_record.specs.Rules.{valid};
 ghost use Rattle.engine_record.specs.Checking.{checked_of};
+ghost use Rattle.queue.specs.Answers.{refusal_number_of};
 ghost use Rattle.queue.specs.Refusals.{first_refusal, submit_table};
 ghost use Rattle.queue.specs.Calls.{pending_raised, with_batch};
 
-use engine_record::{Batch, Checked, Client, EngineRecord, Slot, SlotState, Staged};
+use crate::Refusal;
+use engine_record::{Batch, Client, Counted, EngineRecord, Slot, Staged};
 
 // The ring bytes that are free; `ready` is how many the ready batches have.
 fn free_bytes(engine: EngineRecord, ready: usize) -> usize
@@ -50,34 +52,32 @@ pub fn write_offset(engine: EngineRecord, ready: usize) -> usize
     engine_record::wrap_offset(setup.ring, engine.read_offset + ready)
 }
 
-// What submit and begin are refused with, 0 if they are not; `found` is what the check of the record found.
+// Whether submit and begin are refused; `found` is what the check of the record found.
 pub fn submit_refusal(
     engine: EngineRecord,
-    found: Checked,
+    found: Option<Counted>,
     given: usize,
     client: u32,
     size: usize,
-) -> u32
-    requires { (found ≡ checked_of engine) × (ready_slots engine ≤ 8) }
-    ensures { result ≡ first_refusal (submit_table engine given client size) }
+) -> Result<(), Refusal>
+    requires { found ≡ checked_of engine }
+    ensures { refusal_number_of result ≡ first_refusal (submit_table engine given client size) }
 {
-    if !found.valid {
-        return 11;
-    }
+    let Some(counted) = found else {
+        return Err(Refusal::BadRecord);
+    };
     let setup = engine.setup;
     let ring = setup.ring;
     let staged = engine.staged;
-    let taken = taken_slots(engine, found.ready);
-    let no8 = crate::first_refusal(free_bytes(engine, found.bytes) < size, 8, 0);
-    let no7 = crate::first_refusal(8 <= taken, 7, no8);
-    let no6 = crate::first_refusal(engine_record::bad_length(ring, size), 6, no7);
-    let no13 = crate::first_refusal(!(staged.total == 0), 13, no6);
-    let no5 = crate::first_refusal(
+    crate::refuse(!(given == ring), Refusal::OtherLength)?;
+    crate::refuse(
         !engine_record::client_table::is_open(engine, client),
-        5,
-        no13,
-    );
-    crate::first_refusal(!(given == ring), 10, no5)
+        Refusal::NotOpen,
+    )?;
+    crate::refuse(!(staged.total == 0), Refusal::OneStaged)?;
+    crate::refuse(engine_record::bad_length(ring, size), Refusal::BadLength)?;
+    crate::refuse(8 <= taken_slots(engine, counted.ready), Refusal::NoSlot)?;
+    crate::refuse(free_bytes(engine, counted.bytes) < size, Refusal::NoRoom)
 }
 
 // One batch more pending for a client.
@@ -103,9 +103,7 @@ fn with_slot_ready(slots: [Slot; 8], at: usize, batch: Batch) -> [Slot; 8]
     ensures { result ≡ slice_set slots at (ready_with batch) }
 {
     let mut after = slots;
-    after[at] = Slot {
-        state: SlotState::Ready(batch),
-    };
+    after[at] = Some(batch);
     after
 }
 

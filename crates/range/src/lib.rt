@@ -1,25 +1,13 @@
 // Ranges of bytes, by their first byte and the one past their last.
 #![tactic(auto)]
 
-ghost use Rattle.std.specs.Prelude.{◌≡◌, min, max};
+ghost use Rattle.std.specs.Prelude.{◌≡◌};
 ghost use Rattle.range.specs.Range.{range_of, contained_in, overlaps};
 
-#[derive(Clone, Copy)]
+#[derive(Clone, Copy, Debug, PartialEq, Eq)]
 pub struct Range {
     pub start: usize,
     pub end: usize,
-}
-
-pub fn min_usize(a: usize, b: usize) -> usize
-    ensures { result ≡ min a b }
-{
-    if a < b { a } else { b }
-}
-
-fn max_usize(a: usize, b: usize) -> usize
-    ensures { result ≡ max a b }
-{
-    if a < b { b } else { a }
 }
 
 impl Range {
@@ -44,6 +32,6 @@ impl Range {
     pub fn overlaps(self, other: Range) -> bool
         ensures { result ≡ overlaps self other }
     {
-        max_usize(self.start, other.start) < min_usize(self.end, other.end)
+        self.start.max(other.start) < self.end.min(other.end)
     }
 }

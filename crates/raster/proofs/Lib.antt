@@ -9,6 +9,8 @@ pub mod Pixel
 pub mod RowByRow
 -- a loop over its rows
 pub mod Upto
+-- a step that draws them
+pub mod Steps
 -- where a row lies
 pub mod Place
 -- rows that are blended where they lie

@@ -39,3 +39,7 @@ module _ {t : Task} {memory₀ memory : List ℕ} {y : ℕ} (u : Upto t memory�
   upto_all l =
       let e : y ≡ t.output.height = omega (arith, u.bound) in
       u.is ∙ (ap (λ (n : ℕ). prefix t n memory₀) e ∙ prefix-all t memory₀)
+
+-- a row of a task that may be drawn, in a memory as long as before
+pub row_drawable : {window : Range} {n : ℕ} {t : Task} (memory : List ℕ) (y : ℕ) → Drawable window n t → length memory ≡ n → y < t.output.height → RowDrawable window memory t y
+row_drawable memory y d s l = record { drawable = rw s d; row = l }

@@ -7,3 +7,5 @@ pub mod Preconditions
 pub mod Twice
 -- A row drawn.
 pub mod Row
+-- A step that draws the rows of a task.
+pub mod Rows

@@ -1,6 +1,6 @@
 -- What is taken for a record is the bytes of that record: a record has one form.
 use mathlib.Core.Path.{◌≡◌, refl, sym, ap, ◌∙◌}
-use mathlib.Core.Bool.{Bool, true, false, ◌&&◌, ◌||◌}
+use mathlib.Core.Bool.{Bool, true, false, ◌&&◌}
 use mathlib.Core.List.{List, [], ◌∷◌, ◌++◌}
 use Prim.Native.Nat.{ℕ, zero, suc, ◌+◌, ◌*◌, ◌/◌, ◌%◌, ◌<◌, ◌^◌}
 use native.Mathlib.Omega.{arith}
@@ -13,9 +13,8 @@ use Rattle.word.proofs.Words.{length-words}
 use Rattle.reset.specs.Reset.{is_rule_number}
 use Rattle.reset.proofs.Numbers.{number-back}
 use Rattle.engine_record.specs.declared.EngineRecord.{EngineRecord}
-use Rattle.engine_record.specs.declared.Slot.{Slot}
 use Rattle.record_bytes.specs.declared.Row.{Row}
-use Rattle.record_bytes.specs.Layout.{word_at, low}
+use Rattle.record_bytes.specs.Layout.{word_at}
 use Rattle.record_bytes.specs.Written.{head_words, clients_words, staged_words, row_of, row_words, row_at, flag_of, words_of, bytes_of}
 use Rattle.record_bytes.specs.Read.{slot_right, slots_right, fixed_right, is_record, slot_in, clients_in, slots_in, record_in, record_of}
 use Rattle.record_bytes.specs.RoundTrip.{Canonical}

@@ -1,7 +1,7 @@
 -- What decode and encode come to, case by case.
 use mathlib.Core.Path.{◌≡◌, refl, sym, ap, ◌∙◌}
-use mathlib.Core.Bool.{Bool, true, false, ◌&&◌, cond, false≢true}
-use mathlib.Core.List.{List, [], ◌∷◌, ◌++◌, append-nil}
+use mathlib.Core.Bool.{Bool, true, false, ◌&&◌, false≢true}
+use mathlib.Core.List.{List, ◌++◌, append-nil}
 use Prim.Native.Nat.{ℕ, ◌+◌, ◌≤◌}
 use native.Mathlib.Omega.{arith}
 use lib.ListN.{length, drop_of_length-le}
@@ -21,9 +21,11 @@ use Rattle.record_bytes.specs.RoundTrip.{Untrusted}
 
 -- ---- decode
 
-pub judged : (bytes : List ℕ) (w : ℕ) (r a b t : Bool) → length bytes ≡ 272 → w ≡ word_at (words bytes) 3 → r ≡ is_rule_number w → a ≡ fixed_right (words bytes) → b ≡ slots_right (words bytes) → (r && a && b) ≡ t → is_record bytes ≡ t
+-- `all` are the 272 bytes that the bytes were found to be
+pub judged : (bytes all : List ℕ) (w : ℕ) (r a b t : Bool) → all ≡ bytes → length bytes ≡ 272 → w ≡ word_at (words all) 3 → r ≡ is_rule_number w → a ≡ fixed_right (words all) →
+    b ≡ slots_right (words all) → (r && a && b) ≡ t → is_record bytes ≡ t
 unfolding is_record
-judged bytes w r a b t n ew er ea eb e = rw (eq-eqb (length bytes) 272 n, ← ew, ← er, ← ea, ← eb) e
+judged bytes all w r a b t same n ew er ea eb e = rw (eq-eqb (length bytes) 272 n, ← same, ← ew, ← er, ← ea, ← eb) e
 
 pub judged-short : (bytes : List ℕ) → (length bytes ≡ 272 → ⊥) → is_record bytes ≡ false
 unfolding is_record
@@ -37,9 +39,9 @@ is_none bytes r e is = rw e is
 pub none_short : (bytes : List ℕ) → (length bytes ≡ 272 → ⊥) → record_of bytes ≡ no_record
 none_short bytes n = sym (is_none bytes no_record (judged-short bytes n) refl)
 
-pub is_some : (bytes : List ℕ) (r : EngineRecord) → is_record bytes ≡ true → r ≡ record_in (words bytes) → r ≡ record_of bytes
+pub is_some : (bytes all : List ℕ) (r : EngineRecord) → all ≡ bytes → is_record bytes ≡ true → r ≡ record_in (words all) → r ≡ record_of bytes
 unfolding record_of
-is_some bytes r e is = rw e is
+is_some bytes all r same e is = rw (e, ← same) is
 
 -- ---- encode
 

@@ -1,19 +1,16 @@
 -- The numbers of a valid record fit in words.
-use mathlib.Core.Path.{◌≡◌, refl, sym, ◌∙◌}
+use mathlib.Core.Path.{◌≡◌, refl, ◌∙◌}
 use mathlib.Core.Bool.{Bool, true, false, ◌&&◌, cond, not}
 use mathlib.Core.List.{List, [], ◌∷◌}
 use Prim.Native.Nat.{ℕ, ◌+◌, ◌≤◌, ◌<◌, ◌^◌}
 use native.Mathlib.Omega.{arith}
-use lib.ListN.{length}
 use lib.Dec.{ltb, eqb}
 use borrow.Author.Tests.{ltb-true, lt-ltb, eqb-true, not-true}
+use Rattle.std.proofs.Common.{Option, Some, None}
 use Rattle.word.proofs.Tests.{and-true}
 use Rattle.ring.specs.Segment.{wrap_offset}
 use Rattle.ring.proofs.Wrapped.{wrapped_below}
 use Rattle.engine_record.specs.declared.Batch.{Batch}
-use Rattle.engine_record.specs.declared.Slot.{Slot}
-use Rattle.engine_record.specs.declared.SlotState.{SlotState}
-use Rattle.engine_record.specs.declared.SlotState.TheVariants.{Free, Ready}
 use Rattle.engine_record.specs.declared.EngineRecord.{EngineRecord}
 use Rattle.engine_record.specs.Setup.{bad_length}
 use Rattle.engine_record.specs.Slots.{cons_if_ready, ready_batches, sum_over}
@@ -54,14 +51,14 @@ not-big b n e = go (ltb b.offset 4294967296 && ltb b.length 4294967296) refl e
         (ltb-true b.offset 4294967296 both.0, ltb-true b.length 4294967296 both.1)
     go false p q = absurd (omega arith)
 
-all_small : (ss : List Slot) → sum_over big (ready_batches ss) ≡ 0 → AllSlots SlotFitsWords ss
+all_small : (ss : List (Option Batch)) → sum_over big (ready_batches ss) ≡ 0 → AllSlots SlotFitsWords ss
 unfolding sum_over ready_batches
 all_small [] e = tt
-all_small (s ∷ ss) e = go s.state refl (all_small ss) e
+all_small (s ∷ ss) e = go s refl (all_small ss) e
   where
-    go : (st : SlotState) → s.state ≡ st → (sum_over big (ready_batches ss) ≡ 0 → AllSlots SlotFitsWords ss) → sum_over big (cons_if_ready st (ready_batches ss)) ≡ 0 → SlotFitsWords s.state × AllSlots SlotFitsWords ss
-    go Free p others q = (rw p tt, others q)
-    go (Ready b) p others q = (rw p (not-big b (sum_over big (ready_batches ss)) q), others (omega arith))
+    go : (st : Option Batch) → s ≡ st → (sum_over big (ready_batches ss) ≡ 0 → AllSlots SlotFitsWords ss) → sum_over big (cons_if_ready st (ready_batches ss)) ≡ 0 → SlotFitsWords s × AllSlots SlotFitsWords ss
+    go None p others q = (rw p tt, others q)
+    go (Some b) p others q = (rw p (not-big b (sum_over big (ready_batches ss)) q), others (omega arith))
 
 staged-fits : (r : EngineRecord) → staged_rule r ≡ true → r.setup.ring ≤ 32768 → (r.staged.slot < 2 ^ 32) × (r.staged.total < 2 ^ 32) × (r.staged.received < 2 ^ 32)
 staged-fits r e small =

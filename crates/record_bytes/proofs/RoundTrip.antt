@@ -1,26 +1,24 @@
 -- A record's bytes stand for that record.
-use mathlib.Core.Path.{◌≡◌, refl, sym, ap, ◌∙◌}
-use mathlib.Core.Bool.{Bool, true, false, ◌&&◌}
+use mathlib.Core.Path.{◌≡◌, refl}
+use mathlib.Core.Bool.{Bool, true, false}
 use mathlib.Core.List.{List, [], ◌∷◌}
-use Prim.Native.Nat.{ℕ, ◌+◌, ◌<◌, ◌^◌}
+use Prim.Native.Nat.{ℕ, ◌+◌}
 use native.Mathlib.Omega.{arith}
 use lib.ListN.{length, get_or}
 use lib.Dec.{eqb, leb}
 use borrow.Author.Tests.{eq-eqb}
-use Rattle.word.specs.Word.{words}
+use Rattle.std.proofs.Common.{Option, Some, None}
 use Rattle.reset.specs.Reset.{is_rule_number}
 use Rattle.reset.proofs.Numbers.{rule-back, own-number}
+use Rattle.engine_record.specs.declared.Batch.{Batch}
 use Rattle.engine_record.specs.declared.Client.{Client}
-use Rattle.engine_record.specs.declared.Slot.{Slot}
-use Rattle.engine_record.specs.declared.SlotState.{SlotState}
-use Rattle.engine_record.specs.declared.SlotState.TheVariants.{Free, Ready}
 use Rattle.engine_record.specs.declared.EngineRecord.{EngineRecord}
 use Rattle.engine_record.specs.Slots.{free}
 use Rattle.engine_record.specs.Clients.{no_client}
 use Rattle.record_bytes.specs.declared.Row.{Row}
-use Rattle.record_bytes.specs.Layout.{word_at, low}
-use Rattle.record_bytes.specs.Written.{tag_of, flag_of, row_of, row_at, words_of, bytes_of}
-use Rattle.record_bytes.specs.Read.{slot_right, slots_right, fixed_right, is_record, setup_in, client_in, slot_in, clients_in, slots_in, staged_in, record_in, no_record, record_of}
+use Rattle.record_bytes.specs.Layout.{word_at}
+use Rattle.record_bytes.specs.Written.{flag_of, row_of, row_at, words_of, bytes_of}
+use Rattle.record_bytes.specs.Read.{slot_right, slots_right, fixed_right, is_record, setup_in, slot_in, clients_in, slots_in, staged_in, record_in, record_of}
 use Rattle.record_bytes.specs.RoundTrip.{AllSlots, SlotFitsWords, Typed, RecordFitsWords}
 use Rattle.record_bytes.proofs.Cases.{length_record}
 use Rattle.record_bytes.proofs.Words.{low-is, slot_at, record_words}
@@ -35,7 +33,7 @@ four_are (a ∷ b ∷ []) n = absurd (omega arith)
 four_are (a ∷ b ∷ c ∷ []) n = absurd (omega arith)
 four_are (a ∷ b ∷ c ∷ d ∷ e ∷ cs) n = absurd (omega arith)
 
-eight_are : (ss : List Slot) → length ss ≡ 8 →
+eight_are : (ss : List (Option Batch)) → length ss ≡ 8 →
     get_or ss 0 free ∷ get_or ss 1 free ∷ get_or ss 2 free ∷ get_or ss 3 free ∷ get_or ss 4 free ∷ get_or ss 5 free ∷ get_or ss 6 free ∷ get_or ss 7 free ∷ [] ≡ ss
 eight_are (a ∷ b ∷ c ∷ d ∷ e ∷ f ∷ g ∷ h ∷ []) n = refl
 eight_are [] n = absurd (omega arith)
@@ -63,25 +61,25 @@ flag_is false = refl
 abbrev Stands : List ℕ → ℕ → Row → Type 0
 Stands ws k s = (word_at ws k ≡ s.tag) × (word_at ws (k + 1) ≡ s.client) × (word_at ws (k + 2) ≡ s.ticket) × (word_at ws (k + 3) ≡ s.offset) × (word_at ws (k + 4) ≡ s.length)
 
-row_right : (ws : List ℕ) (k : ℕ) (s : Slot) → Stands ws k (row_of s) → slot_right ws k ≡ true
-row_right ws k s h = go s.state h
+row_right : (ws : List ℕ) (k : ℕ) (s : Option Batch) → Stands ws k (row_of s) → slot_right ws k ≡ true
+row_right ws k s h = go s h
   where
-    go : (st : SlotState) → Stands ws k (row_of (record { state = st })) → slot_right ws k ≡ true
-    go Free h = rw (h.0, h.1, h.2, h.3, h.4)
-    go (Ready b) h = rw h.0
+    go : (st : Option Batch) → Stands ws k (row_of (st)) → slot_right ws k ≡ true
+    go None h = rw (h.0, h.1, h.2, h.3, h.4)
+    go (Some b) h = rw h.0
 
-row_back : (ws : List ℕ) (k : ℕ) (s : Slot) → SlotFitsWords s.state → Stands ws k (row_of s) → slot_in ws k ≡ s
+row_back : (ws : List ℕ) (k : ℕ) (s : Option Batch) → SlotFitsWords s → Stands ws k (row_of s) → slot_in ws k ≡ s
 unfolding slot_in
-row_back ws k s small h = go s.state small h
+row_back ws k s small h = go s small h
   where
-    go : (st : SlotState) → SlotFitsWords st → Stands ws k (row_of (record { state = st })) → slot_in ws k ≡ record { state = st }
-    go Free small h = rw h.0
-    go (Ready b) small h = rw (h.0, h.1, h.2, h.3, h.4, low-is b.offset small.0, low-is b.length small.1)
+    go : (st : Option Batch) → SlotFitsWords st → Stands ws k (row_of (st)) → slot_in ws k ≡ st
+    go None small h = rw h.0
+    go (Some b) small h = rw (h.0, h.1, h.2, h.3, h.4, low-is b.offset small.0, low-is b.length small.1)
 
 -- ---- the words of a record
 
 module _ (r : EngineRecord) where
-  abbrev at : ℕ → Slot
+  abbrev at : ℕ → Option Batch
   at i = get_or r.slots i free
 
   -- a client's flag, written and read
@@ -147,7 +145,7 @@ module _ (r : EngineRecord) where
   unfolding slots_in
   slots-back small n =
       let ws : List ℕ = words_of r in
-      let sm : (i : ℕ) → SlotFitsWords (at i).state = slot_at SlotFitsWords tt r.slots small in
+      let sm : (i : ℕ) → SlotFitsWords (at i) = slot_at SlotFitsWords tt r.slots small in
       rw (
         row_back ws 24 (at 0) (sm 0) s0,
         row_back ws 29 (at 1) (sm 1) s1,

@@ -2,18 +2,17 @@
 use mathlib.Core.Path.{◌≡◌}
 use mathlib.Core.Bool.{Bool, true, false}
 use mathlib.Core.List.{List, [], ◌∷◌}
-use Prim.Native.Nat.{ℕ, zero, suc, ◌%◌, ◌<◌, ◌^◌}
+use Prim.Native.Nat.{ℕ, zero, suc, ◌<◌, ◌^◌}
 use native.Mathlib.Omega.{arith}
 use lib.ListN.{get_or}
+use Rattle.std.proofs.Common.{Option, Some, None}
 use Rattle.word.specs.Word.{words}
 use Rattle.word.proofs.Words.{Below32, words-back-all}
 use Rattle.reset.specs.declared.ResetRule.{ResetRule}
 use Rattle.reset.specs.declared.ResetRule.TheVariants.{Unblended, SrcOver}
 use Rattle.reset.specs.Reset.{reset_number_of}
+use Rattle.engine_record.specs.declared.Batch.{Batch}
 use Rattle.engine_record.specs.declared.Client.{Client}
-use Rattle.engine_record.specs.declared.Slot.{Slot}
-use Rattle.engine_record.specs.declared.SlotState.{SlotState}
-use Rattle.engine_record.specs.declared.SlotState.TheVariants.{Free, Ready}
 use Rattle.engine_record.specs.declared.Setup.{Setup}
 use Rattle.engine_record.specs.declared.Staged.{Staged}
 use Rattle.engine_record.specs.declared.EngineRecord.{EngineRecord}
@@ -42,7 +41,7 @@ client-at P n [] h i = n
 client-at P n (c ∷ cs) h zero = h.0
 client-at P n (c ∷ cs) h (suc i) = client-at P n cs h.1 i
 
-pub slot_at : (P : SlotState → Type 0) → P Free → (ss : List Slot) → AllSlots P ss → (i : ℕ) → P (get_or ss i free).state
+pub slot_at : (P : Option Batch → Type 0) → P None → (ss : List (Option Batch)) → AllSlots P ss → (i : ℕ) → P (get_or ss i free)
 slot_at P n [] h i = n
 slot_at P n (s ∷ ss) h zero = h.0
 slot_at P n (s ∷ ss) h (suc i) = slot_at P n ss h.1 i
@@ -66,12 +65,12 @@ client-then c h k = (h.0, (h.1, (h.2, (flag-below c.opened, k))))
 abbrev RowBelow : Row → Type 0 → Type 0
 RowBelow r K = (r.tag < 2 ^ 32) × ((r.client < 2 ^ 32) × ((r.ticket < 2 ^ 32) × ((r.offset < 2 ^ 32) × ((r.length < 2 ^ 32) × K))))
 
-row-then : {K : Type 0} (s : Slot) → StateTyped s.state → K → RowBelow (row_of s) K
-row-then {K} s h k = go s.state h
+row-then : {K : Type 0} (s : Option Batch) → StateTyped s → K → RowBelow (row_of s) K
+row-then {K} s h k = go s h
   where
-    go : (st : SlotState) → StateTyped st → RowBelow (row_of (record { state = st })) K
-    go Free h = (zero-below, (zero-below, (zero-below, (zero-below, (zero-below, k)))))
-    go (Ready b) h = (one_below, (h.0, (h.1, (low_below b.offset, (low_below b.length, k)))))
+    go : (st : Option Batch) → StateTyped st → RowBelow (row_of (st)) K
+    go None h = (zero-below, (zero-below, (zero-below, (zero-below, (zero-below, k)))))
+    go (Some b) h = (one_below, (h.0, (h.1, (low_below b.offset, (low_below b.length, k)))))
 
 module _ (r : EngineRecord) (t : Typed r) where
   client : {K : Type 0} (i : ℕ) → K → ClientBelow (get_or r.clients i no_client) K

@@ -1,12 +1,11 @@
 -- The record that bytes stand for. What is no record at all stands for one that breaks the first rule, so that every call refuses it with 11.
-use Rattle.std.specs.Prelude.{Bool, cond, ◌&&◌, ◌||◌, List, [], ◌∷◌, ℕ, ◌+◌, length, eqb, leb}
+use Rattle.std.specs.Prelude.{Bool, cond, ◌&&◌, ◌||◌, List, [], ◌∷◌, ℕ, ◌+◌, length, eqb, leb, Option}
 use Rattle.reset.specs.declared.ResetRule.TheVariants.{Unblended}
 use Rattle.reset.specs.Reset.{is_rule_number, rule_of}
 use Rattle.word.specs.Word.{words}
 use Rattle.engine_record.specs.declared.Setup.{Setup}
 use Rattle.engine_record.specs.declared.Client.{Client}
 use Rattle.engine_record.specs.declared.Batch.{Batch}
-use Rattle.engine_record.specs.declared.Slot.{Slot}
 use Rattle.engine_record.specs.declared.EngineRecord.{EngineRecord}
 use Rattle.engine_record.specs.declared.Staged.{Staged}
 use Rattle.engine_record.specs.Staged.{no_staged}
@@ -48,13 +47,13 @@ client_in ws k = record { window = record { start = word_at ws k; length = word_
 abbrev pub batch_in : List ℕ → ℕ → Batch
 batch_in ws k = record { client = word_at ws (k + 1); ticket = word_at ws (k + 2); offset = word_at ws (k + 3); length = word_at ws (k + 4) }
 
-unfoldable pub slot_in : List ℕ → ℕ → Slot
+unfoldable pub slot_in : List ℕ → ℕ → Option Batch
 slot_in ws k = cond (eqb (word_at ws k) 0) free (ready_with (batch_in ws k))
 
 unfoldable pub clients_in : List ℕ → List Client
 clients_in ws = client_in ws 8 ∷ client_in ws 12 ∷ client_in ws 16 ∷ client_in ws 20 ∷ []
 
-unfoldable pub slots_in : List ℕ → List Slot
+unfoldable pub slots_in : List ℕ → List (Option Batch)
 slots_in ws =
     slot_in ws 24 ∷ slot_in ws 29 ∷ slot_in ws 34 ∷ slot_in ws 39
     ∷ slot_in ws 44 ∷ slot_in ws 49 ∷ slot_in ws 54 ∷ slot_in ws 59 ∷ []

@@ -1,11 +1,9 @@
 -- A record's bytes stand for that record, and bytes that are no record for one that no call takes. proofs/RoundTrip.antt, proofs/Fitting.antt,
 -- proofs/Canonical.antt and proofs/Cases.antt prove the promises.
-use Rattle.std.specs.Prelude.{◌≡◌, true, false, List, [], ◌∷◌, ℕ, ◌<◌, ◌^◌, length}
+use Rattle.std.specs.Prelude.{◌≡◌, true, false, List, [], ◌∷◌, ℕ, ◌<◌, ◌^◌, length, Option, Some, None}
 use Rattle.word.specs.Word.{AllBytes}
 use Rattle.engine_record.specs.declared.Client.{Client}
-use Rattle.engine_record.specs.declared.Slot.{Slot}
-use Rattle.engine_record.specs.declared.SlotState.{SlotState}
-use Rattle.engine_record.specs.declared.SlotState.TheVariants.{Free, Ready}
+use Rattle.engine_record.specs.declared.Batch.{Batch}
 use Rattle.engine_record.specs.declared.EngineRecord.{EngineRecord}
 use Rattle.engine_record.specs.Rules.{valid}
 use Rattle.record_bytes.specs.Written.{bytes_of}
@@ -15,18 +13,18 @@ abbrev pub AllClients : (Client → Type 0) → List Client → Type 0
 AllClients P [] = Unit {0}
 AllClients P (c ∷ cs) = P c × AllClients P cs
 
-abbrev pub AllSlots : (SlotState → Type 0) → List Slot → Type 0
+abbrev pub AllSlots : (Option Batch → Type 0) → List (Option Batch) → Type 0
 AllSlots P [] = Unit {0}
-AllSlots P (s ∷ ss) = P s.state × AllSlots P ss
+AllSlots P (s ∷ ss) = P s × AllSlots P ss
 
 -- ---- what the code's types say of any record: four clients, eight slots, and each u32 below 2 ^ 32
 
 abbrev pub ClientTyped : Client → Type 0
 ClientTyped c = (c.window.start < 2 ^ 32) × (c.window.length < 2 ^ 32) × (c.pending < 2 ^ 32)
 
-abbrev pub StateTyped : SlotState → Type 0
-StateTyped Free = Unit {0}
-StateTyped (Ready b) = (b.client < 2 ^ 32) × (b.ticket < 2 ^ 32)
+abbrev pub StateTyped : Option Batch → Type 0
+StateTyped None = Unit {0}
+StateTyped (Some b) = (b.client < 2 ^ 32) × (b.ticket < 2 ^ 32)
 
 pub record Typed (r : EngineRecord) : Type 0 where
   pub four : length r.clients ≡ 4
@@ -38,9 +36,9 @@ pub record Typed (r : EngineRecord) : Type 0 where
 
 -- ---- the other numbers fit in words too
 
-abbrev pub SlotFitsWords : SlotState → Type 0
-SlotFitsWords Free = Unit {0}
-SlotFitsWords (Ready b) = (b.offset < 2 ^ 32) × (b.length < 2 ^ 32)
+abbrev pub SlotFitsWords : Option Batch → Type 0
+SlotFitsWords None = Unit {0}
+SlotFitsWords (Some b) = (b.offset < 2 ^ 32) × (b.length < 2 ^ 32)
 
 pub record RecordFitsWords (r : EngineRecord) : Type 0 where
   pub ring : r.setup.ring < 2 ^ 32

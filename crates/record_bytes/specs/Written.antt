@@ -1,12 +1,9 @@
 -- The bytes of a record.
-use Rattle.std.specs.Prelude.{Bool, cond, List, [], ◌∷◌, ◌++◌, ℕ, length, get_or, eqb}
+use Rattle.std.specs.Prelude.{Bool, cond, List, [], ◌∷◌, ◌++◌, ℕ, length, get_or, eqb, Option, Some, None}
 use Rattle.reset.specs.Reset.{reset_number_of}
 use Rattle.word.specs.Word.{words_bytes}
 use Rattle.engine_record.specs.declared.Client.{Client}
 use Rattle.engine_record.specs.declared.Batch.{Batch}
-use Rattle.engine_record.specs.declared.Slot.{Slot}
-use Rattle.engine_record.specs.declared.SlotState.{SlotState}
-use Rattle.engine_record.specs.declared.SlotState.TheVariants.{Free, Ready}
 use Rattle.engine_record.specs.declared.EngineRecord.{EngineRecord}
 use Rattle.engine_record.specs.declared.Staged.{Staged}
 use Rattle.engine_record.specs.Slots.{free}
@@ -28,15 +25,15 @@ client_words c = c.window.start ∷ c.window.length ∷ c.pending ∷ flag_of c.
 abbrev pub staged_words : Staged → List ℕ
 staged_words g = g.client ∷ low g.slot ∷ low g.total ∷ low g.received ∷ []
 
-abbrev pub tag_of : SlotState → ℕ
-tag_of Free = 0
-tag_of (Ready b) = 1
+abbrev pub tag_of : Option Batch → ℕ
+tag_of None = 0
+tag_of (Some b) = 1
 
 -- a slot's numbers; those of a free one are zeros, as its `batch_in_state` is
-abbrev pub row_of : Slot → Row
+abbrev pub row_of : Option Batch → Row
 row_of s =
-    let b : Batch = batch_in_state s.state in
-    record { tag = tag_of s.state; client = b.client; ticket = b.ticket; offset = low b.offset; length = low b.length }
+    let b : Batch = batch_in_state s in
+    record { tag = tag_of s; client = b.client; ticket = b.ticket; offset = low b.offset; length = low b.length }
 
 abbrev pub row_words : Row → List ℕ
 row_words s = s.tag ∷ s.client ∷ s.ticket ∷ s.offset ∷ s.length ∷ []
@@ -45,10 +42,10 @@ abbrev pub clients_words : List Client → List ℕ
 clients_words cs =
     client_words (get_or cs 0 no_client) ++ (client_words (get_or cs 1 no_client) ++ (client_words (get_or cs 2 no_client) ++ client_words (get_or cs 3 no_client)))
 
-abbrev pub row_at : List Slot → ℕ → Row
+abbrev pub row_at : List (Option Batch) → ℕ → Row
 row_at ss i = row_of (get_or ss i free)
 
-abbrev pub slots_words : List Slot → List ℕ
+abbrev pub slots_words : List (Option Batch) → List ℕ
 slots_words ss =
     row_words (row_at ss 0) ++ (row_words (row_at ss 1) ++ (row_words (row_at ss 2) ++ (row_words (row_at ss 3)
     ++ (row_words (row_at ss 4) ++ (row_words (row_at ss 5) ++ (row_words (row_at ss 6) ++ row_words (row_at ss 7)))))))

@@ -1,40 +1,39 @@
 // A record from bytes. Any bytes may be handed in: what is no record is answered with one that breaks the first rule.
-ghost use Rattle.std.specs.Prelude.{◌≡◌, ◌+◌, ◌<◌, length};
+ghost use Rattle.std.specs.Prelude.{◌≡◌, ◌+◌, ◌<◌};
 ghost use Rattle.word.specs.Word.{words};
 ghost use Rattle.record_bytes.specs.Layout.{word_at};
 ghost use Rattle.record_bytes.specs.Read.{slot_right, slots_right, fixed_right, is_record, setup_in, client_in, batch_in, slot_in, clients_in, slots_in, staged_in, record_in, no_record, record_of};
 
-use engine_record::{Batch, Client, EngineRecord, Setup, Slot, SlotState, Staged, Window};
+use engine_record::{Batch, Client, EngineRecord, Setup, Staged, Window};
 use reset::ResetRule;
 
-fn word_at(bytes: &[u8], k: usize) -> u32
-    requires { (length bytes.now ≡ 272) × (k < 68) }
+fn word_at(bytes: &[u8; 272], k: usize) -> u32
+    requires { k < 68 }
     ensures { result ≡ word_at (words bytes.now) k }
 {
     word::read_le32(bytes, 4 * k)
 }
 
-fn size_at(bytes: &[u8], k: usize) -> usize
-    requires { (length bytes.now ≡ 272) × (k < 68) }
+fn size_at(bytes: &[u8; 272], k: usize) -> usize
+    requires { k < 68 }
     ensures { result ≡ word_at (words bytes.now) k }
 {
     word_at(bytes, k) as usize
 }
 
-fn setup_in(bytes: &[u8]) -> Setup
-    requires { length bytes.now ≡ 272 }
+fn setup_in(bytes: &[u8; 272]) -> Setup
     ensures { result ≡ setup_in (words bytes.now) }
 {
     Setup {
         ring: size_at(bytes, 0),
         memory: size_at(bytes, 1),
         common: size_at(bytes, 2),
-        reset: ResetRule::from_number(word_at(bytes, 3)),
+        reset: ResetRule::from(word_at(bytes, 3)),
     }
 }
 
-fn client_in(bytes: &[u8], k: usize) -> Client
-    requires { (length bytes.now ≡ 272) × (k + 3 < 68) }
+fn client_in(bytes: &[u8; 272], k: usize) -> Client
+    requires { k + 3 < 68 }
     ensures { result ≡ client_in (words bytes.now) k }
 {
     let window = Window {
@@ -48,8 +47,7 @@ fn client_in(bytes: &[u8], k: usize) -> Client
     }
 }
 
-fn clients_in(bytes: &[u8]) -> [Client; 4]
-    requires { length bytes.now ≡ 272 }
+fn clients_in(bytes: &[u8; 272]) -> [Client; 4]
     ensures { result ≡ clients_in (words bytes.now) }
 {
     [
@@ -60,8 +58,8 @@ fn clients_in(bytes: &[u8]) -> [Client; 4]
     ]
 }
 
-fn batch_in(bytes: &[u8], k: usize) -> Batch
-    requires { (length bytes.now ≡ 272) × (k + 4 < 68) }
+fn batch_in(bytes: &[u8; 272], k: usize) -> Batch
+    requires { k + 4 < 68 }
     ensures { result ≡ batch_in (words bytes.now) k }
 {
     Batch {
@@ -72,22 +70,17 @@ fn batch_in(bytes: &[u8], k: usize) -> Batch
     }
 }
 
-fn slot_in(bytes: &[u8], k: usize) -> Slot
-    requires { (length bytes.now ≡ 272) × (k + 4 < 68) }
+fn slot_in(bytes: &[u8; 272], k: usize) -> Option<Batch>
+    requires { k + 4 < 68 }
     ensures { result ≡ slot_in (words bytes.now) k }
 {
     if word_at(bytes, k) == 0 {
-        return Slot {
-            state: SlotState::Free,
-        };
+        return None;
     }
-    Slot {
-        state: SlotState::Ready(batch_in(bytes, k)),
-    }
+    Some(batch_in(bytes, k))
 }
 
-fn slots_in(bytes: &[u8]) -> [Slot; 8]
-    requires { length bytes.now ≡ 272 }
+fn slots_in(bytes: &[u8; 272]) -> [Option<Batch>; 8]
     ensures { result ≡ slots_in (words bytes.now) }
 {
     [
@@ -102,8 +95,7 @@ fn slots_in(bytes: &[u8]) -> [Slot; 8]
     ]
 }
 
-fn staged_in(bytes: &[u8]) -> Staged
-    requires { length bytes.now ≡ 272 }
+fn staged_in(bytes: &[u8; 272]) -> Staged
     ensures { result ≡ staged_in (words bytes.now) }
 {
     Staged {
@@ -114,8 +106,7 @@ fn staged_in(bytes: &[u8]) -> Staged
     }
 }
 
-fn record_in(bytes: &[u8]) -> EngineRecord
-    requires { length bytes.now ≡ 272 }
+fn record_in(bytes: &[u8; 272]) -> EngineRecord
     ensures { result ≡ record_in (words bytes.now) }
 {
     EngineRecord {
@@ -128,8 +119,8 @@ fn record_in(bytes: &[u8]) -> EngineRecord
     }
 }
 
-fn slot_right(bytes: &[u8], k: usize) -> bool
-    requires { (length bytes.now ≡ 272) × (k + 4 < 68) }
+fn slot_right(bytes: &[u8; 272], k: usize) -> bool
+    requires { k + 4 < 68 }
     ensures { result ≡ slot_right (words bytes.now) k }
 {
     let tag = word_at(bytes, k);
@@ -141,8 +132,7 @@ fn slot_right(bytes: &[u8], k: usize) -> bool
     (tag == 1) | zeros
 }
 
-fn slots_right(bytes: &[u8]) -> bool
-    requires { length bytes.now ≡ 272 }
+fn slots_right(bytes: &[u8; 272]) -> bool
     ensures { result ≡ slots_right (words bytes.now) }
 {
     slot_right(bytes, 24)
@@ -156,8 +146,7 @@ fn slots_right(bytes: &[u8]) -> bool
 }
 
 // The words that are kept for later are zero, and each client is open or not.
-fn fixed_right(bytes: &[u8]) -> bool
-    requires { length bytes.now ≡ 272 }
+fn fixed_right(bytes: &[u8; 272]) -> bool
     ensures { result ≡ fixed_right (words bytes.now) }
 {
     (word_at(bytes, 4) == 0)
@@ -179,9 +168,6 @@ fn no_record() -> EngineRecord
         pending: 0,
         opened: false,
     }; 4];
-    let slots = [Slot {
-        state: SlotState::Free,
-    }; 8];
     EngineRecord {
         setup: Setup {
             ring: 0,
@@ -190,7 +176,7 @@ fn no_record() -> EngineRecord
             reset: ResetRule::Unblended,
         },
         clients: clients,
-        slots: slots,
+        slots: [None; 8],
         read_offset: 0,
         next_ticket: 0,
         staged: engine_record::no_staged(),
@@ -202,9 +188,9 @@ fn no_record() -> EngineRecord
 pub fn decode(bytes: &[u8]) -> EngineRecord
     ensures { result ≡ record_of bytes.now }
 {
-    if bytes.len() != 272 {
+    let Some(bytes) = bytes.as_array::<272>() else {
         return no_record();
-    }
+    };
     let rule = ResetRule::is_number(word_at(bytes, 3));
     if !(rule & fixed_right(bytes) & slots_right(bytes)) {
         return no_record();

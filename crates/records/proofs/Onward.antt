@@ -5,8 +5,8 @@ use mathlib.Core.Logic.{◌⊎◌, inl, inr}
 use mathlib.Core.List.{List, [], ◌∷◌, ◌++◌, append_assoc, append-nil}
 use Prim.Native.Nat.{ℕ, zero, suc, ◌+◌, ◌-◌, ◌≤◌, ◌<◌, min}
 use native.Mathlib.Omega.{arith}
-use lib.ListN.{length, get_or, take, drop, length-append, length-take, length-drop, take-append-drop}
-use lib.Seq.{length-take-le, take_all, drop-length, drop_at, take-append_seam}
+use lib.ListN.{length, get_or, take, drop, length-append, length-take, length-drop}
+use lib.Seq.{length-take-le, take_all, drop_at, take-append_seam}
 use lib.Dec.{eqb, leb, ltb}
 use borrow.Author.Tests.{lt-ltb, le-ltb, le-leb, leb-true, ltb-true}
 use Rattle.word.specs.Splice.{spliced}
@@ -18,9 +18,9 @@ use Rattle.records.specs.declared.Edition.{Edition}
 use Rattle.records.specs.declared.Stage.{Stage}
 use Rattle.records.specs.declared.Stage.TheVariants.{Version, Records, Ended}
 use Rattle.records.specs.declared.Reader.{Reader}
-use Rattle.records.specs.declared.Found.TheVariants.{Nothing, Record, BadVersion, BadRecord}
+use Rattle.records.specs.declared.Found.TheVariants.{Nothing, BadVersion}
 use Rattle.records.specs.declared.Taken.{Taken}
-use Rattle.records.specs.Records.{Entry, FileEnd, File, whole, bad_version, bad_record, cut_record, file_ends, cons_entry, version_of, length_field, bad_size, entry_of, records_from, records}
+use Rattle.records.specs.Records.{Entry, File, bad_version, bad_record, cut_record, file_ends, cons_entry, version_of, length_field, bad_size, entry_of, records_from, records}
 use Rattle.records.specs.Reading.{file_from, file_in, file_at, entry_in, onto, room_of, bytes_wanted, Due, ReaderReady, EndedIfBad, Takes, Lies, ending_at, after_record_bytes, version_taken, nothing_taken, kept_in, record_taken, taken_in, buffer_suffices, taken_by, held_after}
 use Rattle.records.proofs.Bytes.{room-between, good-size, size-front, entry-front, after_record_bytes-short, after_record_bytes-bad, after_record_bytes_part, after_record_bytes-whole, bytes_wanted-short, bytes_wanted-bad, bytes_wanted-rest, there, entry_there}
 

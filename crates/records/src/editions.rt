@@ -22,11 +22,7 @@ pub fn score_in(edition: Edition, held: &[u8], end: usize) -> bool
     match edition {
         Edition::First => true,
         Edition::Second => {
-            let lies = (9 <= end) & (end <= held.len());
-            if !lies {
-                return false;
-            }
-            score::bits::is_score_word(word::read_be32(held, 5))
+            (9..=held.len()).contains(&end) && score::bits::is_score_word(word::read_be32(held, 5))
         }
     }
 }

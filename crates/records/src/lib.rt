@@ -7,10 +7,10 @@ ghost use Rattle.std.specs.Prelude.{◌≡◌, ◌+◌, ◌≤◌, ◌<◌, leng
 ghost use Rattle.records.specs.declared.Stage.TheVariants.{Version, Records};
 ghost use Rattle.records.specs.Records.{version_of, bad_size};
 ghost use Rattle.word.specs.Splice.{spliced};
-ghost use Rattle.records.specs.Reading.{room_of, batch_start, bytes_wanted, ReaderReady, Takes, Lies, wait_for_more, after_record_bytes, version_taken, kept_in, record_taken, taken_by, held_after};
+ghost use Rattle.records.specs.Reading.{room_of, batch_start, bytes_wanted, ReaderReady, Takes, Lies, wait_for_more, after_record_bytes, version_taken, nothing_taken, kept_in, record_taken, taken_by, held_after};
 
 // The edition of a file. The second has a score in each record.
-#[derive(Clone, Copy)]
+#[derive(Clone, Copy, PartialEq, Eq)]
 pub enum Edition {
     First,
     Second,
@@ -48,7 +48,7 @@ impl Edition {
 }
 
 // What is to come next: the version byte, a record, or nothing that is looked at.
-#[derive(Clone, Copy)]
+#[derive(Clone, Copy, PartialEq, Eq)]
 pub enum Stage {
     Version,
     Records,
@@ -56,14 +56,15 @@ pub enum Stage {
 }
 
 // Where the reading stands. The first `held` bytes of the buffer of that name are those of an unfinished record.
-#[derive(Clone, Copy)]
+#[derive(Clone, Copy, PartialEq, Eq)]
 pub struct Reader {
     pub stage: Stage,
     pub buffered: usize,
 }
 
 // What a step found. A record lies in `held` up to an end: its client at 4, then in edition 2 its score, then its batch.
-#[derive(Clone, Copy)]
+// Kept (no plainer): each caller tells the four apart, and as `Result<Option<usize>, Bad>` they are the same four arms with two wrappers more.
+#[derive(Clone, Copy, PartialEq, Eq)]
 pub enum Found {
     Nothing,
     Record(usize),
@@ -71,7 +72,7 @@ pub enum Found {
     BadRecord,
 }
 
-#[derive(Clone, Copy)]
+#[derive(Clone, Copy, PartialEq, Eq)]
 pub struct Taken {
     pub reader: Reader,
     pub used: usize,
@@ -129,7 +130,7 @@ fn decide(edition: Edition, held: &[u8], have: usize, used: usize) -> Taken
                 stage: Stage::Ended,
                 buffered: 0,
             },
-            used: used,
+            used,
             found: Found::BadRecord,
         };
     }
@@ -142,7 +143,7 @@ fn decide(edition: Edition, held: &[u8], have: usize, used: usize) -> Taken
             stage: Stage::Records,
             buffered: 0,
         },
-        used: used,
+        used,
         found: Found::Record(end),
     }
 }
@@ -156,7 +157,7 @@ fn wait_for_more(have: usize, used: usize) -> Taken
             stage: Stage::Records,
             buffered: have,
         },
-        used: used,
+        used,
         found: Found::Nothing,
     }
 }
@@ -171,20 +172,20 @@ fn take_record(edition: Edition, have: usize, held: &mut [u8], input: &[u8]) -> 
         × (held.new ≡ spliced have (kept_in edition Records (take have held.old) input.now) held.old) }
 {
     let wanted = bytes_wanted(edition, held, have);
-    let taken = range::min_usize(wanted, input.len());
+    let taken = wanted.min(input.len());
     // It never goes on at byte 0: no record is longer than `held`.
     ring::copy_in(held, have, &input[..taken]);
     decide(edition, held, have + taken, taken)
 }
 
 // So many bytes passed over.
-fn skip_input(reader: Reader, used: usize, found: Found) -> Taken
-    ensures { result ≡ record { reader = reader; used = used; found = found } }
+fn nothing_taken(reader: Reader, used: usize) -> Taken
+    ensures { result ≡ nothing_taken reader used }
 {
     Taken {
-        reader: reader,
-        used: used,
-        found: found,
+        reader,
+        used,
+        found: Found::Nothing,
     }
 }
 
@@ -223,17 +224,14 @@ pub fn take(edition: Edition, reader: Reader, held: &mut [u8], input: &[u8]) -> 
     let room = edition.room();
     let enough = (room <= held.len()) & (have < room);
     if !enough {
-        return skip_input(reader, 0, Found::Nothing);
+        return nothing_taken(reader, 0);
     }
-    let stage = reader.stage;
-    match stage {
-        Stage::Version => {
-            if input.len() == 0 {
-                return skip_input(reader, 0, Found::Nothing);
-            }
-            check_version(edition, input[0])
-        }
+    match reader.stage {
+        Stage::Version => match input.first() {
+            None => nothing_taken(reader, 0),
+            Some(version) => check_version(edition, *version),
+        },
         Stage::Records => take_record(edition, have, held, input),
-        Stage::Ended => skip_input(reader, input.len(), Found::Nothing),
+        Stage::Ended => nothing_taken(reader, input.len()),
     }
 }

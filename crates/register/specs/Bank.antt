@@ -1,14 +1,14 @@
 -- The bank: its reset value, and the bank after a word is written (01, "Groups and registers"; faults 23 and 24).
-use Rattle.std.specs.Prelude.{ℕ, ◌+◌, cond, eqb}
+use Rattle.std.specs.Prelude.{ℕ, ◌+◌, cond, eqb, Option, Some, None, Result, Ok, Err}
 use Rattle.pixel.specs.declared.gradient.Steps.{Steps}
 use Rattle.reset.specs.declared.ResetRule.{ResetRule}
 use Rattle.reset.specs.Reset.{blending_at_reset}
 use Rattle.register.specs.declared.bank.SurfaceRegisters.{SurfaceRegisters}
 use Rattle.register.specs.declared.bank.Bank.{Bank}
 use Rattle.register.specs.declared.bank.WriteFault.TheVariants.{NotWritable, Forbidden}
-use Rattle.register.specs.declared.bank.WriteResult.{WriteResult}
-use Rattle.register.specs.declared.bank.WriteResult.TheVariants.{Written, Refused}
-use Rattle.register.specs.Table.{register_kind_of, is_writable, accepts_word}
+use Rattle.register.specs.declared.bank.WriteFault.{WriteFault}
+use Rattle.register.specs.declared.table.RegisterKind.{RegisterKind}
+use Rattle.register.specs.Table.{register_kind_of, accepts_word}
 
 abbrev pub reset_surface : SurfaceRegisters
 reset_surface = record { control = 0; size = 0; stride = 0; address = 0 }
@@ -60,9 +60,11 @@ bank_after_write bank offset word = record {
   blending = register_after_write 0x090 offset word bank.blending;
 }
 
--- a word written at an offset: 23 where no writable register stands, 24 where the register does not take the word
-unfoldable pub write_register : Bank → ℕ → ℕ → WriteResult
-write_register bank offset word =
-    cond (is_writable (register_kind_of offset))
-    (cond (accepts_word (register_kind_of offset) word) (Written (bank_after_write bank offset word)) (Refused Forbidden))
-    (Refused NotWritable)
+-- a word written at an offset where the table has this row: 23 where it has none, 24 where the register does not take the word
+abbrev pub write_as : Option RegisterKind → Bank → ℕ → ℕ → Result Bank WriteFault
+write_as None bank offset word = Err NotWritable
+write_as (Some kind) bank offset word = cond (accepts_word kind word) (Ok (bank_after_write bank offset word)) (Err Forbidden)
+
+-- a word written at an offset: the bank after it, or why not
+unfoldable pub write_register : Bank → ℕ → ℕ → Result Bank WriteFault
+write_register bank offset word = write_as (register_kind_of offset) bank offset word

@@ -1,33 +1,33 @@
 -- The table of writable registers (01, "Groups and registers"; 02, request 3), row by row: the offsets of a row, and the words that its
 -- registers take. Names as in document 002.
-use Rattle.std.specs.Prelude.{ℕ, Bool, true, false, cond, ◌&&◌, ◌||◌, eqb}
+use Rattle.std.specs.Prelude.{ℕ, Bool, true, cond, ◌&&◌, ◌||◌, eqb, Option, Some, None}
 use Rattle.word.specs.Field.{field}
 use Rattle.pixel.specs.Formats.{is_format}
 use Rattle.pixel.specs.Alpha.{is_alpha_mode}
 use Rattle.pixel.specs.Blending.{is_factor}
 use Rattle.register.specs.declared.table.RegisterKind.{RegisterKind}
-use Rattle.register.specs.declared.table.RegisterKind.TheVariants.{SourceControl, DestinationControl, OutputControl, Size, Stride, Step, Blending, FullWord, NotWritable}
+use Rattle.register.specs.declared.table.RegisterKind.TheVariants.{SourceControl, DestinationControl, OutputControl, Size, Stride, Step, Blending, FullWord}
 
--- the row of the register at an offset
-unfoldable pub register_kind_of : ℕ → RegisterKind
+-- the row of the register at an offset, none where no writable register stands
+unfoldable pub register_kind_of : ℕ → Option RegisterKind
 register_kind_of offset =
     -- SRC_SURFACE_CTRL
-    cond (eqb offset 0x010) SourceControl
+    cond (eqb offset 0x010) (Some SourceControl)
     -- DST_SURFACE_CTRL
-    (cond (eqb offset 0x050) DestinationControl
+    (cond (eqb offset 0x050) (Some DestinationControl)
     -- SRC_SURFACE_INPUT_SIZE, DST_SURFACE_INPUT_SIZE, OUTPUT_SIZE
-    (cond (eqb offset 0x014 || eqb offset 0x054 || eqb offset 0x104) Size
+    (cond (eqb offset 0x014 || eqb offset 0x054 || eqb offset 0x104) (Some Size)
     -- SRC_SURFACE_STRIDE, DST_SURFACE_STRIDE, OUTPUT_STRIDE
-    (cond (eqb offset 0x018 || eqb offset 0x058 || eqb offset 0x108) Stride
+    (cond (eqb offset 0x018 || eqb offset 0x058 || eqb offset 0x108) (Some Stride)
     -- SRC_SURFACE_FILL_COLOR; SRC_SURFACE_ADDR0, DST_SURFACE_ADDR0, OUTPUT_ADDR0
-    (cond (eqb offset 0x01C || eqb offset 0x020 || eqb offset 0x060 || eqb offset 0x110) FullWord
+    (cond (eqb offset 0x01C || eqb offset 0x020 || eqb offset 0x060 || eqb offset 0x110) (Some FullWord)
     -- the steps of A, R, G and B
-    (cond (eqb offset 0x030 || eqb offset 0x034 || eqb offset 0x038 || eqb offset 0x03C) Step
+    (cond (eqb offset 0x030 || eqb offset 0x034 || eqb offset 0x038 || eqb offset 0x03C) (Some Step)
     -- BLENDING_CTRL
-    (cond (eqb offset 0x090) Blending
+    (cond (eqb offset 0x090) (Some Blending)
     -- OUTPUT_CTRL
-    (cond (eqb offset 0x100) OutputControl
-    NotWritable)))))))
+    (cond (eqb offset 0x100) (Some OutputControl)
+    None)))))))
 
 -- 31:24 global alpha, 23:22 alpha mode, 14:8 format, 7 and 6 flips, 5:4 quarter turns, 3:2 source mode, 0 enable; the others zero
 abbrev pub source_control_accepts : ℕ → Bool
@@ -80,15 +80,3 @@ accepts_word Stride word = stride_accepts word
 accepts_word Step word = step_accepts word
 accepts_word Blending word = blending_accepts word
 accepts_word FullWord word = true
-accepts_word NotWritable word = false
-
-abbrev pub is_writable : RegisterKind → Bool
-is_writable SourceControl = true
-is_writable DestinationControl = true
-is_writable OutputControl = true
-is_writable Size = true
-is_writable Stride = true
-is_writable Step = true
-is_writable Blending = true
-is_writable FullWord = true
-is_writable NotWritable = false

@@ -5,6 +5,6 @@ pub mod bank;
 pub mod table;
 pub mod task;
 
-pub use bank::{Bank, SurfaceRegisters, WriteFault, WriteResult};
+pub use bank::{Bank, SurfaceRegisters, WriteFault};
 pub use table::RegisterKind;
 pub use task::{Alpha, Blending, Destination, Source, SourceMode, Task};

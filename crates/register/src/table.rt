@@ -1,12 +1,15 @@
 // The table of writable registers: at which offsets they stand, and which words each of them takes.
-ghost use Rattle.std.specs.Prelude.{◌≡◌};
-ghost use Rattle.register.specs.Table.{register_kind_of, is_writable, source_control_accepts, destination_control_accepts, output_control_accepts, size_accepts, stride_accepts, step_accepts, blending_accepts, accepts_word as takesWord};
+ghost use Rattle.std.specs.Prelude.{◌≡◌, ◌&&◌, eqb};
+ghost use Rattle.word.specs.Field.{field};
+ghost use Rattle.pixel.specs.Formats.{is_format};
+ghost use Rattle.pixel.specs.Alpha.{is_alpha_mode};
+ghost use Rattle.register.specs.Table.{register_kind_of, source_control_accepts, destination_control_accepts, output_control_accepts, size_accepts, stride_accepts, step_accepts, blending_accepts, accepts_word as takesWord};
 
 use pixel::{AlphaMode, Factor, Format};
 use word::bits;
 
 // Which row of the table a register's words are held to.
-#[derive(Clone, Copy)]
+#[derive(Clone, Copy, PartialEq, Eq)]
 pub enum RegisterKind {
     SourceControl,
     DestinationControl,
@@ -16,27 +19,30 @@ pub enum RegisterKind {
     Step,
     Blending,
     FullWord,
-    NotWritable,
+}
+
+// What the control words of the source and the destination have alike: 23:22 alpha mode, 21:15 zero, 14:8 format.
+fn control_accepts(word: u32) -> bool
+    ensures { result ≡ (is_alpha_mode (field 23 22 word) && eqb (field 21 15 word) 0 && is_format (field 14 8 word)) }
+{
+    AlphaMode::is_code(bits(word, 23, 22))
+        & (bits(word, 21, 15) == 0)
+        & Format::is_code(bits(word, 14, 8))
 }
 
 fn source_control_accepts(word: u32) -> bool
     ensures { result ≡ source_control_accepts word }
 {
-    AlphaMode::is_code(bits(word, 23, 22))
-        & (bits(word, 21, 15) == 0)
-        & Format::is_code(bits(word, 14, 8))
-        & (bits(word, 1, 1) == 0)
+    control_accepts(word) & (bits(word, 1, 1) == 0)
 }
 
 fn destination_takes(word: u32) -> bool
     ensures { result ≡ destination_control_accepts word }
 {
-    AlphaMode::is_code(bits(word, 23, 22))
-        & (bits(word, 21, 15) == 0)
-        & Format::is_code(bits(word, 14, 8))
-        & (bits(word, 7, 1) == 0)
+    control_accepts(word) & (bits(word, 7, 1) == 0)
 }
 
+// Kept (no plainer): of a control word it shares the field of the format alone.
 fn output_takes(word: u32) -> bool
     ensures { result ≡ output_control_accepts word }
 {
@@ -72,11 +78,12 @@ fn blending_takes(word: u32) -> bool
 }
 
 impl RegisterKind {
-    // The row of the register at an offset. Names as in document 002.
-    pub fn at(offset: u32) -> RegisterKind
+    // The row of the register at an offset, if a writable one stands there. Names as in document 002.
+    #[tactic(auto, unfolding(crate::specs::Table::register_kind_of))]
+    pub fn at(offset: u32) -> Option<RegisterKind>
         ensures { result ≡ register_kind_of offset }
     {
-        match offset {
+        let kind = match offset {
             0x010 => RegisterKind::SourceControl, // SRC_SURFACE_CTRL
             0x014 => RegisterKind::Size, // SRC_SURFACE_INPUT_SIZE
             0x018 => RegisterKind::Stride, // SRC_SURFACE_STRIDE
@@ -95,24 +102,9 @@ impl RegisterKind {
             0x104 => RegisterKind::Size, // OUTPUT_SIZE
             0x108 => RegisterKind::Stride, // OUTPUT_STRIDE
             0x110 => RegisterKind::FullWord, // OUTPUT_ADDR0
-            _ => RegisterKind::NotWritable,
-        }
-    }
-
-    pub fn is_writable(self) -> bool
-        ensures { result ≡ is_writable self }
-    {
-        match self {
-            RegisterKind::SourceControl => true,
-            RegisterKind::DestinationControl => true,
-            RegisterKind::OutputControl => true,
-            RegisterKind::Size => true,
-            RegisterKind::Stride => true,
-            RegisterKind::Step => true,
-            RegisterKind::Blending => true,
-            RegisterKind::FullWord => true,
-            RegisterKind::NotWritable => false,
-        }
+            _ => return None,
+        };
+        Some(kind)
     }
 
     // Whether a register of this row takes a word: its bits and codes, and nothing else.
@@ -128,7 +120,6 @@ impl RegisterKind {
             RegisterKind::Step => step_takes(word),
             RegisterKind::Blending => blending_takes(word),
             RegisterKind::FullWord => true,
-            RegisterKind::NotWritable => false,
         }
     }
 }

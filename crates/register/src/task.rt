@@ -1,6 +1,5 @@
 // The task that a bank describes.
 ghost use Rattle.std.specs.Prelude.{◌≡◌};
-ghost use Rattle.transform.specs.Transform.{rotation_of};
 ghost use Rattle.register.specs.Task.{surface_of, source_mode_of, is_buffer, transform_of, alpha_of, is_enabled, source_of_bank, destination_of, blending_of, task_of};
 
 use crate::bank::{Bank, SurfaceRegisters};
@@ -11,7 +10,7 @@ use transform::{Flip, Rotation, Transform};
 use word::bits;
 
 // Where the source's pixels come from: a rectangle in memory, one colour, or a colour that changes along x or along y.
-#[derive(Clone, Copy)]
+#[derive(Clone, Copy, Debug, PartialEq, Eq)]
 pub enum SourceMode {
     Buffer,
     Colour,
@@ -60,18 +59,6 @@ pub struct Task {
     pub blending: Blending,
 }
 
-// The rotation by 0 to 3 quarter turns.
-fn rotation(code: u32) -> Rotation
-    ensures { result ≡ rotation_of code }
-{
-    match code {
-        0 => Rotation::Rotate0,
-        1 => Rotation::Rotate90,
-        2 => Rotation::Rotate180,
-        _ => Rotation::Rotate270,
-    }
-}
-
 impl SourceMode {
     fn from_code(code: u32) -> SourceMode
         ensures { result ≡ source_mode_of code }
@@ -88,16 +75,12 @@ impl SourceMode {
     pub fn is_buffer(self) -> bool
         ensures { result ≡ is_buffer self }
     {
-        match self {
-            SourceMode::Buffer => true,
-            SourceMode::Colour => false,
-            SourceMode::GradientX => false,
-            SourceMode::GradientY => false,
-        }
+        self == SourceMode::Buffer
     }
 }
 
 impl SurfaceRegisters {
+    #[tactic(auto, unfolding(crate::specs::Task::surface_of))]
     fn surface(self) -> Surface
         ensures { result ≡ surface_of self }
     {
@@ -106,10 +89,11 @@ impl SurfaceRegisters {
             stride: bits(self.stride, 15, 0) as u16,
             width: bits(self.size, 12, 0) as u16,
             height: bits(self.size, 28, 16) as u16,
-            format: Format::from_code(bits(self.control, 14, 8)),
+            format: Format::from(bits(self.control, 14, 8)),
         }
     }
 
+    #[tactic(auto, unfolding(crate::specs::Task::transform_of))]
     fn transform(self) -> Transform
         ensures { result ≡ transform_of self.control }
     {
@@ -118,15 +102,16 @@ impl SurfaceRegisters {
                 horizontal: bits(self.control, 6, 6) == 1,
                 vertical: bits(self.control, 7, 7) == 1,
             },
-            rotation: rotation(bits(self.control, 5, 4)),
+            rotation: Rotation::from(bits(self.control, 5, 4)),
         }
     }
 
+    #[tactic(auto, unfolding(crate::specs::Task::alpha_of))]
     fn alpha(self) -> Alpha
         ensures { result ≡ alpha_of self.control }
     {
         Alpha {
-            mode: AlphaMode::from_code(bits(self.control, 23, 22)),
+            mode: AlphaMode::from(bits(self.control, 23, 22)),
             global: bits(self.control, 31, 24) as u8,
         }
     }
@@ -139,22 +124,23 @@ impl SurfaceRegisters {
 }
 
 impl Bank {
+    #[tactic(auto, unfolding(crate::specs::Task::source_of_bank))]
     fn source(self) -> Source
         ensures { result ≡ source_of_bank self }
     {
         let registers = self.source;
-        let steps = self.steps;
         Source {
             surface: registers.surface(),
             mode: SourceMode::from_code(bits(registers.control, 3, 2)),
             colour: Format::Argb8888.unpack(self.colour),
-            steps,
+            steps: self.steps,
             transform: registers.transform(),
             alpha: registers.alpha(),
             enabled: registers.is_enabled(),
         }
     }
 
+    #[tactic(auto, unfolding(crate::specs::Task::destination_of))]
     fn destination(self) -> Destination
         ensures { result ≡ destination_of self }
     {
@@ -166,28 +152,29 @@ impl Bank {
         }
     }
 
+    #[tactic(auto, unfolding(crate::specs::Task::blending_of))]
     fn blending(self) -> Blending
         ensures { result ≡ blending_of self }
     {
         Blending {
             on: bits(self.blending, 0, 0) == 1,
             rule: BlendFactors {
-                source: Factor::from_code(bits(self.blending, 13, 11)),
-                destination: Factor::from_code(bits(self.blending, 10, 8)),
+                source: Factor::from(bits(self.blending, 13, 11)),
+                destination: Factor::from(bits(self.blending, 10, 8)),
             },
             premultiplied: bits(self.blending, 17, 17) == 1,
         }
     }
 
     // The task that the registers describe.
+    #[tactic(auto, unfolding(crate::specs::Task::task_of))]
     pub fn task(self) -> Task
         ensures { result ≡ task_of self }
     {
-        let output = self.output;
         Task {
             source: self.source(),
             destination: self.destination(),
-            output: output.surface(),
+            output: self.output.surface(),
             blending: self.blending(),
         }
     }

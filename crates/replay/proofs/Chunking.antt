@@ -19,13 +19,13 @@ use Rattle.records.specs.declared.Found.{Found}
 use Rattle.records.specs.declared.Found.TheVariants.{Nothing, Record as OneRecord, BadVersion, BadRecord}
 use Rattle.records.specs.declared.Taken.{Taken}
 use Rattle.records.specs.Records.{Entry, File, records}
-use Rattle.records.specs.Reading.{room_of, entry_in, file_in, file_at, onto, EndedIfBad, ReaderReady, Takes, ending_at}
+use Rattle.records.specs.Reading.{room_of, entry_in, file_in, file_at, onto, EndedIfBad, Takes, ending_at}
 use Rattle.records.proofs.Bytes.{room-between}
 use Rattle.records.proofs.Onward.{file-ends, ends-here}
-use Rattle.records.specs.Editions.{score_holds, submission, scored, submitted_entries}
+use Rattle.records.specs.Editions.{score_holds, scored, submitted_entries}
 use Rattle.lines.specs.Lines.{ending_line, record_after, printed_from, lines_from, lines, engine_opened, replay_start}
 use Rattle.lines.specs.Answered.{submit_and_run_all}
-use Rattle.lines.proofs.Start.{started_engine, starting_engine, started_state, starting_state}
+use Rattle.lines.proofs.Start.{started_engine, starting_engine, started_state}
 use Rattle.replay.specs.declared.Replay.{Replay}
 use Rattle.replay.specs.declared.FeedResult.{FeedResult}
 use Rattle.replay.specs.Calls.{state_of, at_start, found_text, found_state, fed_step, FeedContract, finished_text}

@@ -1,17 +1,15 @@
 -- Laws of a record submitted and run.
 use mathlib.Core.Path.{◌≡◌, refl, sym, ap, ◌∙◌}
 use mathlib.Core.List.{List}
-use Prim.Native.Nat.{ℕ, zero, suc, ◌<◌, ◌-◌, ◌≤◌}
+use Prim.Native.Nat.{ℕ, zero, suc, ◌-◌, ◌≤◌}
 use native.Mathlib.Omega.{arith}
 use Rattle.engine_record.specs.declared.EngineRecord.{EngineRecord}
 use Rattle.queue.specs.declared.Reply.{Reply}
 use Rattle.queue.specs.Answers.{refusal_number_of}
 use Rattle.queue.specs.Calls.{submit_result, submit_ring}
-use Rattle.engine.specs.declared.Completion.{Completion}
-use Rattle.engine.specs.declared.Outcome.TheVariants.{Refused, Completed}
 use Rattle.engine.specs.declared.RunResult.{RunResult}
 use Rattle.engine.specs.Outcome.{run_refusal_of as refusalOf, values_of}
-use Rattle.engine.specs.Run.{oldest, oldest_verdict, run_number, outcome_unless_refused, run_result, run_memory}
+use Rattle.engine.specs.Run.{run_result, run_memory}
 use Rattle.model.specs.Calls.{run, refused}
 use Rattle.claims.specs.Engine.{mk_state, CallResult, answer_or_refusal, completion, perform_call, State}
 use Rattle.replay.specs.declared.serving.SubmitRunResult.{SubmitRunResult}
@@ -26,21 +24,6 @@ use Rattle.records.specs.Editions.{score_holds, score_in}
 use Rattle.records.proofs.editions.Records.{score_in_lem, submission_in}
 use Rattle.lines.specs.Prints.{Prints}
 use Rattle.replay.specs.SubmitRunContract.{SubmitRunContract}
-
--- ---- what run answers
-
-answered-refused : (n : ℕ) (c : Completion) (m : ℕ) → outcome_unless_refused n (Completed c) ≡ Refused m → 0 < m
-unfolding outcome_unless_refused
-answered-refused zero c m e = absurd (let z : ◌≡◌ {A = ℕ} 0 1 = cc in omega arith)
-answered-refused (suc n) c m e =
-    let same : suc n ≡ m = cc in
-    omega arith
-
--- a refusal has a number
-pub run-refused : (engine : EngineRecord) (ring memory : List ℕ) (m : ℕ) → (run_result engine ring memory).outcome ≡ Refused m → 0 < m
-unfolding run_result
-run-refused engine ring memory m e =
-    answered-refused (run_number engine ring memory) (record { client = (oldest engine).client; ticket = (oldest engine).ticket; verdict = oldest_verdict engine ring }) m e
 
 -- ---- a record
 

@@ -14,6 +14,7 @@ ghost use Rattle.replay.specs.SubmitRunContract.{SubmitRunContract};
 use crate::serving::SubmitRunResult;
 use engine_record::EngineRecord;
 use records::{Edition, Found, Reader, Stage};
+use renderer::Renderer;
 use text::line;
 
 // Where a replay stands: the edition of the file, the engine, and the reading of the file.
@@ -37,29 +38,25 @@ pub struct FeedResult {
 pub fn start(edition: Edition) -> Replay
     ensures { result ≡ at_start edition }
 {
-    let none = queue::clients::set_up(
+    let mut engine = queue::clients::set_up(
         32768,
         65536,
         16384,
         records::editions::reset_rule_of(edition),
-    );
-    let first = none.engine;
-    let one = queue::clients::open(first, 16384, 12288);
-    let second = one.engine;
-    let two = queue::clients::open(second, 28672, 12288);
-    let third = two.engine;
-    let three = queue::clients::open(third, 40960, 12288);
-    let fourth = three.engine;
-    let four = queue::clients::open(fourth, 53248, 12288);
-    let engine = four.engine;
+    )
+    .engine;
+    for client in 0..4 {
+        engine = queue::clients::open(engine, 16384 + client * 12288, 12288).engine;
+    }
     Replay {
-        edition: edition,
-        engine: engine,
+        edition,
+        engine,
         reader: records::start(),
     }
 }
 
 // What comes of what the reading found in `held`.
+// Kept (no plainer): a struct of the lent slices needs a clause for each of them in each contract, that it stays the same slice.
 fn after_found(
     edition: Edition,
     engine: EngineRecord,
@@ -68,7 +65,7 @@ fn after_found(
     ring: &mut [u8],
     memory: &mut [u8],
     line: &mut [u8],
-    slow: bool,
+    renderer: Renderer,
 ) -> SubmitRunResult
     requires { Lies edition found (length held.now) × (128 ≤ length line.old) }
     ensures { SubmitRunContract (found_text edition found held.now (mk_state engine ring.old memory.old))
@@ -77,18 +74,15 @@ fn after_found(
 {
     match found {
         Found::Record(end) => {
-            crate::serving::serve_record(edition, engine, held, end, ring, memory, line, slow)
+            crate::serving::serve_record(edition, engine, held, end, ring, memory, line, renderer)
         }
-        Found::Nothing => SubmitRunResult {
-            engine: engine,
-            written: 0,
-        },
+        Found::Nothing => SubmitRunResult { engine, written: 0 },
         Found::BadVersion => SubmitRunResult {
-            engine: engine,
+            engine,
             written: lines::record_lines::bad_version(line),
         },
         Found::BadRecord => SubmitRunResult {
-            engine: engine,
+            engine,
             written: line::copy(line, b"bad record\n"),
         },
     }
@@ -103,31 +97,34 @@ pub fn feed(
     memory: &mut [u8],
     input: &[u8],
     line: &mut [u8],
-    slow: bool,
+    renderer: Renderer,
 ) -> FeedResult
     ensures { FeedContract replay held.old ring.old memory.old input.now line.old
         result held.new ring.new memory.new line.new }
 {
     if line.len() < 128 {
         return FeedResult {
-            replay: replay,
+            replay,
             used: 0,
             written: 0,
         };
     }
-    let edition = replay.edition;
-    let engine = replay.engine;
-    let reader = replay.reader;
-    let taken = records::take(edition, reader, held, input);
-    let after = taken.reader;
-    let found = taken.found;
-    let served = after_found(edition, engine, found, held, ring, memory, line, slow);
-    let next = served.engine;
+    let taken = records::take(replay.edition, replay.reader, held, input);
+    let served = after_found(
+        replay.edition,
+        replay.engine,
+        taken.found,
+        held,
+        ring,
+        memory,
+        line,
+        renderer,
+    );
     FeedResult {
         replay: Replay {
-            edition: edition,
-            engine: next,
-            reader: after,
+            engine: served.engine,
+            reader: taken.reader,
+            ..replay
         },
         used: taken.used,
         written: served.written,
@@ -142,10 +139,8 @@ pub fn finish(replay: Replay, line: &mut [u8]) -> usize
     if line.len() < 128 {
         return 0;
     }
-    let reader = replay.reader;
-    let have = reader.buffered;
-    let stage = reader.stage;
-    match stage {
+    let have = replay.reader.buffered;
+    match replay.reader.stage {
         Stage::Version => lines::record_lines::bad_version(line),
         Stage::Records => {
             if have == 0 {

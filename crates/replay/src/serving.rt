@@ -1,6 +1,5 @@
 // A record of a replay file submitted and run, and its line printed.
 ghost use Rattle.std.specs.Prelude.{◌≡◌, ◌≤◌, length};
-ghost use Rattle.queue.specs.Answers.{refusal_number_of};
 ghost use Rattle.claims.specs.Engine.{mk_state};
 ghost use Rattle.records.specs.declared.Found.TheVariants.{Record as OneRecord};
 ghost use Rattle.records.specs.Reading.{entry_in, Lies};
@@ -8,8 +7,8 @@ ghost use Rattle.lines.specs.Lines.{entry_line, submit_and_run, record_line, rec
 ghost use Rattle.replay.specs.SubmitRunContract.{SubmitRunContract};
 
 use engine_record::EngineRecord;
-use queue::Answer;
 use records::Edition;
+use renderer::Renderer;
 use text::line;
 
 // The engine after what was found, and how many bytes were printed.
@@ -17,20 +16,6 @@ use text::line;
 pub struct SubmitRunResult {
     pub engine: EngineRecord,
     pub written: usize,
-}
-
-// The refusal's number, 0 if the call was not refused.
-fn number_of(answer: Answer) -> u32
-    ensures { result ≡ refusal_number_of answer }
-{
-    match answer {
-        Answer::Refused(number) => number,
-        Answer::Done => 0,
-        Answer::Opened(_) => 0,
-        Answer::Accepted(_) => 0,
-        Answer::Ready(_) => 0,
-        Answer::Missing(_) => 0,
-    }
 }
 
 // Submits a record and, if it is accepted, runs it: by the slow engine, or by the fast one.
@@ -41,7 +26,7 @@ fn submit_and_run(
     client: u32,
     batch: &[u8],
     line: &mut [u8],
-    slow: bool,
+    renderer: Renderer,
 ) -> SubmitRunResult
     requires { 128 ≤ length line.old }
     ensures { SubmitRunContract (entry_line (record { client = client; batch = batch.now }) (mk_state engine ring.old memory.old))
@@ -49,21 +34,16 @@ fn submit_and_run(
         line.old result ring.new memory.new line.new }
 {
     let submitted = submission::submit(engine, ring, client, batch);
-    let answer = submitted.answer;
-    let waiting = submitted.engine;
-    let number = number_of(answer);
-    if number != 0 {
+    if let Err(refusal) = submitted.answer {
         return SubmitRunResult {
-            engine: waiting,
-            written: lines::record_lines::refusal_line(line, client, number),
+            engine: submitted.engine,
+            written: lines::record_lines::refusal_line(line, client, refusal.number()),
         };
     }
-    let ran = run::run_by(waiting, ring, memory, slow);
-    let outcome = ran.outcome;
-    let after = ran.engine;
+    let ran = run::run_by(submitted.engine, ring, memory, renderer);
     SubmitRunResult {
-        engine: after,
-        written: lines::record_lines::outcome_line(line, client, outcome),
+        engine: ran.engine,
+        written: lines::record_lines::outcome_line(line, client, ran.outcome),
     }
 }
 
@@ -76,7 +56,7 @@ pub fn serve_record(
     ring: &mut [u8],
     memory: &mut [u8],
     line: &mut [u8],
-    slow: bool,
+    renderer: Renderer,
 ) -> SubmitRunResult
     requires { Lies edition (OneRecord end) (length held.now) × (128 ≤ length line.old) }
     ensures { SubmitRunContract (record_line edition (entry_in held.now end) (mk_state engine ring.old memory.old))
@@ -97,6 +77,6 @@ pub fn serve_record(
         held[4] as u32,
         &held[start..end],
         line,
-        slow,
+        renderer,
     )
 }

@@ -5,5 +5,9 @@
 use records::Edition;
 
 fn main(rt: HostRuntime) {
-    replay_io::programs::print_lines(&rt, Edition::Second, b"usage: replay2 [--slow] [FILE]\n");
+    let _came = replay_io::programs::print_lines(
+        &rt,
+        Edition::Second,
+        b"usage: replay2 [--slow] [FILE]\n",
+    );
 }

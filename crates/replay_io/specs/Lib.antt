@@ -1,2 +1,4 @@
 -- Words that the programs' arguments may be.
 pub mod Arguments
+-- a file under way
+pub mod Reading

@@ -5,101 +5,59 @@
 
 pub mod programs;
 
-ghost use Rattle.claims.specs.Engine.{State};
-ghost use Rattle.records.specs.declared.Edition.{Edition};
-ghost use Rattle.replay_pieces.specs.Reached.{Reached, Replayed};
+ghost use Rattle.replay_pieces.specs.Reached.{Replayed};
+ghost use Rattle.replay_io.specs.Reading.{Leads, stays, goes_on};
 
-use command::Opened;
+use command::{Failed, Feed, Opened};
 use records::Edition;
+use renderer::Renderer;
 use replay::Replay;
-use replay_pieces::Progress;
 use replay_pieces::gather::LINE;
 use std::io::Read;
 use std::rt::{Env, Files};
 
-// Reads once, and feeds what came.
-fn read_some(
-    rt: &(impl Print + Eprint),
-    file: &mut impl Read,
-    name: &[u8],
+// A file that is replayed: where it stands, what it is replayed in, and how many bytes were handed to the system to write (modulo 2 to the
+// 64th). The longest record of either edition has room in `held`.
+#[derive(Drop)]
+struct Reading<'a> {
     replay: Replay,
-    held: &mut [u8],
-    ring: &mut [u8],
-    memory: &mut [u8],
+    held: [u8; 32777],
+    ring: [u8; 32768],
+    memory: &'a mut [u8],
     handed: u64,
+    // Kept (no plainer): whether lines are shown is a yes or no; an enum would say it in other words.
     shows: bool,
-    slow: bool,
-) -> Progress
-    ensures { (edition : Edition) (engine : State) → Reached edition engine shows handed replay held.old ring.old memory.old
-        → Reached edition engine shows result.handed result.replay held.new ring.new memory.new }
-{
-    let mut piece = command::large_buffer();
-    let got = command::read_piece(rt, file, name, &mut piece);
-    if got.count == 0 {
-        return Progress {
-            replay,
-            handed,
-            more: false,
-            ok: got.ok,
-        };
-    }
-    replay_pieces::feed_piece(
-        rt,
-        replay,
-        held,
-        ring,
-        memory,
-        &piece[..got.count],
-        handed,
-        shows,
-        slow,
-    )
+    renderer: Renderer,
 }
 
-// A proved loop has to end, and nothing says that a file does. So the turns are counted down, from a number that no run uses up.
-fn read_all(
-    rt: &(impl Print + Eprint),
-    file: &mut impl Read,
-    name: &[u8],
-    replay: Replay,
-    held: &mut [u8],
-    ring: &mut [u8],
-    memory: &mut [u8],
-    shows: bool,
-    slow: bool,
-) -> Progress
-    ensures { (edition : Edition) (engine : State) → Reached edition engine shows 0 replay held.old ring.old memory.old
-        → Reached edition engine shows result.handed result.replay held.new ring.new memory.new }
-{
-    let mut progress = Progress {
-        replay,
-        handed: 0,
-        more: true,
-        ok: true,
-    };
-    let mut turns = u64::MAX;
-    let mut more = true;
-    while turns > 0 && more {
-        let so_far = progress.replay;
-        let handed = progress.handed;
-        progress = read_some(
-            rt, file, name, so_far, held, ring, memory, handed, shows, slow,
+impl<R: Print + Eprint> Feed<R> for Reading<'_> {
+    ghost Reaches = { Leads };
+
+    ghost reflexive = { stays };
+
+    ghost transitive = { goes_on };
+
+    fn feed(&mut self, rt: &R, piece: &[u8]) -> Result<(), Failed> {
+        let fed = replay_pieces::feed_piece(
+            rt,
+            self.replay,
+            &mut self.held,
+            &mut self.ring,
+            self.memory,
+            piece,
+            self.handed,
+            self.shows,
+            self.renderer,
         );
-        more = progress.more;
-        turns -= 1;
+        self.replay = fed.replay;
+        self.handed = fed.handed;
+        fed.outcome
     }
-    progress
-}
-
-// What a replay came to: how many bytes were handed to the system to write (modulo 2 to the 64th), and whether nothing failed.
-#[derive(Clone, Copy)]
-pub struct Replaying {
-    pub handed: u64,
-    pub ok: bool,
 }
 
 // Replays what a file holds, to its end, in memory, which is to be 65,536 bytes. Shows the lines or not, by the slow engine
-// or by the fast one. What failed is reported on standard error.
+// or by the fast one. What failed is reported on standard error. Answers how many bytes were handed to the system to write (modulo 2 to the
+// 64th).
 pub fn replay_from(
     rt: &(impl Print + Eprint),
     edition: Edition,
@@ -107,30 +65,24 @@ pub fn replay_from(
     name: &[u8],
     memory: &mut [u8],
     shows: bool,
-    slow: bool,
-) -> Replaying
-    ensures { Replayed edition memory.old shows result.handed result.ok memory.new }
+    renderer: Renderer,
+) -> Result<u64, Failed>
+    ensures { Replayed edition memory.old shows result memory.new }
 {
-    // The longest record of either edition has room.
-    let mut held = [0u8; 32777];
-    let mut ring = [0u8; 32768];
-    let start = replay::start(edition);
-    let done = read_all(
-        rt, file, name, start, &mut held, &mut ring, memory, shows, slow,
-    );
-    let replay = done.replay;
-    if !done.ok {
-        return Replaying {
-            handed: done.handed,
-            ok: false,
-        };
-    }
+    let mut reading = Reading {
+        replay: replay::start(edition),
+        held: [0u8; 32777],
+        ring: [0u8; 32768],
+        memory,
+        handed: 0,
+        shows,
+        renderer,
+    };
+    command::read_all(rt, file, name, &mut reading)?;
     let mut line = [0u8; LINE];
-    let last = replay_pieces::finish(rt, replay, &mut line, shows);
-    Replaying {
-        handed: std::num::wrapping_add_u64(done.handed, last.size as u64),
-        ok: last.ok,
-    }
+    let last = replay_pieces::finish(rt, reading.replay, &mut line, shows);
+    last.outcome?;
+    Ok(reading.handed.wrapping_add(last.size as u64))
 }
 
 // The same, of the file that an argument of the program names.
@@ -140,17 +92,11 @@ pub fn replay_argument(
     index: usize,
     memory: &mut [u8],
     shows: bool,
-    slow: bool,
-) -> Replaying
-    ensures { Replayed edition memory.old shows result.handed result.ok memory.new }
+    renderer: Renderer,
+) -> Result<u64, Failed>
+    ensures { Replayed edition memory.old shows result memory.new }
 {
     let mut path = command::buffer();
-    let Opened { file, length } = command::open_argument(rt, index, &mut path);
-    let Some(mut file) = file else {
-        return Replaying {
-            handed: 0,
-            ok: false,
-        };
-    };
-    replay_from(rt, edition, &mut file, &path[..length], memory, shows, slow)
+    let Opened { mut file, path } = command::open_argument(rt, index, &mut path)?;
+    replay_from(rt, edition, &mut file, path, memory, shows, renderer)
 }

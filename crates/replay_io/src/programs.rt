@@ -1,11 +1,12 @@
 // What the programs that replay a file by either engine share: whether their arguments ask for the slow one; and what the two that print lines share, the
 // memory that a file is replayed in.
-ghost use Rattle.std.specs.Prelude.{◌≡◌, ◌≤◌, true, if◌then◌else◌};
+ghost use Rattle.std.specs.Prelude.{◌≡◌, ◌≤◌, true};
 ghost use Rattle.replay_pieces.specs.Reached.{ReplayedInZeros};
-ghost use Rattle.replay_io.specs.Arguments.{slow_word};
+ghost use Rattle.replay_io.specs.Arguments.{slow_word, file_argument};
 
-use crate::Replaying;
+use command::Failed;
 use records::Edition;
+use renderer::Renderer;
 use std::io::Input;
 use std::rt::{Env, Files};
 
@@ -19,59 +20,24 @@ fn is_slow(text: &[u8]) -> bool
 // Which engine the arguments ask for, and which of them comes after that: the file's, where there is one.
 #[derive(Clone, Copy)]
 pub struct Choice {
-    pub slow: bool,
+    pub renderer: Renderer,
     pub file: usize,
 }
 
 // What the first argument asks for. One that is missing or too long for the buffer counts as empty.
 pub fn asked(rt: &impl Env) -> Choice
-    ensures { (result.file ≡ (if result.slow then 2 else 1)) × (result.file ≤ 2) }
+    ensures { (result.file ≡ file_argument result.renderer) × (result.file ≤ 2) }
 {
     let mut text = command::buffer();
-    let n = command::argument(rt, 1, &mut text);
-    if is_slow(&text[..n]) {
+    if is_slow(command::argument(rt, 1, &mut text)) {
         return Choice {
-            slow: true,
+            renderer: Renderer::Slow,
             file: 2,
         };
     }
     Choice {
-        slow: false,
+        renderer: Renderer::Fast,
         file: 1,
-    }
-}
-
-// Replays standard input, or the file that an argument names, in 65,536 zero bytes. With neither, `usage` is reported on standard error.
-fn replay_one(
-    rt: &(impl Files + Env + Input + Print + Eprint),
-    edition: Edition,
-    is_input: bool,
-    is_file: bool,
-    index: usize,
-    slow: bool,
-    usage: &[u8],
-) -> Replaying
-    ensures { ReplayedInZeros edition true result.handed result.ok }
-{
-    let mut memory = [0u8; 65536];
-    if is_input {
-        return crate::replay_from(
-            rt,
-            edition,
-            &mut rt.reader(),
-            b"standard input",
-            &mut memory,
-            true,
-            slow,
-        );
-    }
-    if is_file {
-        return crate::replay_argument(rt, edition, index, &mut memory, true, slow);
-    }
-    command::complain(rt, usage, b"");
-    Replaying {
-        handed: 0,
-        ok: false,
     }
 }
 
@@ -81,19 +47,27 @@ pub fn print_lines(
     rt: &(impl Files + Env + Input + Print + Eprint),
     edition: Edition,
     usage: &[u8],
-) -> Replaying
-    ensures { ReplayedInZeros edition true result.handed result.ok }
+) -> Result<u64, Failed>
+    ensures { ReplayedInZeros edition true result }
 {
+    let Choice { renderer, file } = asked(rt);
     let count = command::argument_count(rt);
-    let choice = asked(rt);
-    let file = choice.file;
-    replay_one(
-        rt,
-        edition,
-        count == file,
-        count == file + 1,
-        file,
-        choice.slow,
-        usage,
-    )
+    let mut memory = [0u8; 65536];
+    if count == file {
+        let name = b"standard input";
+        return crate::replay_from(
+            rt,
+            edition,
+            &mut rt.reader(),
+            name,
+            &mut memory,
+            true,
+            renderer,
+        );
+    }
+    if count == file + 1 {
+        return crate::replay_argument(rt, edition, file, &mut memory, true, renderer);
+    }
+    command::complain(rt, usage, b"");
+    Err(Failed)
 }

@@ -1,5 +1,5 @@
 -- Laws of lines gathered in one buffer: one call of feed more.
-use Rattle.std.proofs.Common.{◌≡◌, ℕ, ◌+◌, ◌-◌, ◌≤◌, List, [], ◌++◌, length, take, drop, sym, refl, ap, ◌∙◌, subst, append_assoc, append-nil, arith, length-drop, length-take-le, take_all, take_at, take-add, drop_at}
+use Rattle.std.proofs.Common.{◌≡◌, ℕ, ◌+◌, ◌-◌, ◌≤◌, List, ◌++◌, length, take, drop, sym, refl, ap, ◌∙◌, subst, append_assoc, append-nil, arith, length-drop, length-take-le, take_all, take_at, take-add, drop_at}
 use lib.Seq.{take-append-le}
 use borrow.Rule.Slice.PartMut.{mid_of, put_mid}
 use Rattle.claims.specs.Engine.{State}

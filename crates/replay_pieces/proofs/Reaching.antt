@@ -1,6 +1,7 @@
 -- Laws of what is reached: from the start, by some lines gathered, and what it leaves in memory and hands over.
-use Rattle.std.proofs.Common.{◌≡◌, ℕ, ◌+◌, ◌-◌, ◌%◌, ◌^◌, ◌<◌, ◌≤◌, Bool, true, false, cond, ◌&&◌, ltb, leb, List, [], ◌++◌, length, take, sym, refl, ap, ◌∙◌, subst, ⊎_elim, true≢false, append_assoc, append-nil, arith, length-append, length-take-le, take_all, lt-ltb, le-leb}
-use Rattle.word.proofs.Tests.{split}
+use Rattle.std.proofs.Common.{◌≡◌, ℕ, ◌+◌, ◌-◌, ◌%◌, ◌^◌, ◌≤◌, Bool, true, false, cond, leb, List, [], ◌++◌, length, take, sym, refl, ap, ◌∙◌, subst, true≢false, append_assoc, append-nil, arith, length-append, length-take-le, le-leb}
+use Rattle.std.specs.Prelude.{Result, Ok, Err}
+use Rattle.command.specs.declared.Failed.{Failed}
 use borrow.Rule.Slice.PartMut.{mid_of}
 use Rattle.claims.specs.Engine.{State}
 use Rattle.records.specs.declared.Edition.{Edition}
@@ -75,15 +76,10 @@ feeding_more edition engine seen text piece shows used r handed held ring memory
     }
 
 -- something failed: no more can be said
-pub piece_failed : (edition : Edition) (engine : State) (seen text piece : List ℕ) (shows : Bool) (used : ℕ) (r : Replay) (handed : ℕ) (held ring memory : List ℕ)
-    → Feeding edition engine seen text piece shows used r handed held ring memory → PieceFed edition engine seen text piece shows r handed false held ring memory
-piece_failed edition engine seen text piece shows used r handed held ring memory G =
+pub piece_failed : (failed : Failed) (edition : Edition) (engine : State) (seen text piece : List ℕ) (shows : Bool) (used : ℕ) (r : Replay) (handed : ℕ) (held ring memory : List ℕ)
+    → Feeding edition engine seen text piece shows used r handed held ring memory → PieceFed edition engine seen text piece shows r handed (Err failed) held ring memory
+piece_failed failed edition engine seen text piece shows used r handed held ring memory G =
     record { used = used; more = G.more; of = G.of; stands = G.stands; counts = G.counts; whole = λ e. absurd (true≢false (sym e)) }
-
--- nothing failed, so all of it was used
-pub all-used : (used n : ℕ) (ok : Bool) → (ltb used n && ok) ≡ false → used ≤ n → ok ≡ true → used ≡ n
-all-used used n ok e few is =
-    ⊎_elim (λ (less : used < n). absurd (true≢false (sym is ∙ (rw (lt-ltb used n less) at e)))) (λ (le : n ≤ used). omega arith) (split used n)
 
 -- ---- some pieces
 
@@ -94,9 +90,9 @@ reached-start edition shows r held ring memory is room =
     rw is (record { seen = []; text = []; of = refl; stands = (chunking edition).starts held ring memory (omega (arith, room-between edition)); counts = handed-none shows })
 
 pub piece-reached : (edition : Edition) (engine : State) (shows : Bool) (handed : ℕ) (r : Replay) (held ring memory : List ℕ) (R : Reached edition engine shows handed r held ring memory)
-    → (piece : List ℕ) (r' : Replay) (handed' : ℕ) (ok : Bool) (held' ring' memory' : List ℕ)
-    → PieceFed r.edition engine R.seen R.text piece shows r' handed' ok held' ring' memory' → Reached edition engine shows handed' r' held' ring' memory'
-piece-reached edition engine shows handed r held ring memory R piece r' handed' ok held' ring' memory' P =
+    → (piece : List ℕ) (r' : Replay) (handed' : ℕ) (outcome : Result Unit Failed) (held' ring' memory' : List ℕ)
+    → PieceFed r.edition engine R.seen R.text piece shows r' handed' outcome held' ring' memory' → Reached edition engine shows handed' r' held' ring' memory'
+piece-reached edition engine shows handed r held ring memory R piece r' handed' outcome held' ring' memory' P =
     record { seen = R.seen ++ take P.used piece; text = R.text ++ P.more; of = P.of ∙ R.of; stands = P.stands; counts = P.counts }
 
 -- ---- the end
@@ -115,13 +111,13 @@ module _ (edition : Edition) (ring memory : List ℕ) (shows : Bool) (handed : �
       (ap (λ (s : State). s.memory) ((chunking edition).left (engine_opened edition ring memory) R.seen R.text r held ring' memory' R.stands))
 
   -- something failed before the end
-  pub replayed-some : Replayed edition memory shows handed false memory'
-  replayed-some = record { ring = ring; seen = R.seen; left = left; lines = λ e. absurd (true≢false (sym e)) }
+  pub replayed-some : (failed : Failed) → Replayed edition memory shows (Err failed) memory'
+  replayed-some failed = record { ring = ring; seen = R.seen; left = left; lines = tt }
 
   -- read to the end
-  pub replayed-all : (ok : Bool) (line : List ℕ) (size : ℕ) (line' : List ℕ) → 128 ≤ length line → length line' ≡ length line → Finishes r shows line size line'
-      → Replayed edition memory shows ((handed + size) % 2 ^ 64) ok memory'
-  replayed-all ok line size line' room same F =
+  pub replayed-all : (line : List ℕ) (size : ℕ) (line' : List ℕ) → 128 ≤ length line → length line' ≡ length line → Finishes r shows line size line'
+      → Replayed edition memory shows (Ok ((handed + size) % 2 ^ 64)) memory'
+  replayed-all line size line' room same F =
       let whole : R.text ++ take F.written line' ≡ lines_from edition (engine_opened edition ring memory) (records edition R.seen) =
       subst (λ (e : Edition). R.text ++ take F.written line' ≡ lines_from e (engine_opened edition ring memory) (records e R.seen)) R.of
       ((chunking edition).finishes (engine_opened edition ring memory) R.seen R.text r held ring' memory' line F.written line' R.stands room F.prints) in
@@ -130,13 +126,13 @@ module _ (edition : Edition) (ring memory : List ℕ) (shows : Bool) (handed : �
         ring = ring;
         seen = R.seen;
         left = left;
-        lines = λ e. handed-more shows R.text (take F.written line') handed size F.written R.counts F.counts (sym few) ∙ ap (handed_of shows) whole;
+        lines = handed-more shows R.text (take F.written line') handed size F.written R.counts F.counts (sym few) ∙ ap (handed_of shows) whole;
       }
 
 -- nothing read
-pub unread : (edition : Edition) (memory : List ℕ) (shows : Bool) → Replayed edition memory shows 0 false memory
+pub unread : (edition : Edition) (memory : List ℕ) (shows : Bool) (failed : Failed) → Replayed edition memory shows (Err failed) memory
 unfolding submit_and_run_all records scored
-unread First memory shows =
-    record { ring = []; seen = []; left = ap (λ (s : State). s.memory) (started_state First [] memory); lines = λ e. absurd (true≢false (sym e)) }
-unread Second memory shows =
-    record { ring = []; seen = []; left = ap (λ (s : State). s.memory) (started_state Second [] memory); lines = λ e. absurd (true≢false (sym e)) }
+unread First memory shows failed =
+    record { ring = []; seen = []; left = ap (λ (s : State). s.memory) (started_state First [] memory); lines = tt }
+unread Second memory shows failed =
+    record { ring = []; seen = []; left = ap (λ (s : State). s.memory) (started_state Second [] memory); lines = tt }

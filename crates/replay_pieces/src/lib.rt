@@ -8,30 +8,34 @@ ghost use Rattle.claims.specs.Engine.{State};
 ghost use Rattle.replay.specs.Chunking.{Stands};
 ghost use Rattle.replay_pieces.specs.Reached.{handed_of, PieceFed, Finishes};
 
-use command::Printed;
+use command::{Failed, Printed};
+use renderer::Renderer;
 use replay::Replay;
 
-// A replay under way: how many bytes were handed to the system to write (modulo 2 to the 64th), whether there may be more to read,
-// and whether nothing has failed so far.
+// A replay under way: how many bytes were handed to the system to write (modulo 2 to the 64th), and whether nothing has failed so far.
 #[derive(Clone, Copy)]
 pub struct Progress {
     pub replay: Replay,
     pub handed: u64,
-    pub more: bool,
-    pub ok: bool,
+    pub outcome: Result<(), Failed>,
 }
 
 // Prints the first n bytes of `out`, if lines are to be shown.
+// Kept (no plainer): whether lines are shown is a yes or no; an enum would say it in other words.
 fn show(rt: &(impl Print + Eprint), shows: bool, out: &[u8], n: usize) -> Printed
     ensures { result.size ≡ (if shows then (if nat_le n (length out.now) then n else 0) else 0) }
 {
     if shows {
         return command::print(rt, out, n);
     }
-    Printed { size: 0, ok: true }
+    Printed {
+        size: 0,
+        outcome: Ok(()),
+    }
 }
 
 // Feeds a piece of the file, whole. It fails where nothing is used, which happens only where a buffer is too short.
+// Kept (no plainer): a turn takes as many bytes as it used, so neither a range nor chunks of one size fit.
 pub fn feed_piece(
     rt: &(impl Print + Eprint),
     replay: Replay,
@@ -41,17 +45,16 @@ pub fn feed_piece(
     piece: &[u8],
     handed: u64,
     shows: bool,
-    slow: bool,
+    renderer: Renderer,
 ) -> Progress
     ensures { (engine : State) (seen text : List ℕ) → Stands engine seen text replay held.old ring.old memory.old
-        → handed ≡ handed_of shows text → PieceFed replay.edition engine seen text piece.now shows result.replay result.handed result.ok held.new ring.new memory.new }
+        → handed ≡ handed_of shows text → PieceFed replay.edition engine seen text piece.now shows result.replay result.handed result.outcome held.new ring.new memory.new }
 {
     let mut out = command::large_buffer();
     let mut now = replay;
     let mut used = 0;
     let mut sum = handed;
-    let mut ok = true;
-    while (used < piece.len()) & ok {
+    while used < piece.len() {
         let fed = crate::gather::feed_lines(
             now,
             held,
@@ -59,25 +62,24 @@ pub fn feed_piece(
             memory,
             &piece[used..],
             &mut out,
-            slow,
+            renderer,
         );
-        let after = fed.replay;
-        let count = fed.used;
-        now = after;
-        used += count;
+        now = fed.replay;
+        used += fed.used;
         let printed = show(rt, shows, &out, fed.written);
-        sum = std::num::wrapping_add_u64(sum, printed.size as u64);
-        ok = printed.ok;
-        if count == 0 {
-            ok = false;
-            break;
+        sum = sum.wrapping_add(printed.size as u64);
+        if fed.used == 0 || printed.outcome.is_err() {
+            return Progress {
+                replay: now,
+                handed: sum,
+                outcome: Err(Failed),
+            };
         }
     }
     Progress {
         replay: now,
         handed: sum,
-        more: ok,
-        ok,
+        outcome: Ok(()),
     }
 }
 

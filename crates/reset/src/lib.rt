@@ -4,7 +4,7 @@
 ghost use Rattle.std.specs.Prelude.{◌≡◌};
 ghost use Rattle.reset.specs.Reset.{blending_at_reset, reset_number_of, is_rule_number, rule_of};
 
-#[derive(Clone, Copy)]
+#[derive(Clone, Copy, Debug, PartialEq, Eq)]
 pub enum ResetRule {
     // blending off, the factors those of NONE
     Unblended,
@@ -27,31 +27,32 @@ impl ResetRule {
         }
     }
 
-    // The rule's own number.
-    pub fn number(self) -> u32
-        ensures { result ≡ reset_number_of self }
-    {
-        match self {
-            ResetRule::Unblended => 0,
-            ResetRule::SrcOver => 1,
-        }
-    }
-
     // Whether a number is a rule's own.
     pub fn is_number(number: u32) -> bool
         ensures { result ≡ is_rule_number number }
     {
-        (number == 0) | (number == 1)
+        matches!(number, 0 | 1)
     }
+}
 
-    // The rule of any number: 0 is the old one, every other the new one.
-    pub fn from_number(number: u32) -> Self
-        ensures { result ≡ rule_of number }
-    {
+// The rule of any number: 0 is the old one, every other the new one.
+impl From<u32> for ResetRule {
+    ghost from_gives = { λ number rule. rule ≡ rule_of number };
+
+    fn from(number: u32) -> Self {
         if number == 0 {
             ResetRule::Unblended
         } else {
             ResetRule::SrcOver
         }
+    }
+}
+
+// The rule's own number.
+impl From<ResetRule> for u32 {
+    ghost from_gives = { λ rule number. number ≡ reset_number_of rule };
+
+    fn from(rule: ResetRule) -> u32 {
+        rule as u32
     }
 }

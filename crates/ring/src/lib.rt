@@ -7,13 +7,6 @@ ghost use Rattle.ring.specs.Segment.{LiesInRing, segment, batch_words};
 ghost use Rattle.ring.specs.Read.{read_word};
 ghost use Rattle.ring.specs.Copied.{copied_in};
 
-// A word of a batch, or that the batch has no such word.
-#[derive(Clone, Copy)]
-pub enum Read {
-    Word(u32),
-    OutOfRange,
-}
-
 // Whether a batch of `size` bytes at `offset` lies in a ring of `ring_size` bytes.
 fn lies_in(ring_size: usize, offset: usize, size: usize) -> bool
     ensures { result ≡ ltb offset ring_size && leb size ring_size }
@@ -34,41 +27,6 @@ fn byte_at(ring: &[u8], offset: usize, i: usize) -> u8
     }
 }
 
-// How many words a batch has: none if it does not lie in the ring.
-pub fn word_count(ring: &[u8], offset: usize, size: usize) -> usize
-    ensures { result ≡ length (batch_words ring.now offset size) }
-{
-    if lies_in(ring.len(), offset, size) {
-        size / 4
-    } else {
-        0
-    }
-}
-
-// Word k of a batch, for any ring and numbers.
-fn word_at(ring: &[u8], offset: usize, size: usize, k: usize) -> Read
-    ensures { result ≡ read_word (batch_words ring.now offset size) k }
-{
-    if word_count(ring, offset, size) <= k {
-        return Read::OutOfRange;
-    }
-    let i = 4 * k;
-    let tail = ring.len() - offset;
-    if i + 4 <= tail {
-        return Read::Word(word::read_le32(ring, offset + i));
-    }
-    if tail <= i {
-        return Read::Word(word::read_le32(ring, i - tail));
-    }
-    // The ring's end lies inside the word.
-    Read::Word(word::join_le32(
-        byte_at(ring, offset, i),
-        byte_at(ring, offset, i + 1),
-        byte_at(ring, offset, i + 2),
-        byte_at(ring, offset, i + 3),
-    ))
-}
-
 // One batch in the ring, shown as a sequence of words, whether or not it wraps.
 #[derive(Clone, Copy)]
 pub struct Reader<'a> {
@@ -77,45 +35,59 @@ pub struct Reader<'a> {
     pub size: usize,
 }
 
-pub fn reader_of<'a>(ring: &'a [u8], offset: usize, size: usize) -> Reader<'a>
-    ensures { (result.ring ≡ ring.entry) × (result.offset ≡ offset) × (result.size ≡ size) }
-{
-    Reader { ring, offset, size }
-}
+impl<'a> Reader<'a> {
+    pub fn new(ring: &'a [u8], offset: usize, size: usize) -> Reader<'a>
+        ensures { (result.ring ≡ ring.entry) × (result.offset ≡ offset) × (result.size ≡ size) }
+    {
+        Reader { ring, offset, size }
+    }
 
-// Word k of the reader's batch.
-pub fn word_of<'a>(reader: Reader<'a>, k: usize) -> Read
-    ensures { result ≡ read_word (batch_words reader.entry.ring.now reader.entry.offset reader.entry.size) k }
-{
-    word_at(reader.ring, reader.offset, reader.size, k)
-}
+    // How many words the batch has: none if it does not lie in the ring.
+    pub fn word_count(self) -> usize
+        ensures { result ≡ length (batch_words self.entry.ring.now self.entry.offset self.entry.size) }
+    {
+        if lies_in(self.ring.len(), self.offset, self.size) {
+            self.size / 4
+        } else {
+            0
+        }
+    }
 
-// Word k of a batch, through a reader. Its parameters are plain, so that who calls it needs no proof by hand.
-pub fn read_word(ring: &[u8], offset: usize, size: usize, k: usize) -> Read
-    ensures { result ≡ read_word (batch_words ring.now offset size) k }
-{
-    word_of(reader_of(ring, offset, size), k)
-}
-
-// Copies bytes over as many others.
-fn copy(to: &mut [u8], from: &[u8])
-    requires { length to.old ≡ length from.now }
-    ensures { to.new ≡ from.now }
-{
-    let mut i = 0;
-    while i < to.len() {
-        to[i] = from[i];
-        i += 1;
+    // Word k of the batch, for any ring and numbers.
+    pub fn word(self, k: usize) -> Option<u32>
+        ensures { result ≡ read_word (batch_words self.entry.ring.now self.entry.offset self.entry.size) k }
+    {
+        if self.word_count() <= k {
+            return None;
+        }
+        let ring = self.ring;
+        let offset = self.offset;
+        let i = 4 * k;
+        let tail = ring.len() - offset;
+        if i + 4 <= tail {
+            return Some(word::read_le32(ring, offset + i));
+        }
+        if tail <= i {
+            return Some(word::read_le32(ring, i - tail));
+        }
+        // The ring's end lies inside the word.
+        Some(word::join_le32(
+            byte_at(ring, offset, i),
+            byte_at(ring, offset, i + 1),
+            byte_at(ring, offset, i + 2),
+            byte_at(ring, offset, i + 3),
+        ))
     }
 }
 
 // Copies bytes over those from `at` on.
+#[tactic(auto, using(crate::proofs::Copied::put_spliced))]
 fn copy_at(to: &mut [u8], at: usize, from: &[u8])
     requires { at + length from.now ≤ length to.old }
     ensures { to.new ≡ spliced at from.now to.old }
 {
     let end = at + from.len();
-    copy(&mut to[at..end], from);
+    to[at..end].copy_from_slice(from);
 }
 
 // Copies a batch into the ring from `offset` on, in one part or two.

@@ -34,14 +34,7 @@ pub fn origin(s: Surface, transform: Transform, x: usize, y: usize) -> usize
 pub fn is_identity_row(transform: Transform) -> bool
     ensures { result ≡ is_identity_row transform.rotation transform.flip }
 {
-    let flip = transform.flip;
-    let rotation = transform.rotation;
-    match rotation {
-        Rotation::Rotate0 => !flip.horizontal,
-        Rotation::Rotate90 => false,
-        Rotation::Rotate180 => false,
-        Rotation::Rotate270 => false,
-    }
+    matches!(transform.rotation, Rotation::Rotate0) && !transform.flip.horizontal
 }
 
 // Where the first pixel of output row y lies, where output rows are rows of the source: what `origin` answers, without a choice by rotation in each row.
@@ -59,8 +52,7 @@ pub fn is_reversed(transform: Transform) -> bool
     ensures { result ≡ is_reversed transform.rotation transform.flip }
 {
     let flip = transform.flip;
-    let rotation = transform.rotation;
-    match rotation {
+    match transform.rotation {
         Rotation::Rotate0 => flip.horizontal,
         Rotation::Rotate90 => !flip.vertical,
         Rotation::Rotate180 => !flip.horizontal,
@@ -72,12 +64,9 @@ pub fn is_reversed(transform: Transform) -> bool
 pub fn pixel_stride(s: Surface, rotation: Rotation) -> usize
     ensures { result ≡ pixel_stride rotation s }
 {
-    let format = s.format;
     match rotation {
-        Rotation::Rotate0 => format.bytes(),
-        Rotation::Rotate90 => s.stride as usize,
-        Rotation::Rotate180 => format.bytes(),
-        Rotation::Rotate270 => s.stride as usize,
+        Rotation::Rotate0 | Rotation::Rotate180 => s.format.bytes(),
+        Rotation::Rotate90 | Rotation::Rotate270 => s.stride as usize,
     }
 }
 

@@ -4,6 +4,7 @@ ghost use Rattle.run.specs.Same.{SameRun};
 
 use engine::RunResult;
 use engine_record::EngineRecord;
+use renderer::Renderer;
 
 // What either engine answered.
 #[derive(Clone, Copy)]
@@ -16,7 +17,7 @@ pub struct Both {
 pub fn run_both(engine: EngineRecord, ring: &[u8], memory: &mut [u8], copy: &mut [u8]) -> Both
     ensures { memory.old ≡ copy.old → SameRun result memory.new copy.new }
 {
-    let fast = crate::run_by(engine, ring, memory, false);
-    let slow = crate::run_by(engine, ring, copy, true);
+    let fast = crate::run_by(engine, ring, memory, Renderer::Fast);
+    let slow = crate::run_by(engine, ring, copy, Renderer::Slow);
     Both { fast, slow }
 }

@@ -4,7 +4,6 @@
 ghost use Rattle.std.specs.Prelude.{◌≡◌, ◌*◌, ◌≤◌, length};
 ghost use Rattle.row_pixels.specs.Row.{colour_in, HoldsColours, row_stored, RowIsWide};
 ghost use Rattle.row_pixels.specs.Composite.{composite};
-ghost use Rattle.plan.specs.Plan.{plan_of};
 
 use composite::mix_row;
 use convert::rgb565::to_565;
@@ -22,12 +21,8 @@ fn fill_pixels(row: &mut [u8], width: usize, format: Format, c: Colour)
     ensures { row.new ≡ row_stored format (λ x. c) row.old }
 {
     let bytes = format.bytes();
-    let mut x = 0;
-    let mut at = 0;
-    while x < width {
-        store(row, at, format, c);
-        at = at + bytes;
-        x += 1;
+    for x in 0..width {
+        store(row, x * bytes, format, c);
     }
 }
 
@@ -37,18 +32,9 @@ pub fn fill_row(row: &mut [u8], width: usize, format: Format, c: Colour)
     ensures { row.new ≡ row_stored format (λ x. c) row.old }
 {
     match format {
-        Format::Argb8888 => {
-            fill_words(row, width, word_of(c));
-            return;
-        }
-        Format::Rgb888 => {
-            fill_pixels(row, width, Format::Rgb888, c);
-            return;
-        }
-        Format::Rgb565 => {
-            fill_pixels(row, width, Format::Rgb565, c);
-            return;
-        }
+        Format::Argb8888 => fill_words(row, width, word_of(c)),
+        Format::Rgb888 => fill_pixels(row, width, Format::Rgb888, c),
+        Format::Rgb565 => fill_pixels(row, width, Format::Rgb565, c),
     }
 }
 
@@ -58,18 +44,9 @@ pub fn blit_row(row: &mut [u8], width: usize, format: Format, source: &[u8])
     ensures { row.new ≡ row_stored format (λ x. colour_in source.now x) row.old }
 {
     match format {
-        Format::Argb8888 => {
-            copy(row, source);
-            return;
-        }
-        Format::Rgb888 => {
-            to_888(row, source, width);
-            return;
-        }
-        Format::Rgb565 => {
-            to_565(row, source, width);
-            return;
-        }
+        Format::Argb8888 => copy(row, source),
+        Format::Rgb888 => to_888(row, source, width),
+        Format::Rgb565 => to_565(row, source, width),
     }
 }
 
@@ -83,7 +60,7 @@ pub fn blend_row(
     source_alpha: Alpha,
     destination_alpha: Alpha,
 )
-    requires { (width * 4 ≤ length source.old) × (width * 4 ≤ length destination.old) × (plan ≡ plan_of blending.rule) }
+    requires { (width * 4 ≤ length source.old) × (width * 4 ≤ length destination.old) × (plan.rule ≡ blending.rule) }
     ensures { HoldsColours destination.new width (λ x. composite blending source_alpha destination_alpha (colour_in source.old x) (colour_in destination.old x)) }
 {
     let n = width * 4;

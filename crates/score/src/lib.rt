@@ -14,6 +14,7 @@ pub fn is_score(score: f32) -> bool
 }
 
 // The greatest whole number to 255 that isn't above a product; 0 if none is. The search is by halves: `end` and what follows it are above.
+// Kept (promise): docs/PROMISES.md and `not_above` compare the product with whole numbers as f32; std's casts compare none.
 fn greatest(product: f32) -> u8
     ensures { result ≡ greatest_to 255 product }
 {

@@ -1,10 +1,12 @@
 -- Each call of the engine is the call of crate claims, and its words are those of the answer.
 use mathlib.Core.Path.{◌≡◌, refl, sym, ◌∙◌}
 use mathlib.Core.List.{List}
-use Prim.Native.Nat.{ℕ, ◌≤◌}
+use Prim.Native.Nat.{ℕ}
 use lib.ListN.{length}
 use Rattle.engine_record.specs.declared.EngineRecord.{EngineRecord}
 use Rattle.engine_record.specs.Staged.{missing_bytes}
+use Rattle.std.proofs.Common.{Result}
+use Rattle.queue.specs.declared.Refusal.{Refusal}
 use Rattle.queue.specs.declared.Answer.{Answer as QueueAnswer}
 use Rattle.queue.specs.declared.Reply.{Reply}
 use Rattle.queue.specs.Answers.{refusal_number_of, value_of}
@@ -16,9 +18,6 @@ use Rattle.engine.specs.Close.{close_memory}
 use Rattle.engine.specs.Answers.{short_answer, piece_words, run_words}
 use Rattle.model.specs.Calls.{opens, submit, run, pending, begin, piece, cancel, close, opened, accepted, ready}
 use Rattle.claims.specs.Engine.{mk_state, perform_call}
-use Rattle.script.specs.declared.Request.{Request}
-use Rattle.script.specs.declared.Request.TheVariants.{Submit, Piece}
-use Rattle.script.specs.Parsing.{BatchInBounds}
 use Rattle.script_player.specs.Answers.{plain_words}
 use Rattle.script_player.specs.CallsMatch.{CallMatches}
 use Rattle.script_player.proofs.Numbers.{value-words, silent-words, two-words, run-words}
@@ -34,13 +33,6 @@ accepted-words v = refl
 ready_words : (v : ℕ) → plain_words (ready v) ≡ short_answer 0 v
 unfolding plain_words
 ready_words v = refl
-
--- where a batch lies
-pub batch_lies : (size : ℕ) (q : Request) (client from to : ℕ) → q ≡ Submit client from to → BatchInBounds size q → (from ≤ to) × (to ≤ size)
-batch_lies size q client from to e l = rw e at l
-
-pub piece_lies : (size : ℕ) (q : Request) (client from to : ℕ) → q ≡ Piece client from to → BatchInBounds size q → (from ≤ to) × (to ≤ size)
-piece_lies size q client from to e l = rw e at l
 
 module _ (engine : EngineRecord) (ring memory : List ℕ) where
   pub open_plays : (start size : ℕ) (r : Reply) (words : List ℕ) (after : EngineRecord) → r ≡ open_result engine (record { start = start; length = size }) →
@@ -88,7 +80,7 @@ module _ (engine : EngineRecord) (ring memory : List ℕ) where
   unfolding perform_call close_result
   close_plays client r words memory' after e q w g = record { answer = w ∙ rw e (sym (silent-words (first_refusal (close_table engine (length memory) client)))); state = rw (g, e, q) }
 
-  pub pending_plays : (client : ℕ) (a : QueueAnswer) (words : List ℕ) → a ≡ pending_answer engine client → words ≡ short_answer (refusal_number_of a) (value_of a) →
+  pub pending_plays : (client : ℕ) (a : Result QueueAnswer Refusal) (words : List ℕ) → a ≡ pending_answer engine client → words ≡ short_answer (refusal_number_of a) (value_of a) →
       CallMatches (pending client) (mk_state engine ring memory) (mk_state engine ring memory) words
   unfolding perform_call
   pending_plays client a words e w = record { answer = rw (← e) (w ∙ sym (value-words a ready ready_words)); state = refl }

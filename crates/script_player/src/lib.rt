@@ -1,22 +1,18 @@
 // A list of calls, given as bytes, played on the engine; the answers are written as bytes.
 #![tactic(auto)]
 
-mod answer;
-
 ghost use Rattle.std.specs.Prelude.{◌≡◌, ◌/◌, length};
-ghost use Rattle.queue.specs.Answers.{refusal_number_of, value_of};
-ghost use Rattle.engine.specs.Answers.{short_answer, piece_words, run_words, OutcomeFitsWords};
 ghost use Rattle.claims.specs.Engine.{mk_state};
 ghost use Rattle.script.specs.Script.{decode};
-ghost use Rattle.script.specs.Parsing.{call_of, BatchInBounds};
+ghost use Rattle.script.specs.Parsing.{call_of};
 ghost use Rattle.script_player.specs.CallsMatch.{CallMatches, CallsMatch};
 ghost use Rattle.script_player.specs.Played.{ScriptResult};
 
-use engine::RunResult;
+use engine::answers::{answer_words, piece_words};
 use engine_record::EngineRecord;
-use queue::Reply;
+use queue::{Answer, Refusal, Reply};
 use reset::ResetRule;
-use script::{ParseResult, Request};
+use script::Request;
 
 // An answer's words, and the record after the call.
 #[derive(Clone, Copy)]
@@ -25,74 +21,61 @@ struct CallOutput {
     engine: EngineRecord,
 }
 
-fn step_of(reply: Reply) -> CallOutput
-    ensures { (result.words ≡ short_answer (refusal_number_of reply.answer) (value_of reply.answer)) × (result.engine ≡ reply.engine) }
+// What a call other than run answered, in words that are made of its answer.
+fn step_of<F: FnOnce(Result<Answer, Refusal>) -> [u32; 6]>(reply: Reply, words_of: F) -> CallOutput
+    requires { F.IsAlwaysCallable words_of }
+    ensures { (F.post words_of reply.answer result.words) × (result.engine ≡ reply.engine) }
 {
-    let answer = reply.answer;
-    let engine = reply.engine;
     CallOutput {
-        words: engine::answers::answer_words(answer),
-        engine: engine,
+        words: words_of(reply.answer),
+        engine: reply.engine,
     }
 }
 
-fn step_of_piece(reply: Reply) -> CallOutput
-    ensures { (result.words ≡ piece_words reply.answer) × (result.engine ≡ reply.engine) }
-{
-    let answer = reply.answer;
-    let engine = reply.engine;
-    CallOutput {
-        words: engine::answers::piece_words(answer),
-        engine: engine,
-    }
-}
-
-fn step_of_run(ran: RunResult) -> CallOutput
-    requires { OutcomeFitsWords ran.outcome }
-    ensures { (result.words ≡ run_words ran.outcome) × (result.engine ≡ ran.engine) }
-{
-    let outcome = ran.outcome;
-    let engine = ran.engine;
-    CallOutput {
-        words: engine::answers::run_words(outcome),
-        engine: engine,
-    }
-}
-
-// One call, taken from the script's bytes that begin with it.
+// One call.
 fn play_call(
     engine: EngineRecord,
     ring: &mut [u8],
     memory: &mut [u8],
-    bytes: &[u8],
-    request: Request,
+    request: Request<'_>,
 ) -> CallOutput
-    requires { BatchInBounds (length bytes.now) request }
-    ensures { CallMatches (call_of bytes.now request) (mk_state engine ring.old memory.old)
+    ensures { CallMatches (call_of request.entry) (mk_state engine ring.old memory.old)
         (mk_state result.engine ring.new memory.new) result.words }
 {
     match request {
-        Request::Open(start, size) => step_of(queue::clients::open(engine, start, size)),
-        Request::Submit(client, from, to) => step_of(submission::submit(
-            engine,
-            ring,
-            client,
-            &bytes[from..to],
-        )),
-        Request::Run => step_of_run(run::run(engine, ring, memory)),
+        Request::Open(start, size) => {
+            step_of(queue::clients::open(engine, start, size), answer_words)
+        }
+        Request::Submit(client, batch) => {
+            step_of(
+                submission::submit(engine, ring, client, batch),
+                answer_words,
+            )
+        }
+        Request::Run => {
+            let ran = run::run(engine, ring, memory);
+            CallOutput {
+                words: engine::answers::run_words(ran.outcome),
+                engine: ran.engine,
+            }
+        }
         Request::Pending(client) => CallOutput {
-            words: engine::answers::answer_words(queue::clients::pending(engine, client)),
+            words: answer_words(queue::clients::pending(engine, client)),
             engine: engine,
         },
-        Request::Begin(client, total) => step_of(submission::begin(engine, ring, client, total)),
-        Request::Piece(client, from, to) => step_of_piece(submission::piece(
-            engine,
-            ring,
-            client,
-            &bytes[from..to],
-        )),
-        Request::Cancel(client) => step_of(submission::cancel(engine, client)),
-        Request::Close(client) => step_of(dequeue::closing::close(engine, memory, client)),
+        Request::Begin(client, total) => {
+            step_of(submission::begin(engine, ring, client, total), answer_words)
+        }
+        Request::Piece(client, piece) => {
+            step_of(submission::piece(engine, ring, client, piece), piece_words)
+        }
+        Request::Cancel(client) => step_of(submission::cancel(engine, client), answer_words),
+        Request::Close(client) => {
+            step_of(
+                dequeue::closing::close(engine, memory, client),
+                answer_words,
+            )
+        }
     }
 }
 
@@ -108,28 +91,21 @@ fn play_calls(
         answers.old result ring.new memory.new answers.new }
 {
     let mut engine = start;
-    let mut left = answers.len() / 24;
-    let mut at: usize = 0;
-    let mut count: usize = 0;
-    while 0 < left {
-        let bytes = &script[at..];
-        match script::next_call(bytes) {
-            ParseResult::End => {
-                return count;
-            }
-            ParseResult::Call(found) => {
-                let request = found.request;
-                let step = play_call(engine, ring, memory, bytes, request);
-                let words = step.words;
-                answer::write_answer(answers, count, words);
+    let mut rest = script;
+    let room = answers.len() / 24;
+    for k in 0..room {
+        let count = 24 * k;
+        match script::next_call(rest) {
+            None => return count,
+            Some(found) => {
+                let step = play_call(engine, ring, memory, found.request);
+                word::write_le_words(answers, count, &step.words);
                 engine = step.engine;
-                at = at + found.size;
-                count = count + 24;
-                left = left - 1;
+                rest = found.rest;
             }
         }
     }
-    count
+    24 * room
 }
 
 // Sets up an engine and plays a script on the lent ring and memory. Returns how many bytes of answers it wrote.
@@ -151,12 +127,10 @@ pub fn play(
         return 0;
     }
     let reply = queue::clients::set_up(ring_length, memory_length, common_length, reset);
-    let engine = reply.engine;
-    let answered = reply.answer;
-    let words = engine::answers::answer_words(answered);
-    answer::write_answer(answers, 0, words);
+    let words = answer_words(reply.answer);
+    word::write_le_words(answers, 0, &words);
     if words[0] != 0 {
         return 24;
     }
-    24 + play_calls(engine, ring, memory, script, &mut answers[24..])
+    24 + play_calls(reply.engine, ring, memory, script, &mut answers[24..])
 }

@@ -1,8 +1,6 @@
 // What a row that one colour is laid over needs to know of the colour, found once.
-ghost use Rattle.std.specs.Prelude.{◌≡◌};
-ghost use Rattle.solid_rows.specs.Solid.{solid_of, half_of, Prepared};
+ghost use Rattle.std.specs.Prelude.{◌≡◌, ◌+◌, ◌-◌, ◌*◌, ◌<◌};
 
-use lanes::wide;
 use pixel::Colour;
 
 // A colour, the complements of its channels, two in a word, and that of its alpha.
@@ -11,23 +9,23 @@ pub struct Solid {
     pub colour: Colour,
     pub low: u16,
     pub high: u16,
-    pub rest: u16,
+    pub rest: u8,
+    pub ghost alpha_fits: { colour.alpha < 256 },
+    pub ghost red_fits: { colour.red < 256 },
+    pub ghost green_fits: { colour.green < 256 },
+    pub ghost blue_fits: { colour.blue < 256 },
+    pub ghost low_is: { low ≡ 65535 - (colour.blue + colour.green * 256) },
+    pub ghost high_is: { high ≡ 65535 - (colour.red + colour.alpha * 256) },
+    pub ghost rest_is: { rest ≡ 255 - colour.alpha },
 }
 
 pub fn solid_of(c: Colour) -> Solid
-    ensures { (result ≡ solid_of c) × Prepared result }
+    ensures { result.colour ≡ c }
 {
     Solid {
         colour: c,
-        low: 65535 - (wide(c.blue) + wide(c.green) * 256),
-        high: 65535 - (wide(c.red) + wide(c.alpha) * 256),
-        rest: 255 - wide(c.alpha),
+        low: 65535 - (c.blue as u16 + c.green as u16 * 256),
+        high: 65535 - (c.red as u16 + c.alpha as u16 * 256),
+        rest: 255 - c.alpha,
     }
-}
-
-// The word with which word k of a row is blended.
-pub fn half(s: Solid, k: usize) -> u16
-    ensures { result ≡ half_of s k }
-{
-    if k % 2 == 0 { s.low } else { s.high }
 }

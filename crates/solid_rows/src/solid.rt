@@ -7,29 +7,33 @@ ghost use Rattle.pixel.specs.declared.format.Format.TheVariants.{Argb8888};
 ghost use Rattle.lanes.specs.Lanes.{Done};
 ghost use Rattle.plan.specs.Blend.{duo};
 ghost use Rattle.row_pixels.specs.Row.{colour_in, row_stored, RowIsWide};
-ghost use Rattle.solid_rows.specs.Solid.{half_of, Prepared};
+ghost use Rattle.solid_rows.specs.Solid.{half_of};
 ghost use Rattle.solid_rows.specs.Over.{over_at};
 
-use crate::colour::{Solid, half};
+use crate::colour::Solid;
 use lanes::{get2, load8, put2, step, store8};
 use plan::channels::over_two;
 
+// The word with which word k of a row is blended.
+fn half(s: Solid, k: usize) -> u16
+    ensures { result ≡ half_of s k }
+{
+    if k % 2 == 0 { s.low } else { s.high }
+}
+
 fn solid8(d: &[u16; 8], s: Solid) -> [u16; 8]
-    requires { Prepared s }
     ensures { (k : ℕ) → k < 8 → get_or result k 0 ≡ duo (65535 - half_of s k) 255 (get_or d.now k 0) s.rest }
 {
     let mut r = [0u16; 8];
-    let mut i = 0;
-    while i < 8 {
+    for i in 0..8 {
         r[i] = over_two(half(s, i), d[i], s.rest);
-        i += 1;
     }
     r
 }
 
 // Four pixels, at o.
 fn solid_four(d: &mut [u8], o: usize, s: Solid)
-    requires { ((o + 16 ≤ length d.old) × (o % 4 ≡ 0)) × Prepared s }
+    requires { (o + 16 ≤ length d.old) × (o % 4 ≡ 0) }
     ensures { Done (over_at s.colour d.old) d.old d.new o (o + 16) }
 {
     let b = load8(d, o);
@@ -37,8 +41,9 @@ fn solid_four(d: &mut [u8], o: usize, s: Solid)
     store8(d, o, &r);
 }
 
+// Kept (speed): 0.62 ns a pixel for a tint; by a `for` over the blocks, 1.36, since the compiler then takes the loop as a whole.
 fn solid_fours(d: &mut [u8], n: usize, s: Solid)
-    requires { ((n ≤ length d.old) × (n % 16 ≡ 0)) × Prepared s }
+    requires { (n ≤ length d.old) × (n % 16 ≡ 0) }
     ensures { Done (over_at s.colour d.old) d.old d.new 0 n }
 {
     let mut o = 0;
@@ -50,30 +55,28 @@ fn solid_fours(d: &mut [u8], n: usize, s: Solid)
 
 // Two channels, at o.
 fn solid_word(d: &mut [u8], o: usize, s: Solid)
-    requires { ((o + 2 ≤ length d.old) × (o % 2 ≡ 0)) × Prepared s }
+    requires { (o + 2 ≤ length d.old) × (o % 2 ≡ 0) }
     ensures { Done (over_at s.colour d.old) d.old d.new o (o + 2) }
 {
     put2(d, o, over_two(half(s, o / 2), get2(d, o), s.rest));
 }
 
+// The words from the a-th to the n-th.
 fn solid_words(d: &mut [u8], a: usize, n: usize, s: Solid)
-    requires { ((a ≤ n) × (n ≤ length d.old)) × (((a % 2 ≡ 0) × (n % 2 ≡ 0)) × Prepared s) }
-    ensures { Done (over_at s.colour d.old) d.old d.new a n }
+    requires { (a ≤ n) × (n * 2 ≤ length d.old) }
+    ensures { Done (over_at s.colour d.old) d.old d.new (a * 2) (n * 2) }
 {
-    let mut o = a;
-    while o < n {
-        solid_word(d, o, s);
-        o += 2;
+    for k in a..n {
+        solid_word(d, k * 2, s);
     }
 }
 
 // The row d of whole pixels with the colour over it, four pixels at a time, and what is left of it two channels at a time.
 pub fn solid_row(d: &mut [u8], width: usize, s: Solid)
-    requires { RowIsWide d.old width Argb8888 × Prepared s }
+    requires { RowIsWide d.old width Argb8888 }
     ensures { d.new ≡ row_stored Argb8888 (λ x. blended (blend_mode_factors SrcOver) s.colour (colour_in d.old x)) d.old }
 {
-    let e = width * 4;
-    let n = e / 16 * 16;
-    solid_fours(d, n, s);
-    solid_words(d, n, e, s);
+    let count = width / 4;
+    solid_fours(d, count * 16, s);
+    solid_words(d, count * 8, width * 2, s);
 }

@@ -6,11 +6,12 @@ ghost use Rattle.engine_record.specs.Clients.{client_at};
 ghost use Rattle.engine_record.specs.Queue.{write_offset};
 ghost use Rattle.engine_record.specs.Staged.{missing_bytes};
 ghost use Rattle.engine_record.specs.Checking.{checked_of};
+ghost use Rattle.queue.specs.Answers.{refusal_number_of};
 ghost use Rattle.queue.specs.Refusals.{first_refusal, piece_table, cancel_table};
 ghost use Rattle.queue.specs.Calls.{new_batch, with_batch, submit_result, submit_ring, with_staged, with_received, begin_result, piece_result, piece_ring, cancel_result};
 
-use engine_record::{Batch, Checked, EngineRecord, Staged};
-use queue::{Answer, Reply};
+use engine_record::{Batch, Counted, EngineRecord, Staged};
+use queue::{Answer, Refusal, Reply};
 
 // Puts a batch into the ring and the queue. What it says is not looked at.
 pub fn submit(engine: EngineRecord, ring: &mut [u8], client: u32, batch: &[u8]) -> Reply
@@ -19,15 +20,14 @@ pub fn submit(engine: EngineRecord, ring: &mut [u8], client: u32, batch: &[u8]) 
 {
     let size = batch.len();
     let found = engine_record::validity::check(engine);
-    let refusal = queue::enqueue::submit_refusal(engine, found, ring.len(), client, size);
-    if refusal != 0 {
+    if let Err(refused) = queue::enqueue::submit_refusal(engine, found, ring.len(), client, size) {
         return Reply {
-            answer: Answer::Refused(refusal),
+            answer: Err(refused),
             engine: engine,
         };
     }
     let next = engine.next_ticket;
-    let offset = queue::enqueue::write_offset(engine, found.bytes);
+    let offset = queue::enqueue::write_offset(engine, found.unwrap().bytes);
     ring::copy_in(ring, offset, batch);
     let added = Batch {
         client: client,
@@ -35,12 +35,10 @@ pub fn submit(engine: EngineRecord, ring: &mut [u8], client: u32, batch: &[u8]) 
         offset: offset,
         length: size,
     };
-    let slots = engine.slots;
-    let at = engine_record::slot_table::lowest_free(slots);
-    let after = queue::enqueue::with_batch(engine, at, added);
+    let at = engine_record::slot_table::lowest_free(&engine.slots).unwrap();
     Reply {
-        answer: Answer::Accepted(next),
-        engine: after,
+        answer: Ok(Answer::Accepted(next)),
+        engine: queue::enqueue::with_batch(engine, at, added),
     }
 }
 
@@ -58,15 +56,13 @@ pub fn begin(engine: EngineRecord, ring: &[u8], client: u32, total: usize) -> Re
     ensures { result ≡ begin_result engine (length ring.now) client total }
 {
     let found = engine_record::validity::check(engine);
-    let number = queue::enqueue::submit_refusal(engine, found, ring.len(), client, total);
-    if number != 0 {
+    if let Err(refusal) = queue::enqueue::submit_refusal(engine, found, ring.len(), client, total) {
         return Reply {
-            answer: Answer::Refused(number),
+            answer: Err(refusal),
             engine: engine,
         };
     }
-    let slots = engine.slots;
-    let at = engine_record::slot_table::lowest_free(slots);
+    let at = engine_record::slot_table::lowest_free(&engine.slots).unwrap();
     let staged = Staged {
         client: client,
         slot: at,
@@ -74,7 +70,7 @@ pub fn begin(engine: EngineRecord, ring: &[u8], client: u32, total: usize) -> Re
         received: 0,
     };
     Reply {
-        answer: Answer::Done,
+        answer: Ok(Answer::Done),
         engine: with_staged(engine, staged),
     }
 }
@@ -83,37 +79,30 @@ pub fn begin(engine: EngineRecord, ring: &[u8], client: u32, total: usize) -> Re
 fn missing_bytes(staged: Staged) -> usize
     ensures { result ≡ missing_bytes staged }
 {
-    let total = staged.total;
-    let received = staged.received;
-    if received < total {
-        total - received
-    } else {
-        0
-    }
+    staged.total.saturating_sub(staged.received)
 }
 
+#[tactic(auto, using(engine_record::proofs::Checking::checked_none), unfolding(queue::specs::Refusals::first_refusal))]
 fn piece_refusal(
     engine: EngineRecord,
-    found: Checked,
+    found: Option<Counted>,
     given: usize,
     client: u32,
     size: usize,
-) -> u32
+) -> Result<(), Refusal>
     requires { found ≡ checked_of engine }
-    ensures { result ≡ first_refusal (piece_table engine given client size) }
+    ensures { refusal_number_of result ≡ first_refusal (piece_table engine given client size) }
 {
     let setup = engine.setup;
     let staged = engine.staged;
-    let own = queue::staged_by(staged, client);
-    let left = missing_bytes(staged);
-    let no14 = queue::first_refusal(!own | (left < size), 14, 0);
-    let no5 = queue::first_refusal(
+    queue::refuse(found.is_none(), Refusal::BadRecord)?;
+    queue::refuse(!(given == setup.ring), Refusal::OtherLength)?;
+    queue::refuse(
         !engine_record::client_table::is_open(engine, client),
-        5,
-        no14,
-    );
-    let no10 = queue::first_refusal(!(given == setup.ring), 10, no5);
-    queue::first_refusal(!found.valid, 11, no10)
+        Refusal::NotOpen,
+    )?;
+    let own = queue::staged_by(staged, client);
+    queue::refuse(!own | (missing_bytes(staged) < size), Refusal::NotStaged)
 }
 
 // The record with the staged batch ready at its offset.
@@ -147,60 +136,60 @@ pub fn piece(engine: EngineRecord, ring: &mut [u8], client: u32, piece: &[u8]) -
 {
     let size = piece.len();
     let found = engine_record::validity::check(engine);
-    let number = piece_refusal(engine, found, ring.len(), client, size);
-    if number != 0 {
+    if let Err(refusal) = piece_refusal(engine, found, ring.len(), client, size) {
         return Reply {
-            answer: Answer::Refused(number),
+            answer: Err(refusal),
             engine: engine,
         };
     }
     let setup = engine.setup;
     let staged = engine.staged;
-    let offset = queue::enqueue::write_offset(engine, found.bytes);
+    let offset = queue::enqueue::write_offset(engine, found.unwrap().bytes);
     let at = engine_record::wrap_offset(setup.ring, offset + staged.received);
     ring::copy_in(ring, at, piece);
     let received = staged.received + size;
     let total = staged.total;
     if received == total {
         return Reply {
-            answer: Answer::Accepted(engine.next_ticket),
+            answer: Ok(Answer::Accepted(engine.next_ticket)),
             engine: finished(engine, offset),
         };
     }
-    let left = total - received;
-    let missing = left as u32;
+    let missing = (total - received) as u32;
     Reply {
-        answer: Answer::Missing(missing),
+        answer: Ok(Answer::Missing(missing)),
         engine: continued(engine, received),
     }
 }
 
-fn cancel_refusal(engine: EngineRecord, client: u32) -> u32
-    ensures { result ≡ first_refusal (cancel_table engine client) }
+#[tactic(auto, unfolding(queue::specs::Refusals::first_refusal))]
+fn cancel_refusal(engine: EngineRecord, client: u32) -> Result<(), Refusal>
+    ensures { refusal_number_of result ≡ first_refusal (cancel_table engine client) }
 {
-    let staged = engine.staged;
-    let no14 = queue::first_refusal(!queue::staged_by(staged, client), 14, 0);
-    let no5 = queue::first_refusal(
+    queue::refuse(
+        !engine_record::validity::is_valid(engine),
+        Refusal::BadRecord,
+    )?;
+    queue::refuse(
         !engine_record::client_table::is_open(engine, client),
-        5,
-        no14,
-    );
-    queue::first_refusal(!engine_record::validity::is_valid(engine), 11, no5)
+        Refusal::NotOpen,
+    )?;
+    let staged = engine.staged;
+    queue::refuse(!queue::staged_by(staged, client), Refusal::NotStaged)
 }
 
 // Drops the staged batch. Bytes that were copied stay in the ring.
 pub fn cancel(engine: EngineRecord, client: u32) -> Reply
     ensures { result ≡ cancel_result engine client }
 {
-    let number = cancel_refusal(engine, client);
-    if number != 0 {
+    if let Err(refusal) = cancel_refusal(engine, client) {
         return Reply {
-            answer: Answer::Refused(number),
+            answer: Err(refusal),
             engine: engine,
         };
     }
     Reply {
-        answer: Answer::Done,
+        answer: Ok(Answer::Done),
         engine: with_staged(engine, engine_record::no_staged()),
     }
 }

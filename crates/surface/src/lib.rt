@@ -15,7 +15,7 @@ use pixel::{Colour, Format};
 use range::Range;
 
 // A rectangle of pixels in memory. The fields are as wide as their registers, so that no sum below wraps in 64 bits.
-#[derive(Clone, Copy)]
+#[derive(Clone, Copy, Debug, PartialEq, Eq)]
 pub struct Surface {
     pub address: u32,
     pub stride: u16,
@@ -49,11 +49,12 @@ impl Surface {
     }
 
     // All bytes from the first row's first to the last row's last.
+    #[tactic(auto, unfolding(crate::specs::Surface::span))]
     pub fn span(self) -> Range
         ensures { result ≡ span self }
     {
         let start = self.address as usize;
-        let last = if self.height == 0 { 0 } else { self.height - 1 };
+        let last = self.height.saturating_sub(1);
         Range {
             start,
             end: self.row_start(last) + self.row_length(),
@@ -81,10 +82,8 @@ fn number_of(bytes: &[u8]) -> u32
     ensures { result ≡ little_endian bytes.now }
 {
     let mut sum: u32 = 0;
-    let mut k = bytes.len();
-    while 0 < k {
-        k -= 1;
-        sum = sum * 256 + bytes[k] as u32;
+    for k in (0..bytes.len()).rev() {
+        sum = sum * 256 + u32::from(bytes[k]);
     }
     sum
 }
@@ -94,11 +93,9 @@ fn write_le_number(bytes: &mut [u8], number: u32)
     ensures { bytes.new ≡ mapi (λ k old. byte_of number k) bytes.old }
 {
     let mut rest = number;
-    let mut k = 0;
-    while k < bytes.len() {
-        bytes[k] = (rest % 256) as u8;
+    for byte in bytes {
+        *byte = (rest % 256) as u8;
         rest = rest / 256;
-        k += 1;
     }
 }
 
@@ -112,6 +109,7 @@ pub fn fetch(memory: &[u8], at: usize, format: Format) -> u32
 }
 
 // The colour of the pixel at an address.
+#[tactic(auto, unfolding(crate::specs::Drawn::load_pixel))]
 pub fn load(memory: &[u8], at: usize, format: Format) -> Colour
     requires { at + bytes_per_pixel format ≤ length memory.now }
     ensures { result ≡ load_pixel format memory.now at }

@@ -82,17 +82,13 @@ where
         },
         unread: 0,
     };
-    let mut refusal = 0;
-    let mut index = first;
-    while index < count && refusal == 0 {
+    for index in first..count {
         sum = add_next(rt, lots, index, sum);
-        let answer = sum.answer;
-        refusal = answer.refusal;
-        index += 1;
         // a file that was too much is not done
-        if refusal == 0 {
-            show_progress(rt, index - first, count - first);
+        if sum.answer.refusal != 0 {
+            return sum;
         }
+        show_progress(rt, index + 1 - first, count - first);
     }
     sum
 }

@@ -24,8 +24,7 @@ fn start(rt: &(impl Files + Env + Eprint), from: bool) -> Reading {
 // Whether the first argument is this word. One that is missing or too long for the buffer counts as empty.
 fn asks(rt: &impl Env, word: &[u8]) -> bool {
     let mut text = command::buffer();
-    let n = command::argument(rt, 1, &mut text);
-    check::same(&text[..n], word)
+    check::same(command::argument(rt, 1, &mut text), word)
 }
 
 // The first argument that names a file to be added.

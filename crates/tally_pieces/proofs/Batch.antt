@@ -1,4 +1,4 @@
--- One batch, a step of the walk at a time.
+-- One batch, a task at a time.
 use mathlib.Core.Path.{◌≡◌, refl, sym, ap, ◌∙◌}
 use mathlib.Core.Bool.{Bool, true, false, cond}
 use mathlib.Core.List.{List, [], ◌∷◌}
@@ -15,11 +15,11 @@ use Rattle.register.specs.declared.task.Task.{Task}
 use Rattle.task_check.specs.declared.fault.Fault.{Fault}
 use Rattle.task_check.specs.declared.task.Bounds.{Bounds}
 use Rattle.task_check.specs.Faults.{fault_number}
-use Rattle.batch.specs.declared.walk.WalkStep.{WalkStep}
-use Rattle.batch.specs.declared.walk.WalkStep.TheVariants.{Task as Next, Faulty as Stop, End}
-use Rattle.batch.specs.Batch.{DecodedBatch, decode_batch}
-use Rattle.batch.specs.Walk.{decode_rest, step_at}
-use Rattle.batch.proofs.Steps.{reads-task, reads-fault, reads_end}
+use Rattle.std.specs.Prelude.{Option, Some, None}
+use Rattle.batch.specs.declared.verdict.FaultAt.{FaultAt}
+use Rattle.batch.specs.declared.walk.BatchTasks.{BatchTasks}
+use Rattle.batch.specs.Batch.{DecodedBatch, stop_with, decode_batch}
+use Rattle.batch.specs.Walk.{ending_of, reading_left, GivesTask}
 use Rattle.claims.specs.BatchSemantics.{bounds_of}
 use Rattle.records.specs.declared.Edition.{Edition}
 use Rattle.records.specs.declared.Edition.TheVariants.{First, Second}
@@ -28,50 +28,52 @@ use Rattle.records.specs.Reading.{batch_start, entry_in}
 use Rattle.records.specs.Editions.{reset_rule_of, score_holds, submission, score_in}
 use Rattle.records.proofs.editions.Records.{score_in_lem, submission_in}
 use Rattle.lines.specs.Answered.{record_refusal, replay_window}
-use Rattle.lines.specs.declared.acceptance.Submitted.{Submitted}
-use Rattle.lines.specs.declared.acceptance.Submitted.TheVariants.{Refused, Within}
+use Rattle.std.specs.Prelude.{Option, Some, None}
 use Rattle.lines.specs.Submitted.{submitted_as}
 use Rattle.lines.proofs.acceptance.Taken.{taken_facts, whole_words}
 use Rattle.tally.specs.declared.Running.{Running}
 use Rattle.tally.specs.Running.{plus, task_plus, tasks_plus, rest_plus, ran_plus, unscored_plus, submitted_plus, record_plus}
 
-module _ (bounds : Bounds) (ws : List ℕ) (b : Bank) (k : ℕ) (s : WalkStep) (is : s ≡ step_at bounds ws b k) (so_far : Running) where
-  pub rest-task : (t : Task) (b' : Bank) (k' : ℕ) → s ≡ Next t b' k' → rest_plus (decode_rest bounds ws b k) so_far ≡ rest_plus (decode_rest bounds ws b' k') (task_plus t so_far)
+module _ (old new : BatchTasks) (so_far : Running) where
+  -- a task is given
+  pub one_given : (t : Task) → GivesTask old (Some t) new → rest_plus (reading_left old) so_far ≡ rest_plus (reading_left new) (task_plus t so_far)
   unfolding tasks_plus
-  rest-task t b' k' e = ap (λ (r : DecodedBatch). rest_plus r so_far) (reads-task bounds ws b k s is t b' k' e)
+  one_given t g = ap (λ (r : DecodedBatch). rest_plus r so_far) g.0
 
-  pub rest-fault : (f : Fault) (place : ℕ) (b' : Bank) → s ≡ Stop f place b' → rest_plus (decode_rest bounds ws b k) so_far ≡ plus (fault_number f - 16) 1 so_far
+  -- none is left, and there was no fault
+  pub none_given : GivesTask old None new → new.fault ≡ None → rest_plus (reading_left old) so_far ≡ so_far
   unfolding tasks_plus
-  rest-fault f place b' e = ap (λ (r : DecodedBatch). rest_plus r so_far) (reads-fault bounds ws b k s is f place b' e)
+  none_given g e = ap (λ (r : DecodedBatch). rest_plus r so_far) (g.0 ∙ ap (λ (f : Option FaultAt). stop_with new.bank (ending_of f)) e)
 
-  pub rest_end : s ≡ End → rest_plus (decode_rest bounds ws b k) so_far ≡ so_far
+  -- or there was
+  pub fault_given : GivesTask old None new → (found : FaultAt) → new.fault ≡ Some found → rest_plus (reading_left old) so_far ≡ plus (fault_number found.fault - 16) 1 so_far
   unfolding tasks_plus
-  rest_end e = ap (λ (r : DecodedBatch). rest_plus r so_far) (reads_end bounds ws b k s is e)
+  fault_given g found e = ap (λ (r : DecodedBatch). rest_plus r so_far) (g.0 ∙ ap (λ (f : Option FaultAt). stop_with new.bank (ending_of f)) e)
 
 -- ---- a record that is submitted
 
-module _ (edition : Edition) (entry : Entry) (s : Running) (r : Submitted) (is : r ≡ submitted_as entry) where
-  pub submitted-refused : r ≡ Refused → s ≡ submitted_plus edition entry s
+module _ (edition : Edition) (entry : Entry) (s : Running) (r : Option Bounds) (is : r ≡ submitted_as entry) where
+  pub submitted-refused : r ≡ None → s ≡ submitted_plus edition entry s
   submitted-refused e = go (eqb (record_refusal entry) 0) refl
     where
       go : (b : Bool) → eqb (record_refusal entry) 0 ≡ b → s ≡ submitted_plus edition entry s
       go true took =
-          let wrong : Within (bounds_of (replay_window entry.client) 16384) ≡ Refused = sym (is ∙ rw took) ∙ e in
+          let wrong : Some (bounds_of (replay_window entry.client) 16384) ≡ None = sym (is ∙ rw took) ∙ e in
           absurd (let z : ◌≡◌ {A = ℕ} 0 1 = cc in omega arith)
       go false took = rw took
 
-  pub submitted-within : (bounds : Bounds) → r ≡ Within bounds → (rule : ResetRule) → rule ≡ reset_rule_of edition → (out : Running)
+  pub submitted-within : (bounds : Bounds) → r ≡ Some bounds → (rule : ResetRule) → rule ≡ reset_rule_of edition → (out : Running)
       → out ≡ ran_plus (decode_batch bounds (reset_bank rule) (batch_words entry.batch 0 (length entry.batch))) s → out ≡ submitted_plus edition entry s
   submitted-within bounds e rule rule-is out out-is = go (eqb (record_refusal entry) 0) refl
     where
       go : (b : Bool) → eqb (record_refusal entry) 0 ≡ b → out ≡ submitted_plus edition entry s
       go true took =
-          let right : Within (bounds_of (replay_window entry.client) 16384) ≡ Within bounds = sym (is ∙ rw took) ∙ e in
+          let right : Some (bounds_of (replay_window entry.client) 16384) ≡ Some bounds = sym (is ∙ rw took) ∙ e in
           let same : bounds ≡ bounds_of (replay_window entry.client) 16384 = cc in
           let ws : batch_words entry.batch 0 (length entry.batch) ≡ words entry.batch = whole_words entry.batch (taken_facts entry.client entry.batch took).1 in
           out-is ∙ rw (took, same, rule-is, ws)
       go false took =
-          let wrong : Refused ≡ Within bounds = sym (is ∙ rw took) ∙ e in
+          let wrong : None ≡ Some bounds = sym (is ∙ rw took) ∙ e in
           absurd (let z : ◌≡◌ {A = ℕ} 0 1 = cc in omega arith)
 
 -- ---- a record that lies in the buffer

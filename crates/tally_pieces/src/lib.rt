@@ -13,12 +13,11 @@ ghost use Rattle.tally.specs.Counts.{edition_of};
 ghost use Rattle.tally.specs.Running.{plus, task_plus, ran_plus, unscored_plus, submitted_plus, record_plus, found_plus};
 ghost use Rattle.tally.specs.Tally.{fed_by, held_by, Stands, TallyFeedContract};
 
-use batch::WalkStep;
-use batch::decode::next_task;
-use lines::acceptance::Submitted;
+use batch::BatchTasks;
 use records::{Edition, Found};
 use register::{Bank, Task};
 use reset::ResetRule;
+use ring::Reader;
 use tally::{FeedResult, Running, Tally};
 use task_check::{Bounds, Fault};
 
@@ -81,24 +80,20 @@ fn add_fault(running: Running, fault: Fault) -> Running
 fn add_batch(running: Running, batch: &[u8], bounds: Bounds, rule: ResetRule) -> Running
     ensures { result ≡ ran_plus (decode_batch bounds (reset_bank rule) (batch_words batch.now 0 (length batch.now))) running }
 {
-    let mut current = Bank::reset(rule);
-    let mut at = 0;
+    let whole = Reader {
+        ring: batch,
+        offset: 0,
+        size: batch.len(),
+    };
+    let mut tasks = BatchTasks::new(whole, bounds, Bank::reset(rule));
     let mut so_far = add(running, 0, 1);
-    loop {
-        match next_task(batch, 0, batch.len(), bounds, current, at) {
-            WalkStep::Task(task, b, next) => {
-                so_far = add_task(so_far, task);
-                current = b;
-                at = next;
-            }
-            // the tasks before a fault are drawn
-            WalkStep::Faulty(fault, _, _) => {
-                return add_fault(so_far, fault);
-            }
-            WalkStep::End => {
-                return so_far;
-            }
-        }
+    while let Some(task) = tasks.next() {
+        so_far = add_task(so_far, task);
+    }
+    // the tasks before a fault are drawn
+    match tasks.fault {
+        None => so_far,
+        Some(found) => add_fault(so_far, found.fault),
     }
 }
 
@@ -108,8 +103,8 @@ fn add_submitted(running: Running, edition: Edition, client: u32, batch: &[u8]) 
 {
     let submitted = lines::acceptance::accept(client, batch);
     match submitted {
-        Submitted::Refused => running,
-        Submitted::Within(bounds) => add_batch(
+        None => running,
+        Some(bounds) => add_batch(
             running,
             batch,
             bounds,
@@ -219,6 +214,7 @@ pub fn feed_piece(tally: Tally, held: &mut [u8], piece: &[u8]) -> Tally
 {
     let mut current = tally;
     let mut used = 0;
+    // Kept (no plainer): a turn takes as many bytes as `feed` used, so no `for` over the piece fits
     while used < piece.len() {
         let fed = feed(current, held, &piece[used..]);
         let after = fed.tally;

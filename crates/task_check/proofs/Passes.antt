@@ -26,13 +26,12 @@ use Rattle.register.specs.Size.{size_of}
 use Rattle.task_check.specs.declared.fault.Fault.{Fault}
 use Rattle.task_check.specs.declared.fault.Fault.TheVariants.{BadSurface, SizeMismatch, OutOfBounds, Overlap}
 use Rattle.task_check.specs.declared.task.Bounds.{Bounds}
-use Rattle.task_check.specs.declared.task.TaskCheck.{TaskCheck}
-use Rattle.task_check.specs.declared.task.TaskCheck.TheVariants.{Valid, Invalid}
+use Rattle.std.specs.Prelude.{Result, Ok, Err, ⊤}
 use Rattle.task_check.specs.Rules.{is_buffer_source, bad_side, bad_sides, bad_stride, bad_source, bad_output, bad_destination, bad_surface, is_unrotated, rotated_fill, rotated_source_size, same_size, size_mismatch, common_of, is_writable_span, is_readable, out_of_bounds, same_format, aliases, output_overlaps, check_task}
 use Rattle.task_check.proofs.Sound.{Sides, Rows, InReach, SoundSource, SoundDestination, Sound}
 
 -- a rule that is not broken, and those after it
-passed : (b : Bool) (f : Fault) (rest : TaskCheck) → cond b (Invalid f) rest ≡ Valid → (b ≡ false) × (rest ≡ Valid)
+passed : (b : Bool) (f : Fault) (rest : Result ⊤ Fault) → cond b (Err f) rest ≡ Ok tt → (b ≡ false) × (rest ≡ Ok tt)
 passed true f rest e = absurd (let z : ◌≡◌ {A = ℕ} 0 1 = cc in omega arith)
 passed false f rest e = (refl, e)
 
@@ -143,7 +142,7 @@ pub record Kept (bounds : Bounds) (t : Task) : Type 0 where
   pub bounded : out_of_bounds bounds t ≡ false
   pub separate : output_overlaps t ≡ false
 
-kept : (bounds : Bounds) (t : Task) → check_task bounds t ≡ Valid → Kept bounds t
+kept : (bounds : Bounds) (t : Task) → check_task bounds t ≡ Ok tt → Kept bounds t
 unfolding check_task
 kept bounds t e =
     let r25 = passed (bad_surface t) BadSurface _ e in
@@ -191,7 +190,7 @@ sound-destination bounds t k on =
     and_last true b c h e = e
     and_last false b c h e = absurd (false≢true h)
 
-pub passes : (bounds : Bounds) (t : Task) → check_task bounds t ≡ Valid → Sound bounds t
+pub passes : (bounds : Bounds) (t : Task) → check_task bounds t ≡ Ok tt → Sound bounds t
 unfolding bad_surface bad_source bad_output size_mismatch out_of_bounds
 passes bounds t e =
     let k = kept bounds t e in

@@ -1,6 +1,6 @@
 -- The rules of a task, faults 25 to 28 (01, "Faults of a taken batch"; 02, requests 3 and 7). In colour mode, and where it is shaded, the source has
 -- no stride, format or span; without blending the destination is not judged. All sums are of numbers that do not wrap.
-use Rattle.std.specs.Prelude.{ℕ, ◌%◌, Bool, true, false, cond, not, ◌&&◌, ◌||◌, eqb, ltb}
+use Rattle.std.specs.Prelude.{ℕ, ◌%◌, Bool, true, false, cond, not, ◌&&◌, ◌||◌, eqb, ltb, Result, Ok, Err, ⊤}
 use Rattle.range.specs.Range.{contained_in}
 use Rattle.range.specs.declared.Range.{Range}
 use Rattle.pixel.specs.Formats.{layout_of}
@@ -18,8 +18,7 @@ use Rattle.register.specs.declared.task.Destination.{Destination}
 use Rattle.register.specs.declared.task.Task.{Task}
 use Rattle.register.specs.Size.{size_of}
 use Rattle.task_check.specs.declared.task.Bounds.{Bounds}
-use Rattle.task_check.specs.declared.task.TaskCheck.{TaskCheck}
-use Rattle.task_check.specs.declared.task.TaskCheck.TheVariants.{Valid, Invalid}
+use Rattle.task_check.specs.declared.fault.Fault.{Fault}
 use Rattle.task_check.specs.declared.fault.Fault.TheVariants.{BadSurface, SizeMismatch, OutOfBounds, Overlap}
 
 -- the source is read from memory
@@ -117,10 +116,10 @@ output_overlaps t =
 
 -- ---- the lowest number first, over all surfaces
 
-unfoldable pub check_task : Bounds → Task → TaskCheck
+unfoldable pub check_task : Bounds → Task → Result ⊤ Fault
 check_task bounds t =
-    cond (bad_surface t) (Invalid BadSurface)
-    (cond (size_mismatch t) (Invalid SizeMismatch)
-    (cond (out_of_bounds bounds t) (Invalid OutOfBounds)
-    (cond (output_overlaps t) (Invalid Overlap)
-    Valid)))
+    cond (bad_surface t) (Err BadSurface)
+    (cond (size_mismatch t) (Err SizeMismatch)
+    (cond (out_of_bounds bounds t) (Err OutOfBounds)
+    (cond (output_overlaps t) (Err Overlap)
+    (Ok tt))))

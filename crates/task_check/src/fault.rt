@@ -4,7 +4,7 @@ ghost use Rattle.task_check.specs.Faults.{fault_number, fault_status, write_faul
 
 use register::WriteFault;
 
-#[derive(Clone, Copy)]
+#[derive(Clone, Copy, Debug, PartialEq, Eq)]
 pub enum Fault {
     ReservedBits,
     GroupLength,
@@ -51,11 +51,13 @@ impl Fault {
             Fault::Overlap => 0x00000002,
         }
     }
+}
 
-    // The fault of a word that is not written.
-    pub fn of_write(f: WriteFault) -> Fault
-        ensures { result ≡ write_fault f }
-    {
+// The fault of a word that is not written.
+impl From<WriteFault> for Fault {
+    ghost from_gives = { λ f r. r ≡ write_fault f };
+
+    fn from(f: WriteFault) -> Fault {
         match f {
             WriteFault::NotWritable => Fault::NotWritable,
             WriteFault::Forbidden => Fault::Forbidden,

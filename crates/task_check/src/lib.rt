@@ -5,4 +5,4 @@ pub mod fault;
 pub mod task;
 
 pub use fault::Fault;
-pub use task::{Bounds, TaskCheck, check_task, same_format};
+pub use task::{Bounds, check_task};

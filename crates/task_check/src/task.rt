@@ -1,13 +1,13 @@
 // The rules of a task. Each test is true where the task breaks the rule.
 ghost use Rattle.std.specs.Prelude.{◌≡◌};
-ghost use Rattle.task_check.specs.Rules.{bad_side, bad_sides, bad_stride, bad_source, bad_output, bad_destination, bad_surface, is_unrotated, rotated_fill, rotated_source_size, same_size, size_mismatch, is_writable_span, is_readable, out_of_bounds, same_format, aliases, output_overlaps, check_task};
+ghost use Rattle.task_check.specs.Rules.{bad_side, bad_sides, bad_stride, bad_source, bad_output, bad_destination, bad_surface, rotated_fill, rotated_source_size, size_mismatch, is_writable_span, is_readable, out_of_bounds, aliases, output_overlaps, check_task};
 ghost use Rattle.register.specs.Size.{size_of};
 
 use crate::fault::Fault;
-use pixel::Format;
 use range::Range;
 use register::{Destination, Source, Task};
 use surface::Surface;
+use surface::overlap::surfaces_overlap;
 use transform::{Rotation, Size};
 
 // What a batch may touch: it draws in its client's window, and may read that and common, the first part of memory.
@@ -17,75 +17,59 @@ pub struct Bounds {
     pub common_length: usize,
 }
 
-// What is wrong with a task.
-#[derive(Clone, Copy)]
-pub enum TaskCheck {
-    Valid,
-    Invalid(Fault),
-}
-
 fn bad_side(side: u16) -> bool
     ensures { result ≡ bad_side side }
 {
     (side == 0) | (4096 < side)
 }
 
+#[tactic(auto, unfolding(crate::specs::Rules::bad_sides))]
 fn bad_sides(s: Surface) -> bool
     ensures { result ≡ bad_sides s }
 {
     bad_side(s.width) | bad_side(s.height)
 }
 
+#[tactic(auto, unfolding(crate::specs::Rules::bad_stride))]
 fn bad_stride(s: Surface) -> bool
     ensures { result ≡ bad_stride s }
 {
     (0 < s.stride % 8) | ((s.stride as usize) < s.row_length())
 }
 
+#[tactic(auto, unfolding(crate::specs::Rules::bad_source))]
 fn bad_source(s: Source) -> bool
     ensures { result ≡ bad_source s }
 {
-    let mode = s.mode;
-    bad_sides(s.surface) | (mode.is_buffer() & bad_stride(s.surface)) | !s.enabled
+    bad_sides(s.surface) | (s.mode.is_buffer() & bad_stride(s.surface)) | !s.enabled
 }
 
+#[tactic(auto, unfolding(crate::specs::Rules::bad_output))]
 fn bad_output(s: Surface) -> bool
     ensures { result ≡ bad_output s }
 {
     bad_sides(s) | bad_stride(s)
 }
 
+#[tactic(auto, unfolding(crate::specs::Rules::bad_destination))]
 fn bad_destination(d: Destination) -> bool
     ensures { result ≡ bad_destination d }
 {
     bad_sides(d.surface) | bad_stride(d.surface) | !d.enabled
 }
 
+#[tactic(auto, unfolding(crate::specs::Rules::bad_surface))]
 fn bad_surface(t: Task) -> bool
     ensures { result ≡ bad_surface t }
 {
     bad_source(t.source) | bad_output(t.output) | (t.blending.on & bad_destination(t.destination))
 }
 
-fn is_unrotated(rotation: Rotation) -> bool
-    ensures { result ≡ is_unrotated rotation }
-{
-    match rotation {
-        Rotation::Rotate0 => true,
-        Rotation::Rotate90 => false,
-        Rotation::Rotate180 => false,
-        Rotation::Rotate270 => false,
-    }
-}
-
 // Only a picture in memory is turned.
 fn rotated_fill(s: Source) -> bool
     ensures { result ≡ rotated_fill s }
 {
-    let mode = s.mode;
-    let transform = s.transform;
-    let rotation = transform.rotation;
-    !mode.is_buffer() & !is_unrotated(rotation)
+    !s.mode.is_buffer() & (s.transform.rotation != Rotation::Rotate0)
 }
 
 fn size_of(s: Surface) -> Size
@@ -100,23 +84,16 @@ fn size_of(s: Surface) -> Size
 fn rotated_source_size(s: Source) -> Size
     ensures { result ≡ rotated_source_size s }
 {
-    let transform = s.transform;
-    let rotation = transform.rotation;
-    size_of(s.surface).rotated(rotation)
+    size_of(s.surface).rotated(s.transform.rotation)
 }
 
-fn same_size(a: Size, b: Size) -> bool
-    ensures { result ≡ same_size a b }
-{
-    (a.width == b.width) & (a.height == b.height)
-}
-
+#[tactic(auto, unfolding(crate::specs::Rules::size_mismatch))]
 fn size_mismatch(t: Task) -> bool
     ensures { result ≡ size_mismatch t }
 {
     rotated_fill(t.source)
-        | !same_size(size_of(t.output), rotated_source_size(t.source))
-        | (t.blending.on & !same_size(size_of(t.destination.surface), size_of(t.output)))
+        | (size_of(t.output) != rotated_source_size(t.source))
+        | (t.blending.on & (size_of(t.destination.surface) != size_of(t.output)))
 }
 
 fn is_writable_span(bounds: Bounds, s: Surface) -> bool
@@ -135,55 +112,47 @@ fn is_readable(bounds: Bounds, s: Surface) -> bool
         })
 }
 
+#[tactic(auto, unfolding(crate::specs::Rules::out_of_bounds))]
 fn out_of_bounds(bounds: Bounds, t: Task) -> bool
     ensures { result ≡ out_of_bounds bounds t }
 {
-    let source = t.source;
-    let mode = source.mode;
-    (mode.is_buffer() & !is_readable(bounds, source.surface))
+    (t.source.mode.is_buffer() & !is_readable(bounds, t.source.surface))
         | !is_writable_span(bounds, t.output)
         | (t.blending.on & !is_readable(bounds, t.destination.surface))
 }
 
-pub fn same_format(a: Format, b: Format) -> bool
-    ensures { result ≡ same_format a b }
-{
-    a.layout().code == b.layout().code
-}
-
+#[tactic(auto, unfolding(crate::specs::Rules::aliases))]
 fn is_alias(a: Surface, b: Surface) -> bool
     ensures { result ≡ aliases a b }
 {
-    let f = a.format;
-    let g = b.format;
-    (a.address == b.address) & (a.stride == b.stride) & same_format(f, g)
+    (a.address == b.address) & (a.stride == b.stride) & (a.format == b.format)
 }
 
+#[tactic(auto, unfolding(crate::specs::Rules::output_overlaps))]
 fn overlaps(t: Task) -> bool
     ensures { result ≡ output_overlaps t }
 {
-    let source = t.source;
-    let mode = source.mode;
     let d = t.destination.surface;
-    (mode.is_buffer() & surface::overlap::surfaces_overlap(source.surface, t.output))
-        | (t.blending.on & surface::overlap::surfaces_overlap(d, t.output) & !is_alias(d, t.output))
+    (t.source.mode.is_buffer() & surfaces_overlap(t.source.surface, t.output))
+        | (t.blending.on & surfaces_overlap(d, t.output) & !is_alias(d, t.output))
 }
 
 // The first rule, in the order of their numbers, that a task breaks.
-pub fn check_task(bounds: Bounds, t: Task) -> TaskCheck
+#[tactic(auto, unfolding(crate::specs::Rules::check_task))]
+pub fn check_task(bounds: Bounds, t: Task) -> Result<(), Fault>
     ensures { result ≡ check_task bounds t }
 {
     if bad_surface(t) {
-        return TaskCheck::Invalid(Fault::BadSurface);
+        return Err(Fault::BadSurface);
     }
     if size_mismatch(t) {
-        return TaskCheck::Invalid(Fault::SizeMismatch);
+        return Err(Fault::SizeMismatch);
     }
     if out_of_bounds(bounds, t) {
-        return TaskCheck::Invalid(Fault::OutOfBounds);
+        return Err(Fault::OutOfBounds);
     }
     if overlaps(t) {
-        return TaskCheck::Invalid(Fault::Overlap);
+        return Err(Fault::Overlap);
     }
-    TaskCheck::Valid
+    Ok(())
 }

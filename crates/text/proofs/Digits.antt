@@ -38,13 +38,15 @@ decimal-more : (n : ℕ) → 10 ≤ n → decimal n ≡ decimal (n / 10) ++ ((48
 decimal-more n h = open_up n ∙ ap (λ (ds : List ℕ). ds ++ ((48 + n % 10) ∷ [])) (tens (n / 10) (omega arith))
 
 -- a number typed: one digit, or the digits of its tens and its last one
-pub typed-few : (l : Line) (n : ℕ) → n < 10 → pushed l (48 + n) ≡ appended l (decimal n)
+pub typed_few : (l : Line) (n : ℕ) → n < 10 → pushed l (48 + n % 10) ≡ appended l (decimal n)
 unfolding appended
-typed-few l n h = rw (decimal-few n h)
+typed_few l n h =
+    let last : n % 10 ≡ n = omega arith in
+    rw (last, decimal-few n h)
 
-pub typed-more : (l tens : Line) (n : ℕ) → 10 ≤ n → tens ≡ appended l (decimal (n / 10)) → pushed tens (48 + n % 10) ≡ appended l (decimal n)
+pub typed_more : (l tens : Line) (n : ℕ) → 10 ≤ n → tens ≡ appended l (decimal (n / 10)) → pushed tens (48 + n % 10) ≡ appended l (decimal n)
 unfolding appended
-typed-more l tens n h e = rw (decimal-more n h, typed-append, e)
+typed_more l tens n h e = rw (decimal-more n h, typed-append, e)
 
 few : (k f n : ℕ) → n < 10 ^ k → length (digits_in f n) ≤ k
 unfolding digits_in
@@ -60,3 +62,5 @@ unfolding decimal
 decimal-size n h =
     let less : n / 10 < 10 ^ 19 = omega arith in
     simp length-append (omega (arith, few 19 (n / 10) (n / 10) less))
+
+pub ruleset decimal_laws = (typed_few, typed_more, decimal-size)

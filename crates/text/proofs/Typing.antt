@@ -1,7 +1,7 @@
 -- Laws of lines: a text in parts, and the bytes of a list one by one.
 use mathlib.Core.Path.{◌≡◌, refl, sym, ap, ◌∙◌}
 use mathlib.Core.List.{List, [], ◌∷◌, ◌++◌}
-use Prim.Native.Nat.{ℕ, suc, ◌+◌, ◌/◌, ◌%◌, ◌≤◌, ◌<◌}
+use Prim.Native.Nat.{ℕ, zero, suc, ◌+◌, ◌-◌, ◌*◌, ◌/◌, ◌%◌, ◌^◌, ◌≤◌, ◌<◌}
 use mathlib.Core.Logic.{◌⊎◌, inl, inr}
 use native.Mathlib.Nat.{add-zero}
 use native.Mathlib.Omega.{arith}
@@ -15,6 +15,15 @@ use Rattle.word.specs.Splice.{spliced}
 use Rattle.word.proofs.Splice.{sets-spliced}
 use Rattle.text.specs.Line.{Line, line_of, pushed, appended}
 use Rattle.text.specs.Hex.{digit_of, hex_byte, hex_bytes, hex_word}
+
+-- a character where there is room, and where there is none
+pub pushed_room : (l : Line) (byte : ℕ) → l.end < length l.bytes → pushed l byte ≡ line_of (set l.bytes l.end byte) (l.end + 1)
+unfolding pushed
+pushed_room l byte h = simp (lt-ltb _ _ h)
+
+pub pushed_full : (l : Line) (byte : ℕ) → length l.bytes ≤ l.end → pushed l byte ≡ l
+unfolding pushed
+pushed_full l byte h = simp (le-ltb _ _ h)
 
 -- one text after another
 pub typed-append : (l : Line) (xs ys : List ℕ) → appended l (xs ++ ys) ≡ appended (appended l xs) ys
@@ -31,26 +40,6 @@ typed-cons l byte text = refl
 pub typed_one : (l : Line) (byte : ℕ) → pushed l byte ≡ appended l (byte ∷ [])
 unfolding appended
 typed_one l byte = refl
-
--- one byte's digits, and those of the others
-pub typed-bytes : (l : Line) (byte : ℕ) (bytes : List ℕ) → appended l (hex_bytes (byte ∷ bytes)) ≡ appended (appended l (hex_byte byte)) (hex_bytes bytes)
-unfolding hex_bytes
-typed-bytes l byte bytes = typed-append l (hex_byte byte) (hex_bytes bytes)
-
--- a word's digits, byte by byte
-pub typed-word : (l : Line) (word : ℕ) → appended l (hex_word word) ≡ appended (appended (appended (appended l (hex_byte (word / 16777216 % 256))) (hex_byte (word / 65536 % 256))) (hex_byte (word / 256 % 256))) (hex_byte (word % 256))
-unfolding hex_word be_bytes byte_of
-typed-word l word =
-    let lowest : word / 1 % 256 ≡ word % 256 = omega arith in
-    simp typed-bytes (rw lowest (unfold appended hex_bytes in refl))
-
--- its last three digits: the low one of the third byte, and the fourth byte
-pub typed_three : (l : Line) (word : ℕ) → appended l (drop 5 (hex_word word)) ≡ appended (pushed l (digit_of (word / 256 % 16))) (hex_byte (word % 256))
-unfolding appended hex_word hex_bytes hex_byte be_bytes byte_of
-typed_three l word =
-    let third : word / 256 % 256 % 16 ≡ word / 256 % 16 = omega arith in
-    let fourth : word / 1 % 256 ≡ word % 256 = omega arith in
-    rw (third, fourth)
 
 pub hex_size : (word : ℕ) → length (hex_word word) ≡ 8
 unfolding hex_word hex_bytes hex_byte be_bytes
@@ -103,12 +92,34 @@ pub rest-next : (xs : List ℕ) (i : ℕ) → i < length xs → drop i xs ≡ ge
 rest-next xs i h = rw (add-one, drop-cons xs i 0)
 
 module _ (l : Line) (xs : List ℕ) (i : ℕ) (h : i < length xs) where
-  pub typed-next : appended l (drop i xs) ≡ appended (pushed l (get_or xs i 0)) (drop (i + 1) xs)
+  pub typed_next : appended l (drop i xs) ≡ appended (pushed l (get_or xs i 0)) (drop (i + 1) xs)
   unfolding appended
-  typed-next = rw (rest-next xs i h)
+  typed_next = rw (rest-next xs i h)
 
 -- past a list's end nothing is left to be typed
 module _ (l : Line) (xs : List ℕ) (i : ℕ) (h : length xs ≤ i) where
-  pub typed-none : appended l (drop i xs) ≡ l
+  pub typed_none : appended l (drop i xs) ≡ l
   unfolding appended
-  typed-none = rw (drop_of_length-le xs h)
+  typed_none = rw (drop_of_length-le xs h)
+
+-- a word's digits, one by one
+digit_there : (word place : ℕ) → place < 8 → get_or (hex_word word) place 0 ≡ digit_of (word / 2 ^ (28 - 4 * place) % 16)
+unfolding hex_word hex_bytes hex_byte be_bytes byte_of
+digit_there word zero h = ap (λ (d : ℕ). digit_of d) (omega arith)
+digit_there word (suc zero) h = ap (λ (d : ℕ). digit_of d) (omega arith)
+digit_there word (suc (suc zero)) h = ap (λ (d : ℕ). digit_of d) (omega arith)
+digit_there word (suc (suc (suc zero))) h = ap (λ (d : ℕ). digit_of d) (omega arith)
+digit_there word (suc (suc (suc (suc zero)))) h = ap (λ (d : ℕ). digit_of d) (omega arith)
+digit_there word (suc (suc (suc (suc (suc zero))))) h = ap (λ (d : ℕ). digit_of d) (omega arith)
+digit_there word (suc (suc (suc (suc (suc (suc zero)))))) h = ap (λ (d : ℕ). digit_of d) (omega arith)
+digit_there word (suc (suc (suc (suc (suc (suc (suc zero))))))) h = ap (λ (d : ℕ). digit_of d) (omega arith)
+digit_there word (suc (suc (suc (suc (suc (suc (suc (suc place)))))))) h = absurd (omega arith)
+
+pub typed_digit : (l : Line) (word place : ℕ) → place < 8
+    → appended l (drop place (hex_word word)) ≡ appended (pushed l (digit_of (word / 2 ^ (28 - 4 * place) % 16))) (drop (place + 1) (hex_word word))
+typed_digit l word place h =
+    typed_next l (hex_word word) place (rw (hex_size word) h)
+    ∙ ap (λ (d : ℕ). appended (pushed l d) (drop (place + 1) (hex_word word))) (digit_there word place h)
+
+pub typed_word_end : (l : Line) (word place : ℕ) → 8 ≤ place → appended l (drop place (hex_word word)) ≡ l
+typed_word_end l word place h = typed_none l (hex_word word) place (rw (hex_size word) h)

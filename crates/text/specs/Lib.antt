@@ -1,5 +1,6 @@
 -- Text in a lent buffer.
 pub mod Line
+pub mod Written
 pub mod Hex
 pub mod Decimal
 -- Numbers in decimal digits.

@@ -1,52 +1,39 @@
 // Numbers in decimal digits, read from a text.
-ghost use Rattle.std.specs.Prelude.{◌≡◌, ◌+◌, ◌-◌, ◌*◌, ◌≤◌, length, drop, leb};
-ghost use Rattle.text.specs.Numerals.{is_digit, numeral_from};
+ghost use Rattle.std.specs.Prelude.{◌≡◌, ◌+◌, ◌*◌, ◌≤◌, length, drop, SomeIff};
+ghost use Rattle.text.specs.Numerals.{numeral_from};
 
 // A number that digits stand for, and where in the text they end.
-#[derive(Clone, Copy)]
+#[derive(Clone, Copy, PartialEq, Eq)]
 pub struct Numeral {
     pub value: u64,
     pub end: usize,
 }
 
-fn is_digit(byte: u8) -> bool
-    ensures { result ≡ is_digit byte }
+// A number with one digit more behind it, if it does not pass the largest one.
+fn with_digit(value: u64, digit: u8, largest: u64) -> Option<u64>
+    ensures { SomeIff result (value * 10 + digit ≤ largest) (value * 10 + digit) }
 {
-    (b'0' <= byte) & (byte <= b'9')
-}
-
-// The value of a digit. What is below `0` counts as 0.
-fn digit_value(byte: u8) -> u64
-    ensures { result ≡ byte - 48 }
-{
-    if byte < b'0' { 0 } else { (byte - b'0') as u64 }
-}
-
-// Whether a number may have one digit more. Nothing wraps, whatever the largest number is.
-fn fits(value: u64, digit: u64, largest: u64) -> bool
-    ensures { result ≡ leb (value * 10 + digit) largest }
-{
-    if largest < digit {
-        return false;
-    }
-    value <= (largest - digit) / 10
+    let more = value.checked_mul(10)?.checked_add(digit as u64)?;
+    if more <= largest { Some(more) } else { None }
 }
 
 // The number that digits stand for from a place of a text on, up to the first character that is no digit or with which the number would pass the
 // largest one. Where there is none it is 0 and ends where it began.
+#[tactic(auto, using(crate::proofs::numerals::Reading::numeral_more, crate::proofs::numerals::Reading::numeral_low, crate::proofs::numerals::Reading::numeral_high, crate::proofs::numerals::Reading::numeral_large, crate::proofs::numerals::Reading::numeral_end))]
 pub fn read(text: &[u8], at: usize, largest: u64) -> Numeral
     ensures { (result ≡ numeral_from largest 0 at (drop at text.now)) × (result.end ≤ at + length text.now) }
 {
+    let rest = &text[at.min(text.len())..];
     let mut value: u64 = 0;
     let mut end = at;
-    while end < text.len() {
-        let byte = text[end];
-        let digit = digit_value(byte);
-        let good = is_digit(byte) & fits(value, digit, largest);
-        if !good {
-            return Numeral { value, end };
+    for byte in rest {
+        if !byte.is_ascii_digit() {
+            break;
         }
-        value = value * 10 + digit;
+        match with_digit(value, *byte - b'0', largest) {
+            Some(more) => value = more,
+            None => break,
+        }
         end += 1;
     }
     Numeral { value, end }

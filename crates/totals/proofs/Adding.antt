@@ -1,19 +1,19 @@
--- Counts added one by one, and all of them.
-use mathlib.Core.Path.{◌≡◌, refl, sym, ap, ◌∙◌}
-use mathlib.Core.Bool.{Bool, true, false}
+-- Counts added one by one, and under other names.
+use mathlib.Core.Path.{◌≡◌}
 use mathlib.Core.Logic.{◌⊎◌, inl, inr}
 use mathlib.Core.List.{List}
-use Prim.Native.Nat.{ℕ, ◌+◌, ◌-◌, ◌≤◌, ◌<◌}
+use Prim.Native.Nat.{ℕ, ◌+◌, ◌-◌, ◌^◌, ◌≤◌, ◌<◌}
 use native.Mathlib.Omega.{arith}
-use lib.ListN.{length, get_or, set}
-use lib.Seq.{get_or-set_same, get_or-set_other}
+use borrow.Author.Rules.{rules}
+use lib.ListN.{get_or}
 use lib.Dec.{leb}
 use borrow.Author.Tests.{le-leb, lt-leb}
 use Rattle.word.proofs.Tests.{split}
 use Rattle.totals.specs.declared.Totals.{Totals}
 use Rattle.totals.specs.declared.Answer.{Answer}
 use Rattle.totals.specs.Totals.{largest, Position, count_at, Added, AddsTotals}
-use Rattle.totals.specs.Sums.{Exact, TooLarge}
+use Rattle.totals.specs.Sums.{Sum}
+use Rattle.std.specs.Prelude.{Option, Some, None, SomeIff}
 
 -- ---- one by one
 
@@ -25,44 +25,14 @@ room-is have n small = go (split largest (have + n))
     go (inl h) = rw (lt-leb n (largest - have) (omega arith), lt-leb (have + n) largest h)
     go (inr h) = rw (le-leb n (largest - have) (omega arith), le-leb (have + n) largest h)
 
-pub exact_none : (counts more sum : List ℕ) → Exact counts more sum 0
-exact_none counts more sum = record { each = λ j h. absurd (omega arith); small = λ j h. absurd (omega arith) }
-
-module _ (counts more sum : List ℕ) (k : ℕ) (E : Exact counts more sum k) (inside : k < length sum) (fits : get_or counts k 0 + get_or more k 0 ≤ largest) where
-  abbrev total : ℕ
-  total = get_or counts k 0 + get_or more k 0
-
-  pub exact-more : Exact counts more (set sum k total) (k + 1)
-  exact-more = record { each = λ j h. each j (split j k) h; small = λ j h. small j (split j k) h }
-    where
-      each : (j : ℕ) → (j < k) ⊎ (k ≤ j) → j < k + 1 → get_or (set sum k total) j 0 ≡ get_or counts j 0 + get_or more j 0
-      each j (inl h) b = get_or-set_other sum k j total 0 (λ e. omega arith) ∙ E.each j h
-      each j (inr h) b =
-          let same : j ≡ k = omega arith in
-          rw same (get_or-set_same sum k total 0 inside)
-
-      small : (j : ℕ) → (j < k) ⊎ (k ≤ j) → j < k + 1 → get_or counts j 0 + get_or more j 0 ≤ largest
-      small j (inl h) b = E.small j h
-      small j (inr h) b =
-          let same : j ≡ k = omega arith in
-          rw same fits
-
--- ---- all of them
-
-module _ (totals other : Totals) where
-  pub adds-all : (sum : List ℕ) → Exact totals.counts other.counts sum 14 → AddsTotals totals other (record { refusal = 0; totals = record { counts = sum } })
-  adds-all sum E = record {
-    adds = λ fits. (refl, λ p. E.each p.index p.below);
-    refuses = λ p large. absurd (omega (arith, large, E.small p.index p.below));
-    only = inl refl;
-  }
-
-  pub adds_none : TooLarge totals.counts other.counts → AddsTotals totals other (record { refusal = 19; totals = totals })
-  adds_none o = record {
-    adds = λ fits. absurd (omega (arith, o.large, fits o.position));
-    refuses = λ p large. (refl, refl);
-    only = inr (refl, refl);
-  }
+-- a sum that passes the largest number
+pub sum_none : (counts more : List ℕ) (k : ℕ) (r : Option ℕ) → k < 14 → SomeIff r (get_or counts k 0 + get_or more k 0 < 2 ^ 64) (get_or counts k 0 + get_or more k 0) → r ≡ None → Sum counts more None
+sum_none counts more k None below A e = over (split largest (get_or counts k 0 + get_or more k 0))
+  where
+    over : (largest < get_or counts k 0 + get_or more k 0) ⊎ (get_or counts k 0 + get_or more k 0 ≤ largest) → Sum counts more None
+    over (inl h) = record { exact = tt; over = record { position = record { index = k; below = below }; large = h } }
+    over (inr h) = absurd (A (omega (arith, h)))
+sum_none counts more k (Some n) below A e = search rules
 
 -- ---- the same counts under other names
 

@@ -1,6 +1,5 @@
 -- Internal: counts added one by one.
-use Rattle.std.specs.Prelude.{◌≡◌, true, false, List, ℕ, ◌+◌, ◌≤◌, ◌<◌, get_or}
-use Rattle.totals.specs.declared.Summed.{Summed}
+use Rattle.std.specs.Prelude.{List, IfSome, IfNone, Option, ◌≡◌, ℕ, ◌+◌, ◌≤◌, ◌<◌, get_or}
 use Rattle.totals.specs.Totals.{largest, Position}
 
 -- the sums are those of the counts, and none is too large
@@ -13,6 +12,6 @@ pub record TooLarge (counts more : List ℕ) : Type 0 where
   pub position : Position
   pub large : largest < get_or counts position.index 0 + get_or more position.index 0
 
-pub record Sum (counts more : List ℕ) (s : Summed) : Type 0 where
-  pub exact : s.fits ≡ true → Exact counts more s.counts 14
-  pub over : s.fits ≡ false → TooLarge counts more
+pub record Sum (counts more : List ℕ) (sum : Option (List ℕ)) : Type 0 where
+  pub exact : IfSome sum (λ exact. Exact counts more exact 14)
+  pub over : IfNone sum (TooLarge counts more)

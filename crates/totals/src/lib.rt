@@ -34,13 +34,6 @@ pub struct FilesOutcome {
     pub unread: usize,
 }
 
-// Sums of counts, and whether none is too large.
-#[derive(Clone, Copy)]
-struct Summed {
-    fits: bool,
-    counts: [u64; 14],
-}
-
 // Whether a count may grow so.
 pub fn has_room(have: u64, n: u64) -> bool
     ensures { result ≡ leb (have + n) largest }
@@ -48,46 +41,30 @@ pub fn has_room(have: u64, n: u64) -> bool
     n <= 18446744073709551615 - have
 }
 
-fn add_counts(counts: [u64; 14], more: [u64; 14]) -> Summed
+// The sums of counts, if none is too large.
+fn add_counts(counts: [u64; 14], more: [u64; 14]) -> Option<[u64; 14]>
     ensures { Sum counts more result }
 {
     let mut sum = counts;
-    let mut k = 0;
-    while k < 14 {
-        let have = counts[k];
-        let n = more[k];
-        if !has_room(have, n) {
-            return Summed {
-                fits: false,
-                counts: counts,
-            };
-        }
-        sum[k] = have + n;
-        k += 1;
+    for k in 0..14 {
+        sum[k] = counts[k].checked_add(more[k])?;
     }
-    Summed {
-        fits: true,
-        counts: sum,
-    }
+    Some(sum)
 }
 
 // Adds other totals, each count to its own: totals of lots of files make the totals of all of them.
 pub fn add(totals: Totals, other: Totals) -> Answer
     ensures { AddsTotals totals other result }
 {
-    let counts = totals.counts;
-    let more = other.counts;
-    let sum = add_counts(counts, more);
-    if !sum.fits {
+    let Some(counts) = add_counts(totals.counts, other.counts) else {
         return Answer {
             refusal: 19,
             totals: totals,
         };
-    }
-    let after = sum.counts;
+    };
     Answer {
         refusal: 0,
-        totals: Totals { counts: after },
+        totals: Totals { counts },
     }
 }
 

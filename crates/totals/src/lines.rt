@@ -49,10 +49,8 @@ fn count_lines(line: &mut [u8], counts: [u64; 14]) -> usize
     ensures { (line_of line.new result ≡ appended (line_of line.old 0) (count_lines 0 counts)) × (length (count_lines 0 counts) ≤ 672) × FourteenCounts counts }
 {
     let mut end = 0;
-    let mut k = 0;
-    while k < 14 {
+    for k in 0..14 {
         end = count_line(line, end, k, counts[k]);
-        k += 1;
     }
     end
 }
@@ -121,13 +119,11 @@ fn find_totals(text: &[u8]) -> Totals
 {
     let mut counts = [0u64; 14];
     let mut at = 0;
-    let mut k = 0;
-    while k < 14 {
+    for k in 0..14 {
         let start = at + label_size(k);
         let numeral = text::numerals::read(text, start, 18446744073709551615);
         counts[k] = numeral.value;
         at = numeral.end + 1;
-        k += 1;
     }
     Totals { counts }
 }

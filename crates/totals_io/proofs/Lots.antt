@@ -7,7 +7,6 @@ use Prim.Native.Nat.{ℕ, ◌≤◌}
 use native.Mathlib.Omega.{arith}
 use lib.ListN.{length, take}
 use lib.Seq.{length-take-le}
-use Rattle.command.specs.Counts.{IsPrefixLen}
 use Rattle.text.specs.Line.{Line, line_of, appended}
 use Rattle.text.proofs.Typing.{typed-whole}
 use Rattle.totals.specs.declared.Totals.{Totals}
@@ -19,9 +18,6 @@ use Rattle.totals.specs.declared.lines.Reading.{Reading}
 use Rattle.totals.specs.Reading.{Reads}
 use Rattle.totals_io.specs.declared.TotalsFile.{TotalsFile}
 use Rattle.totals_io.specs.Lots.{AddsText, ReadsFile}
-
-pub counts_of : (n : ℕ) (xs : List ℕ) → n ≤ length xs → IsPrefixLen n xs
-counts_of n xs h = (h, sym (length-take-le n xs h))
 
 -- a text in a buffer that has room for it
 pub typed-size : (room : ℕ) (bytes bytes' text : List ℕ) (n : ℕ) → length bytes ≡ room → length text ≤ room → line_of bytes' n ≡ appended (line_of bytes 0) text → n ≡ length text

@@ -2,14 +2,13 @@
 // it does with those that it is to write; what is added, and how many bytes are handed over to be written, is proved.
 #![tactic(auto)]
 
-ghost use Rattle.std.specs.Prelude.{◌≡◌, true, false, cond, length};
-ghost use Rattle.command.specs.Counts.{IsPrefixLen};
+ghost use Rattle.std.specs.Prelude.{◌≡◌, ◌≤◌, true, false, cond, length, IfOk};
 ghost use Rattle.totals.specs.Lines.{answer_text, progress_text};
 ghost use Rattle.totals.specs.Totals.{unchanged, AddsTotals};
 ghost use Rattle.totals.specs.Files.{AddsFile};
 ghost use Rattle.totals_io.specs.Lots.{AddsText, ReadsFile};
 
-use command::{Opened, Piece, Printed};
+use command::{Failed, Opened, Printed};
 use std::io::{IsTerminal, Read, Write};
 use std::rt::{Env, Files};
 use totals::lines::Reading;
@@ -74,25 +73,26 @@ fn no_file() -> TotalsFile
     }
 }
 
-// Reads a file into a buffer, to its end or until the buffer is full: how many bytes came, and whether it went well.
-fn read_text(rt: &impl Eprint, file: &mut impl Read, name: &[u8], text: &mut [u8]) -> Piece
-    ensures { IsPrefixLen result.count text.new }
+// Reads a file into a buffer, to its end or until the buffer is full: how many bytes came.
+// Kept (no plainer): a turn takes as many bytes as came, so neither a range nor chunks of one size fit.
+fn read_text(
+    rt: &impl Eprint,
+    file: &mut impl Read,
+    name: &[u8],
+    text: &mut [u8],
+) -> Result<usize, Failed>
+    ensures { IfOk result (λ count. count ≤ length text.new) }
 {
     let mut end = 0;
+    // Kept (no plainer): a turn takes as many bytes as came, so no `for` over the buffer fits
     while end < text.len() {
-        let got = command::read_piece(rt, file, name, &mut text[end..]);
-        if got.count == 0 {
-            return Piece {
-                count: end,
-                ok: got.ok,
-            };
+        let count = command::read_piece(rt, file, name, &mut text[end..])?.len();
+        if count == 0 {
+            break;
         }
-        end += got.count;
+        end += count;
     }
-    Piece {
-        count: end,
-        ok: true,
-    }
+    Ok(end)
 }
 
 // Reads totals from a file, of which a longer text than that of totals is not read to its end. That it holds none is reported on standard error.
@@ -100,11 +100,10 @@ fn read_from(rt: &impl Eprint, file: &mut impl Read, name: &[u8]) -> TotalsFile
     ensures { ReadsFile result }
 {
     let mut text = [0u8; 1024];
-    let got = read_text(rt, file, name, &mut text);
-    if !got.ok {
+    let Ok(count) = read_text(rt, file, name, &mut text) else {
         return no_file();
-    }
-    let reading = totals::lines::read(&text[..got.count]);
+    };
+    let reading = totals::lines::read(&text[..count]);
     if !reading.ok {
         command::complain(rt, name, b" does not hold printed totals\n");
     }
@@ -119,11 +118,10 @@ pub fn read_argument(rt: &(impl Files + Env + Eprint), index: usize) -> TotalsFi
     ensures { ReadsFile result }
 {
     let mut path = command::buffer();
-    let Opened { file, length } = command::open_argument(rt, index, &mut path);
-    let Some(mut file) = file else {
+    let Ok(Opened { mut file, path }) = command::open_argument(rt, index, &mut path) else {
         return no_file();
     };
-    read_from(rt, &mut file, &path[..length])
+    read_from(rt, &mut file, path)
 }
 
 // ---- added

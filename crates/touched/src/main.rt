@@ -3,31 +3,17 @@
 #![tactic(auto)]
 
 use inquiry::Question;
-use inquiry_io::Asked;
-use ppm::{ParsedFormat, ParsedNumber, Pixel};
 use std::rt::Env;
 
 // The first byte of the pixel that the arguments name, of a page that begins at an address. What is wrong with them is reported.
-fn pixel(rt: &(impl Env + Eprint), address: u32) -> Pixel {
+fn pixel(rt: &(impl Env + Eprint), address: u32) -> Option<usize> {
     let mut text = command::buffer();
-    let n = command::argument(rt, 3, &mut text);
-    let ParsedNumber::Value(stride) = command::number_in(rt, &text[..n], b"STRIDE") else {
-        return Pixel::TooFar;
-    };
-    let n = command::argument(rt, 4, &mut text);
-    let ParsedFormat::Known(format) = command::format_in(rt, &text[..n]) else {
-        return Pixel::TooFar;
-    };
-    let n = command::argument(rt, 5, &mut text);
-    let ParsedNumber::Value(x) = command::number_in(rt, &text[..n], b"X") else {
-        return Pixel::TooFar;
-    };
-    let n = command::argument(rt, 6, &mut text);
-    let ParsedNumber::Value(y) = command::number_in(rt, &text[..n], b"Y") else {
-        return Pixel::TooFar;
-    };
+    let stride = command::number_in(rt, command::argument(rt, 3, &mut text), b"STRIDE")?;
+    let format = command::format_in(rt, command::argument(rt, 4, &mut text))?;
+    let x = command::number_in(rt, command::argument(rt, 5, &mut text), b"X")?;
+    let y = command::number_in(rt, command::argument(rt, 6, &mut text), b"Y")?;
     let at = ppm::pixel_of(address, stride, format, x, y);
-    if let Pixel::TooFar = at {
+    if at.is_none() {
         command::complain(
             rt,
             b"the pixel",
@@ -38,18 +24,15 @@ fn pixel(rt: &(impl Env + Eprint), address: u32) -> Pixel {
 }
 
 // The byte that the arguments name.
-fn pixel_argument(rt: &(impl Env + Eprint), count: usize) -> Pixel {
+fn pixel_argument(rt: &(impl Env + Eprint), count: usize) -> Option<usize> {
     if (count != 3) & (count != 7) {
         command::complain(rt, b"touched", b" takes two arguments, or six\n");
-        return Pixel::TooFar;
+        return None;
     }
     let mut text = command::buffer();
-    let n = command::argument(rt, 2, &mut text);
-    let ParsedNumber::Value(address) = command::number_in(rt, &text[..n], b"ADDRESS") else {
-        return Pixel::TooFar;
-    };
+    let address = command::number_in(rt, command::argument(rt, 2, &mut text), b"ADDRESS")?;
     if count == 3 {
-        return Pixel::At(address as usize);
+        return Some(address as usize);
     }
     pixel(rt, address)
 }
@@ -64,12 +47,12 @@ fn usage(rt: &impl Eprint) {
 }
 
 fn main(rt: HostRuntime) {
-    let Pixel::At(address) = pixel_argument(&rt, command::argument_count(&rt)) else {
+    let Some(address) = pixel_argument(&rt, command::argument_count(&rt)) else {
         usage(&rt);
         return;
     };
     let question = Question { address, ticket: 0 };
-    let Asked::Read(inquiry) = inquiry_io::ask(&rt, question) else {
+    let Ok(inquiry) = inquiry_io::ask(&rt, question) else {
         return;
     };
     let mut line = [0u8; 128];

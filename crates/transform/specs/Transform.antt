@@ -11,6 +11,13 @@ use Rattle.transform.specs.declared.Point.{Point}
 abbrev pub rotation_of : ℕ → Rotation
 rotation_of code = cond (eqb code 0) Rotate0 (cond (eqb code 1) Rotate90 (cond (eqb code 2) Rotate180 Rotate270))
 
+-- the same as a number of quarter turns
+abbrev pub turns : Rotation → ℕ
+turns Rotate0 = 0
+turns Rotate90 = 1
+turns Rotate180 = 2
+turns Rotate270 = 3
+
 -- the size of a picture of this size, rotated
 abbrev pub rotated_size : Rotation → Size → Size
 rotated_size Rotate0 s = s

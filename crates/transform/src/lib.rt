@@ -2,10 +2,10 @@
 #![tactic(auto)]
 
 ghost use Rattle.std.specs.Prelude.{◌≡◌, ◌<◌};
-ghost use Rattle.transform.specs.Transform.{InPicture, rotated_size, unrotated, mirrored, unflipped, source_pixel};
+ghost use Rattle.transform.specs.Transform.{rotation_of, turns, InPicture, rotated_size, unrotated, mirrored, unflipped, source_pixel};
 
 // A rotation clockwise by 0 to 3 quarter turns.
-#[derive(Clone, Copy)]
+#[derive(Clone, Copy, Debug, PartialEq, Eq)]
 pub enum Rotation {
     Rotate0,
     Rotate90,
@@ -13,26 +13,26 @@ pub enum Rotation {
     Rotate270,
 }
 
-#[derive(Clone, Copy)]
+#[derive(Clone, Copy, Debug, PartialEq, Eq)]
 pub struct Flip {
     pub horizontal: bool,
     pub vertical: bool,
 }
 
 // A flip, then a rotation.
-#[derive(Clone, Copy)]
+#[derive(Clone, Copy, Debug, PartialEq, Eq)]
 pub struct Transform {
     pub flip: Flip,
     pub rotation: Rotation,
 }
 
-#[derive(Clone, Copy)]
+#[derive(Clone, Copy, Debug, PartialEq, Eq)]
 pub struct Size {
     pub width: usize,
     pub height: usize,
 }
 
-#[derive(Clone, Copy)]
+#[derive(Clone, Copy, Debug, PartialEq, Eq)]
 pub struct Point {
     pub x: usize,
     pub y: usize,
@@ -44,13 +44,8 @@ impl Size {
         ensures { result ≡ rotated_size rotation self }
     {
         match rotation {
-            Rotation::Rotate0 => self,
-            Rotation::Rotate90 => Size {
-                width: self.height,
-                height: self.width,
-            },
-            Rotation::Rotate180 => self,
-            Rotation::Rotate270 => Size {
+            Rotation::Rotate0 | Rotation::Rotate180 => self,
+            Rotation::Rotate90 | Rotation::Rotate270 => Size {
                 width: self.height,
                 height: self.width,
             },
@@ -64,6 +59,28 @@ pub fn mirror(on: bool, n: usize, i: usize) -> usize
     ensures { result ≡ mirrored on n i }
 {
     if on { n - 1 - i } else { i }
+}
+
+// The rotation of a number of quarter turns. Any number above 2 counts as 3.
+impl From<u32> for Rotation {
+    ghost from_gives = { λ code rotation. rotation ≡ rotation_of code };
+
+    fn from(code: u32) -> Self {
+        match code {
+            0 => Rotation::Rotate0,
+            1 => Rotation::Rotate90,
+            2 => Rotation::Rotate180,
+            _ => Rotation::Rotate270,
+        }
+    }
+}
+
+impl From<Rotation> for u32 {
+    ghost from_gives = { λ rotation code. code ≡ turns rotation };
+
+    fn from(rotation: Rotation) -> u32 {
+        rotation as u32
+    }
 }
 
 impl Rotation {

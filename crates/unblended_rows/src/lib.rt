@@ -18,6 +18,7 @@ use lanes::bytes::{copy, copy_within};
 use pixel::Colour;
 use pixel::gradient::colour_at;
 use range::Range;
+use raster::draw_rows;
 use register::{Source, SourceMode, Task};
 use row_pixels::identity_row_start;
 use scanline::fill_row;
@@ -40,16 +41,14 @@ fn uniform_colour(source: Source, y: usize) -> Colour
     requires { y < source.surface.height }
     ensures { result ≡ uniform_colour source.mode source y }
 {
-    let mode = source.mode;
-    match mode {
-        SourceMode::Buffer => source.colour,
-        SourceMode::Colour => source.colour,
-        SourceMode::GradientX => source.colour,
+    match source.mode {
+        SourceMode::Buffer | SourceMode::Colour | SourceMode::GradientX => source.colour,
         SourceMode::GradientY => shaded_colour(source, y),
     }
 }
 
 // Draws a row of one colour in the window, from byte `at` of it on.
+// Kept (promise): docs/PROMISES.md names the functions that are lent the window's bytes alone, so window, place and surface go in by themselves (`fill_at`, `store_at`).
 fn fill_at(window: &mut [u8], at: usize, output: Surface, c: Colour)
     requires { at + row_length output ≤ length window.old }
     ensures { window.new ≡ row_drawn output at (λ x. c) window.old }
@@ -117,13 +116,11 @@ pub fn draw_filled(memory: &mut [u8], window: Range, task: Task)
     requires { Drawable window (length memory.old) task × (kind_of window task ≡ Kind.Filled) }
     ensures { memory.new ≡ draw_task task memory.old }
 {
-    let output = task.output;
-    let height = output.height;
-    let mut y: u16 = 0;
-    while y < height {
-        filled_row(memory, window, task, y);
-        y += 1;
-    }
+    draw_rows(
+        memory,
+        task,
+        |m: &mut [u8], y| filled_row(m, window, task, y),
+    );
 }
 
 // Draws a task whose rows are rows of its source, in the window.
@@ -131,13 +128,11 @@ pub fn draw_moved(memory: &mut [u8], window: Range, task: Task)
     requires { Drawable window (length memory.old) task × (kind_of window task ≡ Kind.Moved) }
     ensures { memory.new ≡ draw_task task memory.old }
 {
-    let output = task.output;
-    let height = output.height;
-    let mut y: u16 = 0;
-    while y < height {
-        moved_row(memory, window, task, y);
-        y += 1;
-    }
+    draw_rows(
+        memory,
+        task,
+        |m: &mut [u8], y| moved_row(m, window, task, y),
+    );
 }
 
 // Draws a task whose rows are rows of its source, wherever that lies. The buffer holds a row while that is drawn.
@@ -145,11 +140,9 @@ pub fn draw_carried(memory: &mut [u8], window: Range, task: Task, source: &mut [
     requires { Drawable window (length memory.old) task × HoldsRow task.output.width source.old × (kind_of window task ≡ Kind.Carried) }
     ensures { memory.new ≡ draw_task task memory.old }
 {
-    let output = task.output;
-    let height = output.height;
-    let mut y: u16 = 0;
-    while y < height {
-        carried_row(memory, window, task, y, source);
-        y += 1;
-    }
+    draw_rows(
+        memory,
+        task,
+        |m: &mut [u8], y| carried_row(m, window, task, y, source),
+    );
 }

@@ -27,16 +27,23 @@ const RECIPROCALS: [u32; 256] = [
 ];
 
 // All of it. A constant array is laid out anew wherever it is named, so that who divides many colours takes it once and lends it.
-pub fn all() -> [u32; 256]
-    ensures { Reciprocals result }
-{
-    RECIPROCALS
+#[derive(Drop)]
+pub struct Table {
+    entries: [u32; 256],
+    ghost right: { Reciprocals entries },
 }
 
-// The entry of an alpha.
-pub fn reciprocal(table: &[u32], a: u8) -> u32
-    requires { Reciprocals table.now }
-    ensures { (result ≡ reciprocal_of a) × (result ≤ 16711680) }
-{
-    table[a as usize]
+impl Table {
+    pub fn new() -> Self {
+        Table {
+            entries: RECIPROCALS,
+        }
+    }
+
+    // The entry of an alpha.
+    pub fn reciprocal(&self, a: u8) -> u32
+        ensures { (result ≡ reciprocal_of a) × (result ≤ 16711680) }
+    {
+        self.entries[a as usize]
+    }
 }

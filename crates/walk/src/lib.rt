@@ -2,62 +2,48 @@
 #![tactic(auto)]
 
 ghost use Rattle.std.specs.Prelude.{◌≡◌, length};
-ghost use Rattle.ring.specs.Segment.{batch_words};
 ghost use Rattle.batch.specs.Batch.{decode_batch, verdict_of};
+ghost use Rattle.batch.specs.Walk.{words_in};
 ghost use Rattle.raster.specs.Task.{draw_task};
 ghost use Rattle.raster.specs.Batch.{draw_batch};
 ghost use Rattle.raster.specs.Preconditions.{Drawable, BoundsInMemory};
 
-use batch::decode::next_task;
-use batch::{Verdict, WalkStep};
+use batch::{BatchTasks, Verdict};
 use range::Range;
 use register::{Bank, Task};
+use renderer::Renderer;
+use ring::Reader;
 use task_check::Bounds;
 
 // Draws a task: row by row, or by the slow engine each pixel by itself.
-fn draw_task(memory: &mut [u8], window: Range, task: Task, slow: bool)
+fn draw_task(memory: &mut [u8], window: Range, task: Task, renderer: Renderer)
     requires { Drawable window (length memory.old) task }
     ensures { memory.new ≡ draw_task task memory.old }
 {
-    if slow {
-        plain::draw_task(memory, task);
-        return;
+    match renderer {
+        Renderer::Slow => plain::draw_task(memory, task),
+        Renderer::Fast => tasks::draw_task(memory, window, task),
     }
-    tasks::draw_task(memory, window, task);
 }
 
-// Judges and draws the batch of `size` bytes at an offset of the ring, read from a bank on. The tasks before a fault stand (02, request 5). Judging
-// reads no memory, so that a task may be drawn before the next one is judged.
+// Judges and draws a batch, read from a bank on. The tasks before a fault stand (02, request 5). Judging reads no memory, so that a task may be drawn
+// before the next one is judged.
 pub fn run_batch(
     memory: &mut [u8],
-    ring: &[u8],
-    offset: usize,
-    size: usize,
+    batch: Reader,
     bounds: Bounds,
     bank: Bank,
-    slow: bool,
+    renderer: Renderer,
 ) -> Verdict
     requires { BoundsInMemory bounds (length memory.old) }
-    ensures { (result ≡ verdict_of (decode_batch bounds bank (batch_words ring.now offset size))) × (memory.new ≡ draw_batch bounds bank (batch_words ring.now offset size) memory.old) }
+    ensures { (result ≡ verdict_of (decode_batch bounds bank (words_in batch.entry))) × (memory.new ≡ draw_batch bounds bank (words_in batch.entry) memory.old) }
 {
-    let window = bounds.window;
-    let mut current = bank;
-    let mut at = 0;
-    let mut count: usize = 0;
-    loop {
-        match next_task(ring, offset, size, bounds, current, at) {
-            WalkStep::Task(task, b, next) => {
-                draw_task(memory, window, task, slow);
-                current = b;
-                at = next;
-                count = count + 1;
-            }
-            WalkStep::Faulty(fault, place, _) => {
-                return Verdict::Faulty(count, fault, place);
-            }
-            WalkStep::End => {
-                return Verdict::Faultless(count);
-            }
-        }
+    let mut tasks = BatchTasks::new(batch, bounds, bank);
+    while let Some(task) = tasks.next() {
+        draw_task(memory, bounds.window, task, renderer);
+    }
+    Verdict {
+        tasks: tasks.count,
+        fault: tasks.fault,
     }
 }

@@ -13,6 +13,7 @@ ghost use Rattle.encoder.specs.Tint.{tint_refusal_of, answer_of as tintAnswer, b
 
 use encoder::tint::Tint;
 use encoder::{Fields, SurfaceFields};
+use engine::answers::{answer_words, piece_words, run_words};
 use pixel::gradient::Steps;
 use reset::ResetRule;
 
@@ -36,7 +37,7 @@ pub fn wenditsal_play(
         ring_length,
         memory_length,
         common_length,
-        ResetRule::from_number(reset),
+        ResetRule::from(reset),
         ring,
         memory,
         script,
@@ -58,11 +59,11 @@ pub fn wenditsal_set_up(
     ensures { SetsUp engine.old ring memory common (rule_of reset) result engine.new }
 {
     if engine.len() != 272 {
+        // Kept (C interface): the header's number for a buffer of another length, for which no call is made.
         return 11;
     }
-    let reply = queue::clients::set_up(ring, memory, common, ResetRule::from_number(reset));
-    let mut none: u32 = 0;
-    calls::writing::write_value(engine, reply, &mut none)
+    let reply = queue::clients::set_up(ring, memory, common, ResetRule::from(reset));
+    calls::writing::write_answer(engine, answer_words(reply.answer), reply.engine, &mut [])
 }
 
 // Opens a client with a window; answers its id.
@@ -71,7 +72,11 @@ pub fn wenditsal_open(engine: &mut [u8], start: u32, size: u32, client: &mut u32
 {
     let record = record_bytes::reading::decode(engine);
     let reply = queue::clients::open(record, start, size);
-    calls::writing::write_value(engine, reply, client)
+    let words = answer_words(reply.answer);
+    let mut one = [0];
+    let number = calls::writing::write_answer(engine, words, reply.engine, &mut one);
+    *client = one[0];
+    number
 }
 
 // Puts a client's batch into the ring and the queue; answers its ticket.
@@ -87,7 +92,11 @@ pub fn wenditsal_submit(
 {
     let record = record_bytes::reading::decode(engine);
     let reply = submission::submit(record, ring, client, batch);
-    calls::writing::write_value(engine, reply, ticket)
+    let words = answer_words(reply.answer);
+    let mut one = [0];
+    let number = calls::writing::write_answer(engine, words, reply.engine, &mut one);
+    *ticket = one[0];
+    number
 }
 
 // Begins a batch of a total length that a client hands over by pieces.
@@ -96,8 +105,7 @@ pub fn wenditsal_begin(engine: &mut [u8], ring: &[u8], client: u32, total: usize
 {
     let record = record_bytes::reading::decode(engine);
     let reply = submission::begin(record, ring, client, total);
-    let mut none: u32 = 0;
-    calls::writing::write_value(engine, reply, &mut none)
+    calls::writing::write_answer(engine, answer_words(reply.answer), reply.engine, &mut [])
 }
 
 // Hands over a piece of it; answers 0 and the bytes still to come, or, of the last, 1 and the ticket. The header has these two as a structure.
@@ -113,7 +121,7 @@ pub fn wenditsal_piece(
 {
     let record = record_bytes::reading::decode(engine);
     let reply = submission::piece(record, ring, client, piece);
-    calls::writing::write_progress(engine, reply, progress)
+    calls::writing::write_answer(engine, piece_words(reply.answer), reply.engine, progress)
 }
 
 // Drops it.
@@ -122,8 +130,7 @@ pub fn wenditsal_cancel(engine: &mut [u8], client: u32) -> u32
 {
     let record = record_bytes::reading::decode(engine);
     let reply = submission::cancel(record, client);
-    let mut none: u32 = 0;
-    calls::writing::write_value(engine, reply, &mut none)
+    calls::writing::write_answer(engine, answer_words(reply.answer), reply.engine, &mut [])
 }
 
 // Closes a client: its window is filled with zeros, and its id and window are free.
@@ -132,8 +139,7 @@ pub fn wenditsal_close(engine: &mut [u8], memory: &mut [u8], client: u32) -> u32
 {
     let record = record_bytes::reading::decode(engine);
     let reply = dequeue::closing::close(record, memory, client);
-    let mut none: u32 = 0;
-    calls::writing::write_value(engine, reply, &mut none)
+    calls::writing::write_answer(engine, answer_words(reply.answer), reply.engine, &mut [])
 }
 
 // Takes the oldest batch; answers client, ticket, status, fault and place. The header has these five as a structure.
@@ -148,7 +154,7 @@ pub fn wenditsal_run(
 {
     let record = record_bytes::reading::decode(engine);
     let ran = run::run(record, ring, memory);
-    calls::writing::write_completion(engine, ran, completion)
+    calls::writing::write_answer(engine, run_words(ran.outcome), ran.engine, completion)
 }
 
 // Answers how many batches of a client are ready.
@@ -156,7 +162,7 @@ pub fn wenditsal_pending(engine: &[u8], client: u32, count: &mut u32) -> u32
     ensures { Pends engine.now client result count.new }
 {
     let record = record_bytes::reading::decode(engine);
-    let words = engine::answers::answer_words(queue::clients::pending(record, client));
+    let words = answer_words(queue::clients::pending(record, client));
     *count = words[1];
     words[0]
 }
@@ -166,8 +172,7 @@ pub fn wenditsal_encode(fields: Fields, buffer: &mut [u8]) -> u32
     ensures { (result ≡ encode_refusal_of (answer_of (first_form fields) (length buffer.old)))
         × (buffer.new ≡ buffer_after (first_form fields) buffer.old) }
 {
-    let answer = encoder::encode(fields, buffer);
-    answer.number()
+    encoder::refusal_number(encoder::encode(fields, buffer))
 }
 
 // Writes the 100 bytes of the batch of the one task with these fields and steps to a buffer. The steps of the four channels are register words.
@@ -188,8 +193,7 @@ pub fn wenditsal_encode_shaded(
         green,
         blue,
     };
-    let answer = encoder::encode_shaded(fields, steps, buffer);
-    answer.number()
+    encoder::refusal_number(encoder::encode_shaded(fields, steps, buffer))
 }
 
 // Writes the 80 bytes of the batch of the one task that tints a rectangle by a score to a buffer.
@@ -204,8 +208,12 @@ pub fn wenditsal_encode_tint(
     ensures { (result ≡ tint_refusal_of (tintAnswer score (record { red = red; green = green; blue = blue }) output (length buffer.old)))
         × (buffer.new ≡ tintBuffer score (record { red = red; green = green; blue = blue }) output buffer.old) }
 {
-    let answer = encoder::tint::encode_tint(score, Tint { red, green, blue }, output, buffer);
-    answer.number()
+    encoder::tint::refusal_number(encoder::tint::encode_tint(
+        score,
+        Tint { red, green, blue },
+        output,
+        buffer,
+    ))
 }
 
 // The one setting for two, drawn one after the other. A setting is bits 7:4 of a source control word.

@@ -1,6 +1,6 @@
 -- A task whose rows are blended inside the window: its colours are those of the two rows, blended.
 use mathlib.Core.Path.{◌≡◌, sym, ap, ◌∙◌}
-use mathlib.Core.Bool.{true, false, not}
+use mathlib.Core.Bool.{false}
 use mathlib.Core.List.{List}
 use Prim.Native.Nat.{ℕ, ◌+◌, ◌-◌, ◌*◌, ◌/◌, ◌%◌, ◌≤◌, ◌<◌}
 use native.Mathlib.Nat.{min-le_left}
@@ -11,7 +11,6 @@ use borrow.Rule.Slice.PartMut.{mid_of, put_mid}
 use Rattle.range.specs.declared.Range.{Range}
 use Rattle.division.specs.Division.{div255}
 use Rattle.pixel.specs.Blending.{blended_channel, blended}
-use Rattle.pixel.specs.declared.blend.AlphaMode.{AlphaMode}
 use Rattle.pixel.specs.declared.blend.AlphaMode.TheVariants.{Pixel}
 use Rattle.pixel.specs.declared.blend.BlendFactors.{BlendFactors}
 use Rattle.pixel.specs.declared.colour.Colour.{Colour}
@@ -31,7 +30,7 @@ use Rattle.plan.specs.Blend.{blend_at}
 use Rattle.row_pixels.proofs.RowColours.Colours.{Row, colour-is, blend_colour, row_is}
 use Rattle.lanes.specs.Apart.{Apart}
 use Rattle.within_rows.specs.Within.{blend_within}
-use Rattle.within_rows.proofs.bytes.Within.{in_drop}
+use Rattle.within_rows.proofs.Rows.{in_drop}
 use Rattle.raster.specs.Task.{pixel_colour}
 use Rattle.raster.specs.Row.{row_drawn}
 use Rattle.raster.proofs.InPlace.{argb-length, mixedFrom, mixed-lent, mixed-pixel}

@@ -3,10 +3,8 @@
 #![tactic(auto)]
 
 pub mod blend;
-pub mod bytes;
 
 ghost use Rattle.std.specs.Prelude.{◌≡◌, length};
-ghost use Rattle.plan.specs.Plan.{plan_of};
 ghost use Rattle.kinds.specs.Kinds.{kind_of};
 ghost use Rattle.raster.specs.Task.{draw_task};
 ghost use Rattle.raster.specs.Preconditions.{Drawable};
@@ -16,12 +14,13 @@ use crate::blend::blend_within;
 use kinds::Kind;
 use plan::{Plan, plan_of};
 use range::Range;
+use raster::draw_rows;
 use register::Task;
 use row_pixels::identity_row_start;
 
 // Draws row y of such a task. No output row meets a row of the source.
 fn within_row(memory: &mut [u8], window: Range, task: Task, plan: Plan, y: u16)
-    requires { RowDrawable window memory.old task y × (kind_of window task ≡ Kind.Within) × (plan ≡ plan_of task.blending.rule) }
+    requires { RowDrawable window memory.old task y × (kind_of window task ≡ Kind.Within) × (plan.rule ≡ task.blending.rule) }
     ensures { memory.new ≡ draw_row task y memory.old }
 {
     let start = window.start;
@@ -41,11 +40,9 @@ pub fn draw_within(memory: &mut [u8], window: Range, task: Task)
 {
     let blending = task.blending;
     let plan = plan_of(blending.rule);
-    let output = task.output;
-    let height = output.height;
-    let mut y: u16 = 0;
-    while y < height {
-        within_row(memory, window, task, plan, y);
-        y += 1;
-    }
+    draw_rows(
+        memory,
+        task,
+        move |m: &mut [u8], y| within_row(m, window, task, plan, y),
+    );
 }

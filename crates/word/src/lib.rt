@@ -6,21 +6,15 @@ ghost use Rattle.word.specs.Word.{le32, le32_at, be32_at, le_bytes, words_bytes}
 ghost use Rattle.word.specs.Field.{field};
 ghost use Rattle.word.specs.Splice.{spliced};
 
-// A byte as a word.
-fn wide(byte: u8) -> u32
-    ensures { result ≡ byte }
-{
-    byte as u32
-}
-
 // The little-endian word of four bytes.
 pub fn join_le32(a: u8, b: u8, c: u8, d: u8) -> u32
     ensures { result ≡ le32 a b c d }
 {
-    wide(a) + wide(b) * 256 + wide(c) * 65536 + wide(d) * 16777216
+    u32::from_le_bytes([a, b, c, d])
 }
 
 // The little-endian word at an offset of `bytes`.
+#[tactic(auto, unfolding(crate::specs::Word::le32_at))]
 pub fn read_le32(bytes: &[u8], at: usize) -> u32
     requires { at + 4 ≤ length bytes.now }
     ensures { result ≡ le32_at bytes.now at }
@@ -29,22 +23,12 @@ pub fn read_le32(bytes: &[u8], at: usize) -> u32
 }
 
 // The big-endian word at an offset of `bytes`.
+#[tactic(auto, unfolding(crate::specs::Word::be32_at))]
 pub fn read_be32(bytes: &[u8], at: usize) -> u32
     requires { at + 4 ≤ length bytes.now }
     ensures { result ≡ be32_at bytes.now at }
 {
-    join_le32(bytes[at + 3], bytes[at + 2], bytes[at + 1], bytes[at])
-}
-
-// Puts four bytes in the place of those from an offset on.
-fn store4(bytes: &mut [u8], at: usize, a: u8, b: u8, c: u8, d: u8)
-    requires { at + 4 ≤ length bytes.old }
-    ensures { bytes.new ≡ spliced at (a ∷ b ∷ c ∷ d ∷ []) bytes.old }
-{
-    bytes[at] = a;
-    bytes[at + 1] = b;
-    bytes[at + 2] = c;
-    bytes[at + 3] = d;
+    u32::from_be_bytes([bytes[at], bytes[at + 1], bytes[at + 2], bytes[at + 3]])
 }
 
 // Writes a word at an offset of `bytes`, low byte first.
@@ -52,14 +36,11 @@ pub fn write_le32(bytes: &mut [u8], at: usize, word: u32)
     requires { at + 4 ≤ length bytes.old }
     ensures { bytes.new ≡ spliced at (le_bytes word) bytes.old }
 {
-    store4(
-        bytes,
-        at,
-        (word % 256) as u8,
-        (word / 256 % 256) as u8,
-        (word / 65536 % 256) as u8,
-        (word / 16777216 % 256) as u8,
-    );
+    let [a, b, c, d] = word.to_le_bytes();
+    bytes[at] = a;
+    bytes[at + 1] = b;
+    bytes[at + 2] = c;
+    bytes[at + 3] = d;
 }
 
 // Writes words from an offset of `bytes` on, one after the other, each low byte first.
@@ -67,10 +48,8 @@ pub fn write_le_words(bytes: &mut [u8], at: usize, words: &[u32])
     requires { at + 4 * length words.now ≤ length bytes.old }
     ensures { bytes.new ≡ spliced at (words_bytes words.now) bytes.old }
 {
-    let mut k = 0;
-    while k < words.len() {
-        write_le32(bytes, at + 4 * k, words[k]);
-        k += 1;
+    for (k, &word) in words.iter().enumerate() {
+        write_le32(bytes, at + 4 * k, word);
     }
 }
 

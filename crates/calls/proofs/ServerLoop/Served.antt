@@ -12,20 +12,19 @@ use Rattle.engine_record.specs.declared.EngineRecord.{EngineRecord}
 use Rattle.engine_record.specs.Staged.{no_staged, missing_bytes}
 use Rattle.engine_record.specs.Rules.{valid}
 use Rattle.queue.specs.declared.Answer.TheVariants.{Accepted, Missing}
-use Rattle.queue.specs.declared.Reply.{Reply}
-use Rattle.queue.specs.Answers.{refusal_number_of, value_of, answer_unless_refused}
+use Rattle.queue.specs.declared.Refusal.{Refusal}
+use Rattle.queue.specs.Answers.{number_of, refusal_numbered, refusal_number_of, value_of, answer_unless_refused}
 use Rattle.queue.specs.Refusals.{first_refusal, open_table, submit_table, cancel_table, close_table, set_up_table}
-use Rattle.queue.specs.Calls.{unless_refused, initial_record, no_setup, with_client, submitted, set_up_result, open_result, submit_result, submit_number, submit_ring, with_staged, begun, begin_result, more, is_last, piece_number, after_piece, piece_result, piece_ring, cancel_result, without_client, close_result, pending_answer}
+use Rattle.queue.specs.Calls.{unless_refused, initial_record, no_setup, with_client, submitted, set_up_result, open_result, submit_result, submit_number, submit_ring, with_staged, begun, begin_result, more, is_last, piece_number, after_piece, piece_result, piece_ring, cancel_result, without_client, close_result}
 use Rattle.queue.proofs.Preservation.{unless_keeps, set-up-number, open_number, submit-number, begin-number, piece-number, cancel-number, close-number, set-up_preserves, open_preserves, submit_preserves, begin_preserves, piece_preserves, cancel_preserves, close_preserves}
-use Rattle.engine.specs.declared.RunResult.{RunResult}
-use Rattle.engine.specs.Outcome.{run_refusal_of as refusalOf, values_of}
 use Rattle.engine.specs.Close.{close_memory}
 use Rattle.engine.specs.Run.{run_number, without_oldest, run_result, run_memory}
 use Rattle.engine.proofs.Preservation.{run-number, run_preserves}
 use Rattle.engine.specs.Answers.{last_of}
 use Rattle.model.specs.Windows.{Window}
-use Rattle.model.specs.Calls.{Setup, Call, opens, submit, run, pending, begin, piece, cancel, close, Answer}
-use Rattle.claims.specs.Engine.{State, mk_state, model_answer_of, perform_call, answers_of, state_after, answer_or_refusal, initial_state, SetUpAccepted}
+use Rattle.model.specs.Calls.{Setup, Call, opens, submit, run, pending, begin, piece, cancel, close, Answer, refused}
+use Rattle.claims.specs.Engine.{State, model_reply_of, perform_call, answers_of, state_after, answer_or_refusal, initial_state, SetUpAccepted}
+use Rattle.claims.proofs.Cases.{refuses}
 use Rattle.claims.proofs.Simulation.{like_model}
 use Rattle.claims.proofs.Ring.{ring-after}
 use Rattle.record_bytes.specs.Read.{record_of}
@@ -67,11 +66,11 @@ record Steps (c : Call) (x : State) (a : Answer) (t : CallBuffers) : Type 0 wher
 of_piece-answer : (n : ℕ) (b : Bool) (ticket left : ℕ) →
     answer_or_refusal (refusal_number_of (answer_unless_refused n (cond b (Accepted ticket) (Missing left))))
     (of_piece (last_of (answer_unless_refused n (cond b (Accepted ticket) (Missing left)))) (value_of (answer_unless_refused n (cond b (Accepted ticket) (Missing left)))))
-    ≡ answer_or_refusal (refusal_number_of (answer_unless_refused n (cond b (Accepted ticket) (Missing left)))) (model_answer_of (answer_unless_refused n (cond b (Accepted ticket) (Missing left))))
+    ≡ answer_or_refusal (refusal_number_of (answer_unless_refused n (cond b (Accepted ticket) (Missing left)))) (model_reply_of (answer_unless_refused n (cond b (Accepted ticket) (Missing left))))
 unfolding answer_unless_refused answer_or_refusal
 of_piece-answer zero true ticket left = refl
 of_piece-answer zero false ticket left = refl
-of_piece-answer (suc n) b ticket left = refl
+of_piece-answer (suc n) b ticket left = let r : Refusal = refusal_numbered (suc n) in refuses r (of_piece 0 0) ∙ sym (refuses r (refused (number_of r)))
 
 -- ---- each call
 

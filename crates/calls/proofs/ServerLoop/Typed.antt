@@ -1,17 +1,15 @@
 -- The calls keep what the types say of a record.
-use mathlib.Core.Path.{◌≡◌, refl}
+use mathlib.Core.Path.{◌≡◌}
 use mathlib.Core.Bool.{Bool, true, false, cond}
 use mathlib.Core.List.{List, [], ◌∷◌}
-use Prim.Native.Nat.{ℕ, zero, suc, ◌+◌, ◌-◌, ◌%◌, ◌≤◌, ◌<◌, ◌^◌}
+use Prim.Native.Nat.{ℕ, zero, suc, ◌+◌, ◌-◌, ◌≤◌, ◌<◌, ◌^◌}
 use native.Mathlib.Omega.{arith}
 use lib.ListN.{length, get_or, set}
 use Rattle.engine_record.specs.declared.Setup.{Setup}
 use Rattle.engine_record.specs.declared.Window.{Window}
 use Rattle.engine_record.specs.declared.Client.{Client}
 use Rattle.engine_record.specs.declared.Batch.{Batch}
-use Rattle.engine_record.specs.declared.Slot.{Slot}
-use Rattle.engine_record.specs.declared.SlotState.{SlotState}
-use Rattle.engine_record.specs.declared.SlotState.TheVariants.{Free, Ready}
+use Rattle.std.proofs.Common.{Option}
 use Rattle.engine_record.specs.declared.Staged.{Staged}
 use Rattle.engine_record.specs.declared.EngineRecord.{EngineRecord}
 use Rattle.engine_record.specs.Slots.{free, lowest_free}
@@ -42,7 +40,7 @@ clients-set P [] i c h p = tt
 clients-set P (x ∷ cs) zero c h p = (p, h.1)
 clients-set P (x ∷ cs) (suc i) c h p = (h.0, clients-set P cs i c h.1 p)
 
-slots_set : (P : SlotState → Type 0) (ss : List Slot) (i : ℕ) (s : Slot) → AllSlots P ss → P s.state → AllSlots P (set ss i s)
+slots_set : (P : Option Batch → Type 0) (ss : List (Option Batch)) (i : ℕ) (s : Option Batch) → AllSlots P ss → P s → AllSlots P (set ss i s)
 slots_set P [] i s h p = tt
 slots_set P (x ∷ ss) zero s h p = (p, h.1)
 slots_set P (x ∷ ss) (suc i) s h p = (h.0, slots_set P ss i s h.1 p)

@@ -2,13 +2,10 @@ use Rattle.pixel.specs.Rules.{blend_mode_factors}
 use Rattle.pixel.specs.declared.blend.BlendMode.TheVariants.{SrcOver}
 use Rattle.lanes.specs.Lanes.{Done}
 use Rattle.plan.specs.Blend.{blend_at}
-use Prim.Native.Nat.{◌-◌, ◌%◌, ◌≤◌}
+use Prim.Native.Nat.{◌*◌}
 use mathlib.Core.Path.{◌≡◌}
 use lib.ListN.{length}
 use Rattle.combine.proofs.over_turns.Given as goal
 
-abbrev pub invariant-loop-o : goal.invariant-loop-o
-invariant-loop-o l = ((l.o ≤ l.n) × ((l.o % 16 ≡ 0) × (length l.d ≡ length l.initial.d))) × Done (blend_at (blend_mode_factors SrcOver) l.s l.initial.d) l.initial.d l.d 0 l.o
-
-abbrev pub decreases-loop-o : goal.decreases-loop-o
-decreases-loop-o l = l.n - l.o
+abbrev pub invariant-loop-k : goal.invariant-loop-k
+invariant-loop-k l = record { same_length : length l.d ≡ length l.initial.d; blended : Done (blend_at (blend_mode_factors SrcOver) l.s l.initial.d) l.initial.d l.d 0 (l.k * 16) }

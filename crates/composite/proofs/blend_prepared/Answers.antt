@@ -9,4 +9,4 @@ constant_alpha_row-requires c =
     let mode = c.args.source.mode in
     let p = c.args.p in
     let h : has_constant_alpha mode p ≡ true = sym c.has_constant_alpha.ensures ∙ c.if-has_constant_alpha.true in
-    ((c.requires.0.0, c.requires.1.0 (is_global mode p h)), (c.requires.1.1, constant_factors mode p h))
+    ((c.requires.0.0, c.requires.1 (is_global mode p h)), constant_factors mode p h)

@@ -6,7 +6,7 @@ use Rattle.composite.proofs.mix_row.Goals as goal
 pub blend_prepared-requires : goal.blend_prepared-requires
 blend_prepared-requires c = (
   (omega (arith, c.requires.wide, c.requires.room, c.prepare_row.auto.row, c.alpha_row.auto.row, c.alpha_row-2.auto.row), omega (arith, c.requires.wide, c.alpha_row-2.auto.row)),
-  (λ is j l. global_alphas c.args.source _ _ c.args.width c.alpha_row.ensures is j (omega (arith, c.requires.wide, c.alpha_row-2.auto.row)), c.requires.planned),
+  λ is j l. global_alphas c.args.source _ _ c.args.width c.alpha_row.ensures is j (omega (arith, c.requires.wide, c.alpha_row-2.auto.row)),
 )
 
 pub returns : goal.returns

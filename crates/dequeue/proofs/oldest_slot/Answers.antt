@@ -5,4 +5,4 @@ pub slot_of_age-requires : goal.slot_of_age-requires
 slot_of_age-requires c = omega (arith, c.requires.0, c.requires.1)
 
 pub returns : goal.returns
-returns c = rw (c.slot_of_age.ensures, c.requires.1)
+returns c = rw c.requires.1 at c.slot_of_age.ensures

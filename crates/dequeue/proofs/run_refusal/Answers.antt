@@ -1,24 +1,28 @@
-use mathlib.Core.Path.{◌≡◌, sym, ◌∙◌}
-use mathlib.Core.Bool.{true}
-use borrow.Author.Tests.{not-true, not-false}
+use Rattle.std.proofs.Common.{◌≡◌, true, false, is_some, Option, sym, ap, ◌∙◌, arith}
+use Rattle.std.proofs.lemmas.Grind.{common_steps}
+use Rattle.engine_record.specs.declared.Counted.{Counted}
 use Rattle.engine_record.specs.Rules.{valid}
-use Rattle.engine_record.proofs.Checking.{checked_valid, checked_ready}
+use Rattle.engine_record.proofs.Checking.{checked_valid, counted_valid, counted_ready}
 use Rattle.queue.specs.Refusals.{first_refusal}
-use Rattle.queue.proofs.Refusals.{eleven}
-use Rattle.dequeue.proofs.run_refusal.Goals.{Else-not-found, Start}
+use Rattle.dequeue.proofs.run_refusal.Goals.{In-Some}
 use Rattle.dequeue.proofs.run_refusal.Goals as goal
 
--- the test of the record
-tested : (c : Start) → c.args.found.valid ≡ valid c.args.engine
-tested c = checked_valid c.args.engine c.args.found c.requires
+right : (c : In-Some) → valid c.args.engine ≡ true
+right c = counted_valid c.args.engine c.in-Some.counted (sym c.in-Some.is ∙ c.requires)
 
-right : (c : Else-not-found) → valid c.args.engine ≡ true
-right c = sym (tested c.before.before) ∙ not-false _ c.if-not-found.false
+pub returns-in_default : goal.returns-in_default
+unfolding first_refusal
+returns-in_default c =
+    let v : valid c.args.engine ≡ false = sym (checked_valid c.args.engine c.args.found c.requires) ∙ ap (λ (f : Option Counted). is_some f) c.in_default.is in
+    grind (arith, common_steps)
 
-pub returns-then-not-found : goal.returns-then-not-found
-returns-then-not-found c = eleven _ (valid c.args.engine) (sym (tested (goal.at.returns-then-not-found c).Start) ∙ not-true _ c.if-not-found.true)
+pub returns-in_err-refuse : goal.returns-in_err-refuse
+unfolding first_refusal
+returns-in_err-refuse c = let v = right (goal.at.returns-in_err-refuse c).In-Some in grind (arith, common_steps)
 
 pub returns : goal.returns
 unfolding first_refusal
 returns c =
-    rw (right (goal.at.returns c).Else-not-found, c.first_refusal-2.ensures, c.first_refusal.ensures, checked_ready c.args.engine c.args.found c.requires (right (goal.at.returns c).Else-not-found))
+    let v = right (goal.at.returns c).In-Some in
+    let r = counted_ready c.args.engine c.in-Some.counted (sym c.in-Some.is ∙ c.requires) in
+    grind (arith, common_steps)

@@ -10,15 +10,16 @@ use Rattle.encoder.specs.declared.fields.SurfaceFields.{SurfaceFields}
 use Rattle.encoder.specs.Forms.{first_form}
 use Rattle.encoder.specs.Encoder as encoder
 use Rattle.encoder.specs.declared.tint.Tint.{Tint}
-use Rattle.encoder.specs.declared.tint.Answer.TheVariants.{BadScore, Encoded}
-use Rattle.encoder.specs.Tint.{fields_of, answer_of, buffer_after}
+use Rattle.std.specs.Prelude.{Err}
+use Rattle.encoder.specs.declared.tint.TintError.TheVariants.{BadScore}
+use Rattle.encoder.specs.Tint.{fields_of, of_encoder, answer_of, buffer_after}
 
 module _ (score : Float) (tint : Tint) (output : SurfaceFields) (buffer : List ℕ) where
-  pub bad_score : is_score score ≡ false → (BadScore ≡ answer_of score tint output (length buffer)) × (buffer ≡ buffer_after score tint output buffer)
+  pub bad_score : is_score score ≡ false → (Err BadScore ≡ answer_of score tint output (length buffer)) × (buffer ≡ buffer_after score tint output buffer)
   unfolding answer_of buffer_after
   bad_score e = (rw e refl, rw e refl)
 
-  pub scored : is_score score ≡ true → (Encoded (encoder.answer_of (first_form (fields_of score tint output)) (length buffer)) ≡ answer_of score tint output (length buffer))
+  pub scored : is_score score ≡ true → (of_encoder (encoder.answer_of (first_form (fields_of score tint output)) (length buffer)) ≡ answer_of score tint output (length buffer))
       × (encoder.buffer_after (first_form (fields_of score tint output)) buffer ≡ buffer_after score tint output buffer)
   unfolding answer_of buffer_after
   scored e = (rw e refl, rw e refl)

@@ -21,8 +21,8 @@ use Rattle.register.specs.declared.bank.Bank.{Bank}
 use Rattle.task_check.specs.declared.task.Bounds.{Bounds}
 use Rattle.batch.specs.Batch.{decode_batch}
 use Rattle.batch.specs.Marks.{task_end_count}
-use Rattle.encoder.specs.declared.Answer.{Answer}
-use Rattle.encoder.specs.declared.Answer.TheVariants.{Written, Forbidden, ShortBuffer}
+use Rattle.encoder.specs.declared.EncodeError.{EncodeError}
+use Rattle.std.specs.Prelude.{Result, Ok, Err, ⊤}
 use Rattle.encoder.specs.declared.fields.SurfaceFields.{SurfaceFields}
 use Rattle.encoder.specs.Forms.{first_form}
 use Rattle.encoder.specs.Encoder as encoder
@@ -31,8 +31,9 @@ use Rattle.encoder.proofs.ReadsBack.{reads_back}
 use Rattle.encoder.proofs.Buffer.{accepted, front}
 use Rattle.score.specs.Coverage.{is_score, coverage_of}
 use Rattle.encoder.specs.declared.tint.Tint.{Tint}
-use Rattle.encoder.specs.declared.tint.Answer.TheVariants.{BadScore, Encoded}
-use Rattle.encoder.specs.Tint.{tint_colour, tint_fields, fields_of, answer_of, buffer_after}
+use Rattle.encoder.specs.declared.tint.TintError.{TintError}
+use Rattle.encoder.specs.declared.tint.TintError.TheVariants.{BadScore, Refused}
+use Rattle.encoder.specs.Tint.{tint_colour, tint_fields, fields_of, of_encoder, answer_of, buffer_after}
 use Rattle.encoder.specs.TintReadsBack.{tint_task, Handed, TintRoundTrip}
 use Rattle.encoder.proofs.tint.Cases.{scored}
 
@@ -69,15 +70,14 @@ module _ (score : Float) (tint : Tint) (output : SurfaceFields) (h : Handed tint
   same steps = rw (word-colour colour bytes) refl
 
   -- a tint that is written is the encoder's task, and is so in the buffer
-  written : (size : ℕ) → answer_of score tint output size ≡ Encoded Written → (is_score score ≡ true) × (encoder.answer_of (first_form (fields_of score tint output)) size ≡ Written)
+  written : (size : ℕ) → answer_of score tint output size ≡ Ok tt → (is_score score ≡ true) × (encoder.answer_of (first_form (fields_of score tint output)) size ≡ Ok tt)
   unfolding answer_of
   written size e = go (is_score score) (encoder.answer_of (first_form (fields_of score tint output)) size) refl refl e
     where
-      go : (b : Bool) (a : Answer) → is_score score ≡ b → encoder.answer_of (first_form (fields_of score tint output)) size ≡ a → cond b (Encoded a) BadScore ≡ Encoded Written
-          → (is_score score ≡ true) × (encoder.answer_of (first_form (fields_of score tint output)) size ≡ Written)
-      go true Written p q r = (p, q)
-      go true Forbidden p q r = absurd (let z : ◌≡◌ {A = ℕ} 0 1 = cc in omega arith)
-      go true ShortBuffer p q r = absurd (let z : ◌≡◌ {A = ℕ} 0 1 = cc in omega arith)
+      go : (b : Bool) (a : Result ⊤ EncodeError) → is_score score ≡ b → encoder.answer_of (first_form (fields_of score tint output)) size ≡ a → ◌≡◌ {A = Result ⊤ TintError} (cond b (of_encoder a) (Err BadScore)) (Ok tt)
+          → (is_score score ≡ true) × (encoder.answer_of (first_form (fields_of score tint output)) size ≡ Ok tt)
+      go true (Ok tt) p q r = (p, q)
+      go true (Err x) p q r = absurd (let z : ◌≡◌ {A = ℕ} 0 1 = cc in omega arith)
       go false a p q r = absurd (let z : ◌≡◌ {A = ℕ} 0 1 = cc in omega arith)
 
   after : (buffer : List ℕ) → is_score score ≡ true → buffer_after score tint output buffer ≡ encoder.buffer_after (first_form (fields_of score tint output)) buffer

@@ -1,4 +1,5 @@
 -- Run's words, and that run's numbers fit in words of 32 bits.
+use Rattle.std.proofs.Common.{Result, Ok}
 use mathlib.Core.Path.{◌≡◌, refl}
 use mathlib.Core.Bool.{true, not}
 use Prim.Native.Nat.{ℕ, zero, suc, ◌≤◌, ◌<◌, ◌%◌}
@@ -18,22 +19,22 @@ use Rattle.engine_record.specs.Tickets.{ticket_before, batch_of_ticket, in_ticke
 use Rattle.engine_record.specs.Queue.{ready_slots}
 use Rattle.engine_record.specs.Rules.{lengths_allowed, valid}
 use Rattle.engine_record.proofs.Rules.{valid_facts, length-good}
-use Rattle.engine.specs.declared.Outcome.{Outcome}
-use Rattle.engine.specs.declared.Outcome.TheVariants.{Completed}
+use Rattle.queue.specs.declared.Refusal.{Refusal}
+use Rattle.queue.specs.Answers.{answer_unless_refused}
 use Rattle.engine.specs.declared.Completion.{Completion}
-use Rattle.engine.specs.Run.{run_number, oldest, bounds_of_client, oldest_words, reset_of, oldest_verdict, outcome_unless_refused, run_result}
+use Rattle.engine.specs.Run.{run_number, oldest, bounds_of_client, oldest_words, reset_of, oldest_verdict, run_result}
 use Rattle.engine.proofs.Refusals.{run-allowed}
 use Rattle.engine.specs.Answers.{run_words, OutcomeFitsWords}
 
 -- ---- the words
 
-pub completed-words : (o : Outcome) (d : Completion) (status fault offset : ℕ) → o ≡ Completed d → status ≡ status_word_of d.verdict → fault ≡ faultOf d.verdict → offset ≡ fault_offset_of d.verdict →
+pub completed-words : (o : Result Completion Refusal) (d : Completion) (status fault offset : ℕ) → o ≡ Ok d → status ≡ status_word_of d.verdict → fault ≡ faultOf d.verdict → offset ≡ fault_offset_of d.verdict →
     (0 ∷ d.client ∷ d.ticket ∷ status ∷ fault ∷ offset ∷ []) ≡ run_words o
 completed-words o d status fault offset e s f p = rw (e, s, f, p)
 
 -- ---- run's numbers
 
-pub completed-small : (o : Outcome) (d : Completion) → o ≡ Completed d → OutcomeFitsWords o → (status_word_of d.verdict ≤ 4294967295) × (fault_offset_of d.verdict ≤ 4294967295)
+pub completed-small : (o : Result Completion Refusal) (d : Completion) → o ≡ Ok d → OutcomeFitsWords o → (status_word_of d.verdict ≤ 4294967295) × (fault_offset_of d.verdict ≤ 4294967295)
 completed-small o d e s = let q = rw e at s in (q.status, q.offset)
 
 pub word-whole : (n : ℕ) → n ≤ 4294967295 → n % 4294967296 ≡ n
@@ -55,11 +56,11 @@ oldest-short engine ok some = go (ready_slots engine) refl some
         rw e (omega (arith, good.within, v.numbers.ring.small))
 
 pub run_small : (engine : EngineRecord) (ring memory : List ℕ) → OutcomeFitsWords (run_result engine ring memory).outcome
-unfolding run_result outcome_unless_refused
+unfolding run_result answer_unless_refused
 run_small engine ring memory = go (run_number engine ring memory) refl
   where
     go : (n : ℕ) → run_number engine ring memory ≡ n →
-        OutcomeFitsWords (outcome_unless_refused n (Completed (record { client = (oldest engine).client; ticket = (oldest engine).ticket; verdict = oldest_verdict engine ring })))
+        OutcomeFitsWords (answer_unless_refused n (record { client = (oldest engine).client; ticket = (oldest engine).ticket; verdict = oldest_verdict engine ring }))
     go (suc n) e = record { status = omega arith; offset = omega arith }
     go zero e =
         let a = run-allowed engine (length ring) (length memory) e in

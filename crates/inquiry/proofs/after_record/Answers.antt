@@ -26,15 +26,15 @@ pub overflow_add-result : goal.overflow_add-result
 overflow_add-result c =
     omega (arith, few (goal.at.overflow_add-result c).Else-finding)
 
-pub returns-in-Refused : goal.returns-in-Refused
-returns-in-Refused c =
+pub returns-in-None : goal.returns-in-None
+returns-in-None c =
     let a = c.args in
     let entry : Entry = record { client = a.client; batch = a.batch.now } in
-    rw c.if-finding.false (after-refused a.question a.finding entry (refused_none entry _ c.accept-submitted.ensures c.in-Refused.is))
+    rw c.if-finding.false (after-refused a.question a.finding entry (refused_none entry _ c.accept.ensures c.in-None.is))
 
-pub returns-in-Within : goal.returns-in-Within
-returns-in-Within c =
+pub returns-in-Some : goal.returns-in-Some
+returns-in-Some c =
     let a = c.args in
     let entry : Entry = record { client = a.client; batch = a.batch.now } in
-    let took = within-taken entry _ c.accept-submitted.ensures _ c.in-Within.is in
-    rw c.if-finding.false (after-accepted a.question a.finding entry _ _ _ took.0 (few (goal.at.returns-in-Within c).Else-finding).1 took.1 c.after_batch-last.ensures c.after_why-reason.ensures)
+    let took = within-taken entry _ c.accept.ensures _ c.in-Some.is in
+    rw c.if-finding.false (after-accepted a.question a.finding entry _ _ _ took.0 (few (goal.at.returns-in-Some c).Else-finding).1 took.1 c.after_batch-last.ensures c.after_why-reason.ensures)

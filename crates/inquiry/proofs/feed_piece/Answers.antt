@@ -23,14 +23,14 @@ pub overflow_add-used : goal.overflow_add-used
 overflow_add-used c =
     omega (arith, within (goal.at.overflow_add-used c).After-feed-fed, c.well_formed.1.1.1.0.0)
 
-pub returns-then-count-eq0 : goal.returns-then-count-eq0
-returns-then-count-eq0 c =
+pub returns-then-fed-eq0 : goal.returns-then-fed-eq0
+returns-then-fed-eq0 c =
     let l = c.loop-used in
     let a = c.args in
-    λ seen S. absurd (piece-some a.question seen a.piece.now l.used c.feed-fed.result _ c.loop-used-test.true (c.feed-fed.ensures.1 (seen ++ take l.used a.piece.now) (l.invariant.2 seen S)) c.if-count-eq0.true)
+    λ seen S. absurd (piece-some a.question seen a.piece.now l.used c.feed-fed.result _ c.loop-used-test.true (c.feed-fed.ensures.1 (seen ++ take l.used a.piece.now) (l.invariant.2 seen S)) c.if-fed-eq0.true)
 
 pub loop-used-smaller : goal.loop-used-smaller
-loop-used-smaller c = omega (arith, within (goal.at.loop-used-smaller c).After-feed-fed, c.if-count-eq0.false)
+loop-used-smaller c = omega (arith, within (goal.at.loop-used-smaller c).After-feed-fed, c.if-fed-eq0.false)
 
 pub loop-used-preserved : goal.loop-used-preserved
 loop-used-preserved c =

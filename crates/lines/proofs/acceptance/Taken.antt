@@ -11,7 +11,7 @@ use lib.Dec.{eqb, ltb}
 use borrow.Author.Tests.{ltb-false, eqb-false, not-true, lt-ltb, le-leb}
 use Rattle.word.specs.Word.{words}
 use Rattle.word.proofs.Tests.{split, and-true, or_false}
-use Rattle.ring.specs.Segment.{segment, lies_in_ring, batch_words}
+use Rattle.ring.specs.Segment.{segment, batch_words}
 use Rattle.model.specs.Refusals.{bad_length}
 use Rattle.records.specs.declared.Edition.TheVariants.{First}
 use Rattle.lines.specs.Lines.{setup}
@@ -19,8 +19,7 @@ use Rattle.lines.specs.Answered.{record_refusal, replay_window}
 use Rattle.records.specs.Records.{Entry}
 use Rattle.task_check.specs.declared.task.Bounds.{Bounds}
 use Rattle.claims.specs.BatchSemantics.{bounds_of}
-use Rattle.lines.specs.declared.acceptance.Submitted.{Submitted}
-use Rattle.lines.specs.declared.acceptance.Submitted.TheVariants.{Refused, Within}
+use Rattle.std.specs.Prelude.{Option, Some, None}
 use Rattle.lines.specs.Submitted.{submitted_as}
 
 abbrev taken : (client size : ℕ) → Bool
@@ -54,20 +53,20 @@ whole_words xs some = rw (lt-ltb 0 (length xs) some, le-leb (length xs) (length 
 
 -- ---- what comes of a record says whether submit takes it
 
-module _ (entry : Entry) (r : Submitted) (is : r ≡ submitted_as entry) where
-  abbrev within : Submitted
-  within = Within (bounds_of (replay_window entry.client) 16384)
+module _ (entry : Entry) (r : Option Bounds) (is : r ≡ submitted_as entry) where
+  abbrev within : Option Bounds
+  within = Some (bounds_of (replay_window entry.client) 16384)
 
-  pub refused_none : r ≡ Refused → eqb (record_refusal entry) 0 ≡ false
+  pub refused_none : r ≡ None → eqb (record_refusal entry) 0 ≡ false
   refused_none e = go (eqb (record_refusal entry) 0) (sym is ∙ e)
     where
-      go : (took : Bool) → cond took within Refused ≡ Refused → took ≡ false
+      go : (took : Bool) → cond took within None ≡ None → took ≡ false
       go false same = refl
       go true wrong = absurd (let z : ◌≡◌ {A = ℕ} 0 1 = cc in omega arith)
 
-  pub within-taken : (bounds : Bounds) → r ≡ Within bounds → (eqb (record_refusal entry) 0 ≡ true) × (bounds ≡ bounds_of (replay_window entry.client) 16384)
+  pub within-taken : (bounds : Bounds) → r ≡ Some bounds → (eqb (record_refusal entry) 0 ≡ true) × (bounds ≡ bounds_of (replay_window entry.client) 16384)
   within-taken bounds e = go (eqb (record_refusal entry) 0) (sym is ∙ e)
     where
-      go : (took : Bool) → cond took within Refused ≡ Within bounds → (took ≡ true) × (bounds ≡ bounds_of (replay_window entry.client) 16384)
+      go : (took : Bool) → cond took within None ≡ Some bounds → (took ≡ true) × (bounds ≡ bounds_of (replay_window entry.client) 16384)
       go false wrong = absurd (let z : ◌≡◌ {A = ℕ} 0 1 = cc in omega arith)
       go true right = (refl, cc)

@@ -1,19 +1,22 @@
 -- Laws of the lines: texts typed one after another into a buffer that has room for any line.
 use mathlib.Core.Path.{◌≡◌, refl, ap, ◌∙◌}
 use mathlib.Core.List.{List, [], ◌∷◌, ◌++◌}
-use Prim.Native.Nat.{ℕ, ◌/◌, ◌%◌, ◌≤◌, zero, suc, ◌<◌}
+use Prim.Native.Nat.{ℕ, ◌/◌, ◌%◌, ◌≤◌}
 use native.Mathlib.Omega.{arith}
 use lib.ListN.{length, length-append}
 use Rattle.word.specs.Word.{byte_of, be_bytes}
 use Rattle.word.specs.Splice.{spliced}
-use Rattle.model.specs.Calls.{CompletionStatus, run, refused}
+use Rattle.model.specs.Calls.{CompletionStatus}
 use Rattle.text.specs.Line.{Line, line_of, pushed, appended}
 use Rattle.text.specs.Hex.{hex_bytes, hex_word}
 use Rattle.text.specs.Decimal.{decimal}
 use Rattle.text.proofs.Typing.{typed-append, typed-cons, typed_one, typed-whole, hex_size}
 use Rattle.lines.specs.Lines.{spaced, completion_line, refusal_line, answer_line}
 use Rattle.lines.specs.Prints.{Prints}
-use Rattle.engine.specs.declared.Outcome.TheVariants.{Refused}
+use Rattle.std.proofs.Common.{Err}
+use Rattle.queue.specs.declared.Refusal.{Refusal}
+use Rattle.queue.specs.Answers.{number_of}
+use Rattle.claims.proofs.Cases.{refuses}
 use Rattle.engine.specs.Outcome.{run_refusal_of as refusalOf, values_of}
 use Rattle.claims.specs.Engine.{answer_or_refusal, completion}
 
@@ -91,8 +94,7 @@ module _ (line line' : List ℕ) (written : ℕ) (room : 128 ≤ length line) wh
       completion-typed client ticket v a b c d f m n (rw (← is-fault) o) (rw (← is-offset) p) ea eb (cc) (cc) (cc) (e ∙ typed_one f 10)
 
 -- what is printed of a run that was refused
-pub outcome-refused : (client number : ℕ) → 0 < number
-    → answer_line client (answer_or_refusal (refusalOf (Refused number)) (completion (values_of (Refused number)))) ≡ refusal_line client number
-unfolding answer_line answer_or_refusal
-outcome-refused client zero h = absurd (omega arith)
-outcome-refused client (suc number) h = refl
+pub outcome-refused : (client : ℕ) (r : Refusal)
+    → answer_line client (answer_or_refusal (refusalOf (Err r)) (completion (values_of (Err r)))) ≡ refusal_line client (number_of r)
+unfolding answer_line
+outcome-refused client r = rw (refuses r (completion (values_of (Err r))))

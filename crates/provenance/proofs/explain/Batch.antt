@@ -11,10 +11,12 @@ use lib.Dec.{eqb}
 use Rattle.register.specs.declared.bank.Bank.{Bank}
 use Rattle.task_check.specs.declared.fault.Fault.{Fault}
 use Rattle.batch.specs.declared.verdict.Validation.{Validation}
-use Rattle.batch.specs.declared.verdict.Verdict.TheVariants.{Faultless, Faulty}
+use Rattle.std.specs.Prelude.{Option, Some, None}
+use Rattle.std.specs.Option.{option_map_or}
+use Rattle.batch.specs.declared.verdict.Verdict.{Verdict}
+use Rattle.batch.specs.declared.verdict.FaultAt.{FaultAt}
 use Rattle.batch.specs.Batch.{BatchEnd, finished, faulty, DecodedBatch, verdict_after, validation_of}
 use Rattle.provenance.specs.declared.Group.{Group}
-use Rattle.provenance.specs.declared.Why.TheVariants.{NoFault}
 use Rattle.provenance.specs.Faulted.{group_after, register_from, explained_by, explained}
 
 -- ---- the register of a word
@@ -47,24 +49,30 @@ module _ (ws : List ℕ) (r : DecodedBatch) (j : Validation) (is : j ≡ validat
   unfolding explained
   by_ending e same = ap (λ (b : Bank). explained_by ws b r.ending) (sym (ap (λ (q : Validation). q.bank) is)) ∙ ap (explained_by ws j.bank) (sym same)
 
-  pub explained-none : (n : ℕ) → j.verdict ≡ Faultless n → NoFault ≡ explained ws r
-  explained-none n v = go r.ending refl
+  -- how it ended
+  met : verdict_after (length r.tasks) r.ending ≡ j.verdict
+  met = sym (ap (λ (q : Validation). q.verdict) is)
+
+  pub explained-none : j.verdict.fault ≡ None → None ≡ explained ws r
+  explained-none v = go r.ending refl
     where
-      go : (e : BatchEnd) → e ≡ r.ending → NoFault ≡ explained ws r
+      go : (e : BatchEnd) → e ≡ r.ending → None ≡ explained ws r
       go finished same = sym (by_ending finished same)
       go (faulty f place) same =
-          let wrong : Faulty (length r.tasks) f place ≡ Faultless n = ap (verdict_after (length r.tasks)) same ∙ sym (ap (λ (q : Validation). q.verdict) is) ∙ v in
+          let wrong : ◌≡◌ {A = Option FaultAt} (Some (record { fault = f; offset = place })) None =
+          ap (λ (q : Verdict). q.fault) (ap (verdict_after (length r.tasks)) same ∙ met) ∙ v in
           absurd (let z : ◌≡◌ {A = ℕ} 0 1 = cc in omega arith)
 
-  pub explained-fault : (n : ℕ) (f : Fault) (place : ℕ) → j.verdict ≡ Faulty n f place → explained_by ws j.bank (faulty f place) ≡ explained ws r
-  explained-fault n f place v = go r.ending refl
+  pub explained-fault : (found : FaultAt) → j.verdict.fault ≡ Some found → explained_by ws j.bank (faulty found.fault found.offset) ≡ explained ws r
+  explained-fault found v = go r.ending refl
     where
-      go : (e : BatchEnd) → e ≡ r.ending → explained_by ws j.bank (faulty f place) ≡ explained ws r
+      go : (e : BatchEnd) → e ≡ r.ending → explained_by ws j.bank (faulty found.fault found.offset) ≡ explained ws r
       go finished same =
-          let wrong : Faultless (length r.tasks) ≡ Faulty n f place = ap (verdict_after (length r.tasks)) same ∙ sym (ap (λ (q : Validation). q.verdict) is) ∙ v in
+          let wrong : ◌≡◌ {A = Option FaultAt} None (Some found) = ap (λ (q : Verdict). q.fault) (ap (verdict_after (length r.tasks)) same ∙ met) ∙ v in
           absurd (let z : ◌≡◌ {A = ℕ} 0 1 = cc in omega arith)
       go (faulty g other) same =
-          let right : Faulty (length r.tasks) g other ≡ Faulty n f place = ap (verdict_after (length r.tasks)) same ∙ sym (ap (λ (q : Validation). q.verdict) is) ∙ v in
-          let fault : f ≡ g = cc in
-          let there : place ≡ other = cc in
+          let right : ◌≡◌ {A = Option FaultAt} (Some (record { fault = g; offset = other })) (Some found) =
+          ap (λ (q : Verdict). q.fault) (ap (verdict_after (length r.tasks)) same ∙ met) ∙ v in
+          let fault : g ≡ found.fault = ap (λ (o : Option FaultAt). option_map_or (λ (q : FaultAt). q.fault) o g) right in
+          let there : other ≡ found.offset = ap (λ (o : Option FaultAt). option_map_or (λ (q : FaultAt). q.offset) o other) right in
           sym (by_ending (faulty g other) same ∙ rw (fault, there))

@@ -1,19 +1,14 @@
 -- A record that lies in the buffer: its score, and what is submitted of it.
-use mathlib.Core.Path.{◌≡◌, refl, sym, ap, ◌∙◌}
-use mathlib.Core.Bool.{Bool, true, false, ◌&&◌}
-use mathlib.Core.List.{List, ◌++◌}
+use mathlib.Core.Path.{◌≡◌, refl, ap, ◌∙◌}
+use mathlib.Core.List.{List}
 use Prim.Native.Nat.{ℕ, ◌+◌, ◌-◌, ◌≤◌}
 use native.Mathlib.Omega.{arith}
 use lib.ListN.{length, get_or, take, drop, length-drop}
 use lib.Seq.{length-take-le, take-add, drop_at, drop-drop, get_or-take, get_or-drop}
-use lib.Dec.{leb}
-use borrow.Author.Tests.{le-leb, leb-true}
+use borrow.Author.Tests.{le-leb}
 use Rattle.word.specs.Word.{be32_at}
-use Rattle.word.proofs.Tests.{and-true}
-use Rattle.score.specs.ScoreWord.{is_score_word}
 use Rattle.records.specs.declared.Edition.{Edition}
 use Rattle.records.specs.declared.Edition.TheVariants.{First, Second}
-use Rattle.records.specs.Records.{Entry}
 use Rattle.records.specs.Reading.{batch_start, entry_in}
 use Rattle.records.specs.Editions.{score_holds, submission, score_in}
 

@@ -8,17 +8,17 @@ use Rattle.records.proofs.take_record.Goals as goal
 
 pub slice_bounds-copy_in-end : goal.slice_bounds-copy_in-end
 slice_bounds-copy_in-end c =
-    sym (length-take-le c.min_usize-taken.result c.args.input.now (omega arith))
+    sym (length-take-le c.min-taken.result c.args.input.now (omega arith))
 
 pub copy_in-requires : goal.copy_in-requires
 copy_in-requires c =
-    let size = length-take-le c.min_usize-taken.result c.args.input.now (omega arith) in
+    let size = length-take-le c.min-taken.result c.args.input.now (omega arith) in
     record { starts = omega arith; fits = omega arith }
 
 pub returns : goal.returns
 returns c =
     let d = c.decide.ensures in
-    let least = c.min_usize-taken.ensures in
+    let least = c.min-taken.ensures in
     let want = c.bytes_wanted-wanted.ensures in
     let copy = c.copy_in in (
       omega (arith, d.2, least),

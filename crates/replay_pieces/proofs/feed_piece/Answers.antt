@@ -1,6 +1,6 @@
 use Rattle.std.proofs.Common.{◌-◌, length, refl, arith, rules}
 use Rattle.surface.proofs.Parts.{length_mid}
-use Rattle.replay_pieces.proofs.Reaching.{feeding_none, feeding_more, piece_failed, all-used}
+use Rattle.replay_pieces.proofs.Reaching.{feeding_none, feeding_more, piece_failed}
 use Rattle.replay_pieces.proofs.feed_piece.Goals as goal
 
 pub loop-used-init : goal.loop-used-init
@@ -18,18 +18,18 @@ loop-used-preserved g c =
     let f = c.feed_lines-fed in
     let piece = c.args.piece.now in
     let rest = length_mid l.used (length piece - l.used) piece (omega (arith, l.invariant.0)) in
-    (omega (arith, f.ensures.within, rest, l.invariant.0), search rules, search rules, search rules, search rules, λ engine seen text S e. rw c.wrapping_add_u64-sum.ensures.value (feeding_more _ engine seen text piece _ l.used l.now l.sum _ _ _ (l.invariant.5 engine seen text S e) (length piece - l.used) _ f.result _ _ _ _ _ refl f.auto.out f.ensures c.show-printed.ensures))
+    (omega (arith, f.ensures.within, rest, l.invariant.0), search rules, search rules, search rules, search rules, λ engine seen text S e. (feeding_more _ engine seen text piece _ l.used l.now l.sum _ _ _ (l.invariant.5 engine seen text S e) (length piece - l.used) _ f.result _ _ _ _ _ refl f.auto.out f.ensures c.show-printed.ensures))
 
-pub returns-after-loop-used : goal.returns-after-loop-used
-returns-after-loop-used g c =
-    let l = c.loop-used in
-    λ engine seen text S e.
-    let G = l.invariant.5 engine seen text S e in
-    record { used = l.used; more = G.more; of = G.of; stands = G.stands; counts = G.counts; whole = λ ok. all-used l.used _ l.ok c.loop-used-test.false l.invariant.0 ok }
-
-pub returns-then-count-eq0 : goal.returns-then-count-eq0
-returns-then-count-eq0 g c =
+pub returns-then-fed-eq0 : goal.returns-then-fed-eq0
+returns-then-fed-eq0 g c =
     let l = c.loop-used in
     let f = c.feed_lines-fed in
     let piece = c.args.piece.now in
-    λ engine seen text S e. rw c.wrapping_add_u64-sum.ensures.value (piece_failed _ engine seen text piece _ _ _ _ _ _ _ (feeding_more _ engine seen text piece _ l.used l.now l.sum _ _ _ (l.invariant.5 engine seen text S e) (length piece - l.used) _ f.result _ _ _ _ _ refl f.auto.out f.ensures c.show-printed.ensures))
+    λ engine seen text S e. piece_failed _ _ engine seen text piece _ _ _ _ _ _ _ (feeding_more _ engine seen text piece _ l.used l.now l.sum _ _ _ (l.invariant.5 engine seen text S e) (length piece - l.used) _ f.result _ _ _ _ _ refl f.auto.out f.ensures c.show-printed.ensures)
+
+pub returns : goal.returns
+returns g c =
+    let l = c.loop-used in
+    λ engine seen text S e.
+    let G = l.invariant.5 engine seen text S e in
+    record { used = l.used; more = G.more; of = G.of; stands = G.stands; counts = G.counts; whole = λ ok. omega (arith, l.invariant.0, c.loop-used-test.false) }

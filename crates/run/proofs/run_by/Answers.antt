@@ -3,70 +3,72 @@ use native.Mathlib.Omega.{arith}
 use lib.ListN.{length}
 use Prim.Native.Nat.{ℕ, ◌<◌}
 use Rattle.engine_record.specs.declared.Batch.{Batch}
-use Rattle.engine_record.proofs.Checking.{checked_ready}
+use Rattle.engine_record.proofs.Checking.{checked_there, counted_ready}
+use Rattle.engine_record.proofs.First.{first_some, place_is}
 use Rattle.engine_record.specs.Tickets.{slot_of_ticket}
 use Rattle.engine.specs.Run.{oldest, oldest_ticket}
 use Rattle.engine.proofs.Oldest.{slot_below, owner_small, oldest-room}
 use Rattle.engine.proofs.Refusals.{RunAllowed, run-allowed}
 use Rattle.engine.proofs.Calls.{run-refused, run-made}
-use Rattle.run.proofs.run_by.Goals.{After-batch_of-batch, Else-number-ne0}
+use Rattle.run.proofs.run_by.Goals.{After-batch_of-batch, After-unwrap-at, In_default}
 use Rattle.run.proofs.run_by.Goals as goal
 
-allowed : (c : Else-number-ne0) → RunAllowed c.args.engine (length c.args.ring.now) (length c.args.memory.now)
+allowed : (c : In_default) → RunAllowed c.args.engine (length c.args.ring.now) (length c.args.memory.now)
 allowed c =
-    let a = c.args in run-allowed a.engine (length a.ring.now) (length a.memory.now) (sym c.run_refusal-number.ensures ∙ c.if-number-ne0.false)
+    let a = c.args in run-allowed a.engine (length a.ring.now) (length a.memory.now) (sym c.in_default.ensures)
 
--- the slot is one of the eight
-slot : (c : Else-number-ne0) (k : ℕ) → k ≡ slot_of_ticket (oldest_ticket c.args.engine) c.args.engine.slots → k < 8
-slot c k e =
-    let a = allowed c in
-    omega (arith, slot_below c.args.engine a.ok a.some c.check-found.ensures.2, e)
+-- the slot is that of the oldest, one of the eight
+slot : (c : After-unwrap-at) → (c.unwrap-at.result ≡ slot_of_ticket (oldest_ticket c.args.engine) c.args.engine.slots) × (c.unwrap-at.result < 8)
+slot c = place_is c.oldest_slot.result (slot_of_ticket (oldest_ticket c.args.engine) c.args.engine.slots) 8 c.oldest_slot.ensures c.unwrap-at.result c.unwrap-at.ensures
 
 -- its batch is the oldest
 taken : (c : After-batch_of-batch) → c.batch_of-batch.result ≡ oldest c.args.engine
-taken c = c.batch_of-batch.ensures ∙ rw c.oldest_slot-at.ensures
+taken c = c.batch_of-batch.ensures ∙ rw (place_is c.oldest_slot.result (slot_of_ticket (oldest_ticket c.args.engine) c.args.engine.slots) 8 c.oldest_slot.ensures c.unwrap-at.result c.unwrap-at.ensures).0
 
-pub run_refusal-number-requires : goal.run_refusal-number-requires
-run_refusal-number-requires c = c.check-found.ensures.0
+pub run_refusal-requires : goal.run_refusal-requires
+run_refusal-requires c = c.check-found.ensures.found
 
-pub returns-then-number-ne0 : goal.returns-then-number-ne0
-returns-then-number-ne0 c =
+pub returns-in-Err : goal.returns-in-Err
+returns-in-Err c =
     let a = c.args in
-    run-refused a.engine a.ring.now a.memory.now c.run_refusal-number.result c.run_refusal-number.ensures c.if-number-ne0.true
+    run-refused a.engine a.ring.now a.memory.now c.in-Err.refusal c.in-Err.ensures
 
-pub oldest_slot-at-requires : goal.oldest_slot-at-requires
-oldest_slot-at-requires c =
-    (c.check-found.ensures.1, checked_ready c.args.engine c.check-found.result c.check-found.ensures.0 (allowed (goal.at.oldest_slot-at-requires c).Else-number-ne0).ok)
+pub unwrap-requires : goal.unwrap-requires
+unwrap-requires c = checked_there c.args.engine c.check-found.result c.check-found.ensures.found (allowed (goal.at.unwrap-requires c).In_default).ok
 
-pub offset_bounds-slots-at : goal.offset_bounds-slots-at
-offset_bounds-slots-at c = let h = slot (goal.at.offset_bounds-slots-at c).Else-number-ne0 c.oldest_slot-at.result c.oldest_slot-at.ensures in omega arith
+pub oldest_slot-requires : goal.oldest_slot-requires
+oldest_slot-requires c = (c.check-found.ensures.few, counted_ready c.args.engine c.unwrap.result (sym c.unwrap.ensures ∙ c.check-found.ensures.found))
 
-pub bounds-slots-at : goal.bounds-slots-at
-bounds-slots-at c = slot (goal.at.bounds-slots-at c).Else-number-ne0 c.oldest_slot-at.result c.oldest_slot-at.ensures
+pub unwrap-at-requires : goal.unwrap-at-requires
+unwrap-at-requires c =
+    let a = allowed (goal.at.unwrap-at-requires c).In_default in
+    first_some c.oldest_slot.result (slot_of_ticket (oldest_ticket c.args.engine) c.args.engine.slots) 8 c.oldest_slot.ensures (slot_below c.args.engine a.ok a.some (omega arith))
+
+pub bounds-engine-at : goal.bounds-engine-at
+bounds-engine-at c = (slot (goal.at.bounds-engine-at c).After-unwrap-at).1
 
 pub bounds_for-bounds-requires : goal.bounds_for-bounds-requires
 bounds_for-bounds-requires c =
-    let a = allowed (goal.at.bounds_for-bounds-requires c).Else-number-ne0 in
+    let a = allowed (goal.at.bounds_for-bounds-requires c).In_default in
     let one = owner_small c.args.engine a.ok a.some in
     omega (arith, ap (λ (b : Batch). b.client) (taken c))
 
 pub run_batch-verdict-requires : goal.run_batch-verdict-requires
 run_batch-verdict-requires c =
     let f = c.bounds_for-bounds in
-    let a = allowed (goal.at.run_batch-verdict-requires c).Else-number-ne0 in
+    let a = allowed (goal.at.run_batch-verdict-requires c).In_default in
     oldest-room c.args.engine a.ok a.some _ a.memory c.batch_of-batch.result (taken (goal.at.run_batch-verdict-requires c).After-batch_of-batch) f.result f.ensures.0
 
 pub without_oldest-requires : goal.without_oldest-requires
 without_oldest-requires c =
-    let o = c.oldest_slot-at in
-    let a = allowed (goal.at.without_oldest-requires c).Else-number-ne0 in
-    (a.ok, a.some, c.bounds_for-bounds.ensures.1, c.check-found.ensures.2, o.ensures, taken (goal.at.without_oldest-requires c).After-batch_of-batch)
+    let a = allowed (goal.at.without_oldest-requires c).In_default in
+    (a.ok, a.some, c.bounds_for-bounds.ensures.1, omega arith, (slot (goal.at.without_oldest-requires c).After-unwrap-at).0, taken (goal.at.without_oldest-requires c).After-batch_of-batch)
 
 pub returns : goal.returns
 returns c =
     let f = c.bounds_for-bounds in
     let d = c.run_batch-verdict in
     let r = c.bank_for in
-    run-made c.args.engine c.args.ring.now c.args.memory.now (sym c.run_refusal-number.ensures ∙ c.if-number-ne0.false)
+    run-made c.args.engine c.args.ring.now c.args.memory.now (sym c.in_default.ensures)
     c.batch_of-batch.result (taken (goal.at.returns c).After-batch_of-batch) f.result f.ensures.0 r.result r.ensures
     d.result d.ensures.0 c.without_oldest.result c.without_oldest.ensures _ d.ensures.1

@@ -6,7 +6,6 @@ use borrow.Rule.Slice.PartMut.{mid_of}
 use Rattle.surface.proofs.Parts.{length_mid}
 use Rattle.row_pixels.specs.Row.{colour_in}
 use Rattle.row_pixels.specs.Composite.{composite}
-use Rattle.plan.proofs.Factors.{planned-is}
 use Rattle.row_pixels.proofs.RowColours.Parts.{part_colour, mixed-small, holds_part}
 use Rattle.scanline.proofs.blend_row.Goals as goal
 
@@ -14,12 +13,10 @@ pub mix_row-requires : goal.mix_row-requires
 mix_row-requires c =
     let a = c.args in
     let n : ℕ = a.width * 4 - 0 in
-    let p = planned-is _ _ c.requires.2 in
     record {
       wide = omega (arith, length_mid 0 n a.destination.now (omega (arith, c.requires.1)));
       room = c.requires.0;
-      planned = p.0;
-      rule = p.1;
+      rule = c.requires.2;
     }
 
 pub returns : goal.returns

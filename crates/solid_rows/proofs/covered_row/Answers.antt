@@ -1,10 +1,8 @@
-use mathlib.Core.Path.{◌≡◌, ap}
+use mathlib.Core.Path.{◌≡◌}
 use Prim.Native.Nat.{◌+◌, ◌-◌}
 use native.Mathlib.Omega.{arith}
 use Rattle.surface.specs.Surface.{row_start}
 use Rattle.raster.proofs.Place.{starts, ordered, room, length-window, row_fits, row-drawn}
-use Rattle.solid_rows.specs.Solid.{solid_of}
-use Rattle.solid_rows.specs.declared.colour.Solid.{Solid}
 use Rattle.kinds.specs.declared.Kind.TheVariants.{Solid as Covered}
 use Rattle.raster.proofs.Parts.{of_kind}
 use Rattle.solid_rows.proofs.Over.{solid_pixel}
@@ -20,13 +18,10 @@ slice_bounds-solid_at-start c =
 
 pub solid_at-requires : goal.solid_at-requires
 solid_at-requires c =
-    let r = c.requires.0 in (
-      record { inside = omega (arith, row_fits r _ c.row_start.ensures, length-window r); format = (of_kind c.args.window c.args.task Covered c.requires.1).placed.to },
-      c.requires.3,
-    )
+    let r = c.requires.0 in
+    record { inside = omega (arith, row_fits r _ c.row_start.ensures, length-window r); format = (of_kind c.args.window c.args.task Covered c.requires.1).placed.to }
 
 pub returns : goal.returns
-unfolding solid_of
 returns c =
     let f = c.solid_at in
     let a = c.args in
@@ -34,4 +29,4 @@ returns c =
     let e : a.window.start + (c.row_start.result - a.window.start) ≡ row_start a.task.output a.y = omega (arith, starts r, c.row_start.ensures) in
     row-drawn r _ c.row_start.result f.new.window c.row_start.ensures f.ensures
     (λ x u. solid_pixel a.task a.memory.now a.solid.colour a.window.start (a.window.end - a.window.start) (c.row_start.result - a.window.start) x a.y
-    (of_kind a.window a.task Covered c.requires.1) e (row_fits r _ c.row_start.ensures) u (ap (λ (q : Solid). q.colour) c.requires.2))
+    (of_kind a.window a.task Covered c.requires.1) e (row_fits r _ c.row_start.ensures) u c.requires.2)

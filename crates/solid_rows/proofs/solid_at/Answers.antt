@@ -11,12 +11,12 @@ pub solid_row-requires : goal.solid_row-requires
 solid_row-requires c =
     let a = c.args in
     let k : ℕ = a.at + c.row_length.result - a.at in
-    let long = length_mid a.at k a.window.now (omega (arith, c.requires.0.inside, c.row_length.ensures)) in
-    (omega (arith, long, c.row_length.ensures, argb-length a.output c.requires.0.format), c.requires.1)
+    let long = length_mid a.at k a.window.now (omega (arith, c.requires.inside, c.row_length.ensures)) in
+    omega (arith, long, c.row_length.ensures, argb-length a.output c.requires.format)
 
 pub returns : goal.returns
 returns c =
     let a = c.args in
     let f = c.solid_row in
     let e : a.at + c.row_length.result - a.at ≡ row_length a.output = omega (arith, c.row_length.ensures) in
-    solid_lent a.output a.solid.colour a.window.now f.new.d a.at _ c.requires.0.format e c.requires.0.inside f.ensures
+    solid_lent a.output a.solid.colour a.window.now f.new.d a.at _ c.requires.format e c.requires.inside f.ensures

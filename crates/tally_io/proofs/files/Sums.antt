@@ -1,14 +1,12 @@
 -- The loop over the arguments makes the sums of the theorem over files.
-use mathlib.Core.Path.{◌≡◌, sym, ◌∙◌}
+use mathlib.Core.Path.{◌≡◌}
 use mathlib.Core.Bool.{false}
-use Prim.Native.Nat.{ℕ, ◌+◌, ◌≤◌}
 use native.Mathlib.Omega.{arith}
 use Rattle.totals.specs.declared.FilesOutcome.{FilesOutcome}
-use Rattle.totals.specs.Files.{AddsFiles, Refused}
-use Rattle.tally.specs.Tally.{total_of}
+use Rattle.totals.specs.Files.{Refused}
 use Rattle.tally.proofs.Order.{promise as tally-sums}
 use Rattle.tally_io.specs.Kinds.{AddsOf}
-use Rattle.tally_io.specs.Sums.{TooMuch, SumOfFiles, ArgumentSums}
+use Rattle.tally_io.specs.Sums.{TooMuch, ArgumentSums}
 
 too_much : (r : FilesOutcome) → Refused (AddsOf false) r.answer → TooMuch r.answer.totals
 unfolding AddsOf

@@ -1,44 +1,42 @@
 -- A number read digit by digit.
-use mathlib.Core.Path.{◌≡◌, refl, sym, ap, ◌∙◌}
+use mathlib.Core.Path.{◌≡◌, refl, ◌∙◌}
 use mathlib.Core.Bool.{Bool, true, false, cond, ◌&&◌}
-use mathlib.Core.Logic.{◌⊎◌, inl, inr}
 use mathlib.Core.List.{List, [], ◌∷◌, ◌++◌}
-use Prim.Native.Nat.{ℕ, suc, ◌+◌, ◌-◌, ◌*◌, ◌/◌, ◌≤◌, ◌<◌}
+use Prim.Native.Nat.{ℕ, suc, ◌+◌, ◌-◌, ◌*◌, ◌≤◌, ◌<◌}
 use native.Mathlib.Omega.{arith}
 use lib.ListN.{length, get_or, drop, drop_of_length-le}
 use lib.Dec.{leb}
-use borrow.Author.Tests.{le-leb, lt-leb, leb-true, leb-false}
-use Rattle.word.proofs.Tests.{split, and-true, and-false}
+use borrow.Author.Tests.{le-leb, lt-leb, leb-true}
+use Rattle.word.proofs.Tests.{and-true}
 use Rattle.text.proofs.Typing.{rest-next}
-use Rattle.text.specs.declared.numerals.Numeral.{Numeral}
 use Rattle.text.specs.Numerals.{is_digit, all_digits, decimal_value, numeral_from}
-
--- room for a digit more
-pub fits-is : (value digit largest : ℕ) → digit ≤ largest → leb value ((largest - digit) / 10) ≡ leb (value * 10 + digit) largest
-fits-is value digit largest some = go (split largest (value * 10 + digit))
-  where
-    go : (largest < value * 10 + digit) ⊎ (value * 10 + digit ≤ largest) → leb value ((largest - digit) / 10) ≡ leb (value * 10 + digit) largest
-    go (inl h) = rw (lt-leb value ((largest - digit) / 10) (omega arith), lt-leb (value * 10 + digit) largest h)
-    go (inr h) = rw (le-leb value ((largest - digit) / 10) (omega arith), le-leb (value * 10 + digit) largest h)
 
 -- ---- the loop
 
-module _ (largest value end : ℕ) (text : List ℕ) (h : end < length text) where
+module _ (largest value end i : ℕ) (text : List ℕ) (h : i < length text) where
   abbrev byte : ℕ
-  byte = get_or text end 0
+  byte = get_or text i 0
 
-  pub numeral_more : is_digit byte && leb (value * 10 + (byte - 48)) largest ≡ true
-      → numeral_from largest value end (drop end text) ≡ numeral_from largest (value * 10 + (byte - 48)) (end + 1) (drop (end + 1) text)
+  pub numeral_more : 48 ≤ byte → byte ≤ 57 → value * 10 + (byte - 48) ≤ largest
+      → numeral_from largest value end (drop i text) ≡ numeral_from largest (value * 10 + (byte - 48)) (end + 1) (drop (i + 1) text)
   unfolding numeral_from
-  numeral_more e = rw (rest-next text end h, e)
+  numeral_more low high small = rw (rest-next text i h, le-leb 48 byte low, le-leb byte 57 high, le-leb (value * 10 + (byte - 48)) largest small)
 
-  pub numeral_stop : is_digit byte && leb (value * 10 + (byte - 48)) largest ≡ false → numeral_from largest value end (drop end text) ≡ record { value = value; end = end }
+  pub numeral_low : byte < 48 → numeral_from largest value end (drop i text) ≡ record { value = value; end = end }
   unfolding numeral_from
-  numeral_stop e = rw (rest-next text end h, e)
+  numeral_low low = rw (rest-next text i h, lt-leb 48 byte low)
 
-pub numeral_end : (largest value end : ℕ) (text : List ℕ) → length text ≤ end → numeral_from largest value end (drop end text) ≡ record { value = value; end = end }
+  pub numeral_high : 57 < byte → numeral_from largest value end (drop i text) ≡ record { value = value; end = end }
+  unfolding numeral_from
+  numeral_high high = rw (rest-next text i h, le-leb 48 byte (omega arith), lt-leb byte 57 high)
+
+  pub numeral_large : 48 ≤ byte → byte ≤ 57 → largest < value * 10 + (byte - 48) → numeral_from largest value end (drop i text) ≡ record { value = value; end = end }
+  unfolding numeral_from
+  numeral_large low high large = rw (rest-next text i h, le-leb 48 byte low, le-leb byte 57 high, lt-leb (value * 10 + (byte - 48)) largest large)
+
+pub numeral_end : (largest value end i : ℕ) (text : List ℕ) → length text ≤ i → numeral_from largest value end (drop i text) ≡ record { value = value; end = end }
 unfolding numeral_from
-numeral_end largest value end text h = rw (drop_of_length-le text h)
+numeral_end largest value end i text h = rw (drop_of_length-le text h)
 
 -- ---- digits, and what follows them
 

@@ -1,8 +1,8 @@
 -- The numbers of a text of totals, found one after another.
 use mathlib.Core.Path.{◌≡◌, refl, sym, ap, ◌∙◌}
 use mathlib.Core.Bool.{Bool, true, false, false≢true}
-use mathlib.Core.List.{List, [], ◌∷◌, ◌++◌}
-use Prim.Native.Nat.{ℕ, suc, ◌+◌, ◌≤◌, ◌<◌}
+use mathlib.Core.List.{List, ◌∷◌, ◌++◌}
+use Prim.Native.Nat.{ℕ, ◌+◌, ◌≤◌, ◌<◌}
 use native.Mathlib.Omega.{arith}
 use native.Mathlib.Numerals.{add-one}
 use lib.ListN.{length, get_or, set, take, drop}
@@ -13,7 +13,6 @@ use Rattle.text.specs.Numerals.{numeral_from}
 use Rattle.text.proofs.numerals.Printed.{numeral_decimal}
 use Rattle.totals.specs.declared.Totals.{Totals}
 use Rattle.totals.specs.Totals.{largest}
-use Rattle.totals.specs.declared.lines.Reading.{Reading}
 use Rattle.totals.specs.Lines.{label_of, count_lines, totals_text}
 use Rattle.totals.specs.Reading.{FourteenCounts, Reads, Finds}
 use Rattle.totals.proofs.lines.Lines.{lines-front}

@@ -1,31 +1,15 @@
-use mathlib.Core.Path.{refl, ◌∙◌}
-use Prim.Native.Nat.{◌-◌}
-use native.Mathlib.Omega.{arith}
-use Rattle.raster.proofs.Upto.{upto_none, upto_length, upto_row, upto_more, upto_all}
+use Rattle.std.proofs.Common.{◌≡◌, refl, rules}
+use Rattle.kinds.specs.Kinds.{kind_of}
+use Rattle.kinds.specs.declared.Kind.TheVariants.{Carried}
+use Rattle.raster.specs.Row.{RowDrawable, HoldsRow}
+use Rattle.raster.proofs.Steps.{draws_rows}
+use Rattle.raster.proofs.Upto.{row_drawable}
 use Rattle.unblended_rows.proofs.draw_carried.Goals as goal
 
-pub loop-y-init : goal.loop-y-init
-loop-y-init c = (upto_none _ _, refl)
-
-pub carried_row-requires : goal.carried_row-requires
-carried_row-requires c =
-    let l = c.loop-y in
-    (upto_row l.invariant.0 c.requires.0 c.loop-y-test.true, omega (arith, l.invariant.1, c.requires.1), c.requires.2)
-
-pub overflow_add-y : goal.overflow_add-y
-overflow_add-y c =
-    omega (arith, c.loop-y-test.true, c.requires.0.clear.output.height_max)
-
-pub loop-y-preserved : goal.loop-y-preserved
-loop-y-preserved c =
-    let l = c.loop-y in
-    let f = c.carried_row in (
-      upto_more l.invariant.0 c.requires.0 c.loop-y-test.true f.new.memory f.ensures,
-      f.auto.source ∙ l.invariant.1,
-    )
-
-pub shape_of-memory : goal.shape_of-memory
-shape_of-memory c = upto_length c.loop-y.invariant.0
-
-pub returns : goal.returns
-returns c = upto_all c.loop-y.invariant.0 (omega arith)
+pub draw_rows-requires-clause-draws : goal.draw_rows-requires-clause-draws
+draw_rows-requires-clause-draws c =
+    draws_rows _ _ _ (λ f. (f.0.now ≡ c.args.window) × (f.1.now ≡ c.args.task) × HoldsRow c.args.task.output.width f.2.now)
+    (λ f h memory y s l p e.
+    let r : RowDrawable f.0.now p.now f.1.now y × HoldsRow f.1.now.output.width f.2.now × (kind_of f.0.now f.1.now ≡ Carried) = rw (h.0, h.1, e) (row_drawable memory y c.requires.0 s l, h.2, c.requires.2) in
+    search rules)
+    (λ f h memory y s l f' memory' e. search rules) _ (refl, refl, c.requires.1)

@@ -8,7 +8,7 @@ use lib.ListN.{length, get_or}
 use borrow.Rule.Slice.PartMut.{mid_of, put_mid}
 use Rattle.word.specs.Word.{byte_of}
 use Rattle.pixel.specs.Formats.{bytes_per_pixel, layout_of}
-use Rattle.pixel.specs.Colours.{packed, unpacked}
+use Rattle.pixel.specs.Colours.{packed}
 use Rattle.pixel.specs.declared.format.Format.{Format}
 use Rattle.pixel.specs.declared.format.Format.TheVariants.{Argb8888, Rgb888, Rgb565}
 use Rattle.pixel.proofs.Stored.{stored_same}

@@ -14,5 +14,5 @@ pub returns : goal.returns
 unfolding unpremultiplied_channel
 returns c =
     let t = c.reciprocal-t.ensures.0 in
-    pixel_divided c.args.row.now c.args.at _ _ _ c.requires.0.0 c.requires.0.1
+    pixel_divided c.args.row.now c.args.at _ _ _ c.requires.0 c.requires.1
     (simp (c.scaled-blue.ensures, t)) (simp (c.scaled-green.ensures, t)) (simp (c.scaled-red.ensures, t))

@@ -1,87 +1,50 @@
-use mathlib.Core.Path.{refl, sym, ap, ◌∙◌}
-use mathlib.Core.List.{List}
-use Prim.Native.Nat.{ℕ, ◌-◌, ◌<◌, ◌≤◌}
+use mathlib.Core.Path.{refl, sym, ap, subst, ◌∙◌}
+use Prim.Native.Nat.{ℕ}
 use native.Mathlib.Omega.{arith}
 use lib.ListN.{length}
-use Rattle.ring.specs.Segment.{batch_words}
+use Rattle.task_check.proofs.Sound.{AllSound}
 use Rattle.batch.specs.declared.verdict.Validation.{Validation}
-use Rattle.batch.specs.declared.verdict.Verdict.{Verdict}
-use Rattle.batch.specs.Batch.{decode_batch}
-use Rattle.batch.specs.Walk.{decode_rest}
-use Rattle.batch.proofs.DecoderCases.{words_fit}
-use Rattle.batch.proofs.Steps.{counted_none, step-onward, step-task, step-faulty, step_end}
-use Rattle.batch.proofs.Tasks.{step-sound}
+use Rattle.batch.specs.Batch.{DecodedBatch, decode_batch}
+use Rattle.batch.specs.Walk.{words_in, reading_left, tasks_left}
+use Rattle.batch.proofs.Steps.{counted, counted_none, one-given, none-given}
+use Rattle.batch.proofs.Tasks.{drawn-sound, given-sound}
 use Rattle.raster.specs.Task.{draw_tasks}
 use Rattle.raster.proofs.Judged.{drawable}
-use Rattle.raster.proofs.Fold.{step-draws, step_stops, step-ends, batch-tasks}
-use Rattle.walk.proofs.run_batch.Goals.{In-Task, Start}
+use Rattle.raster.proofs.Fold.{draws-one, draws-none, batch-tasks}
 use Rattle.walk.proofs.run_batch.Goals as goal
-
--- the words of the batch
-abbrev Ws : Start → List ℕ
-Ws c = batch_words c.args.ring.now c.args.offset c.args.size
-
--- a task ends past where it began
-onward : (c : In-Task) → (c.loop-task.at < c.in-Task.next)
-    × (c.in-Task.next ≤ length (batch_words c.args.ring.now c.args.offset c.args.size))
-onward c =
-    let l = c.loop-task in
-    let n = c.next_task in
-    step-onward c.args.bounds (batch_words c.args.ring.now c.args.offset c.args.size) l.current l.at n.result n.ensures _ _ _ c.in-Task.is
 
 pub loop-task-init : goal.loop-task-init
 loop-task-init c =
-    (refl, counted_none (decode_batch c.args.bounds c.args.bank (Ws (goal.at.loop-task-init c).Start)), omega arith, refl, omega arith)
+    let a = c.args in
+    let t = c.new-tasks in
+    let whole = decode_batch a.bounds a.bank (words_in a.batch) in (
+      ap (λ (r : DecodedBatch). draw_tasks r.tasks a.memory.now) (sym t.ensures.left),
+      counted_none whole ∙ ap (counted 0) (sym t.ensures.left) ∙ ap (λ (n : ℕ). counted n (reading_left t.result)) (sym t.ensures.none),
+      subst (λ (r : DecodedBatch). AllSound a.bounds r.tasks) (sym t.ensures.left) (drawn-sound a.bounds a.bank (words_in a.batch)),
+      refl,
+    )
 
 pub draw_task-requires : goal.draw_task-requires
 draw_task-requires c =
     let l = c.loop-task in
-    let n = c.next_task in
-    drawable c.args.bounds c.in-Task.task
-    (step-sound c.args.bounds (Ws (goal.at.draw_task-requires c).Start) l.current l.at n.result n.ensures _ _ _ c.in-Task.is)
+    drawable c.args.bounds c.in-Some.task
+    (given-sound c.args.bounds l.tasks c.next.new.self c.in-Some.task c.in-Some.ensures.steps l.invariant.2).0
     (length l.memory) (omega (arith, c.requires.window, l.invariant.3)) (omega (arith, c.requires.common, l.invariant.3))
-
-pub overflow_add-count : goal.overflow_add-count
-overflow_add-count c =
-    let l = c.loop-task in
-    omega (arith, onward (goal.at.overflow_add-count c).In-Task, l.invariant.4, words_fit c.args.ring.now c.args.offset c.args.size, c.ranges.size)
-
-pub loop-task-smaller : goal.loop-task-smaller
-loop-task-smaller c =
-    omega (arith, onward (goal.at.loop-task-smaller c).In-Task, words_fit c.args.ring.now c.args.offset c.args.size)
 
 pub loop-task-preserved : goal.loop-task-preserved
 loop-task-preserved c =
     let l = c.loop-task in
-    let n = c.next_task in
-    let d = c.draw_task in (
-      l.invariant.0
-          ∙ step-draws c.args.bounds (Ws (goal.at.loop-task-preserved c).Start) l.current l.at n.result n.ensures l.memory _ _ _ c.in-Task.is
-          ∙ ap (draw_tasks (decode_rest c.args.bounds (Ws (goal.at.loop-task-preserved c).Start) c.in-Task.b c.in-Task.next).tasks) (sym d.ensures),
-      l.invariant.1 ∙ step-task c.args.bounds (Ws (goal.at.loop-task-preserved c).Start) l.current l.at n.result n.ensures l.count _ _ _ c.in-Task.is,
-      (onward (goal.at.loop-task-preserved c).In-Task).1,
-      d.auto.memory ∙ l.invariant.3,
-      omega (arith, onward (goal.at.loop-task-preserved c).In-Task, l.invariant.4),
+    let g = c.in-Some.ensures.steps in (
+      l.invariant.0 ∙ draws-one l.tasks c.next.new.self l.memory c.in-Some.task g ∙ ap (draw_tasks (tasks_left c.next.new.self)) (sym c.draw_task.ensures),
+      l.invariant.1 ∙ one-given l.tasks c.next.new.self c.in-Some.task g,
+      (given-sound c.args.bounds l.tasks c.next.new.self c.in-Some.task g l.invariant.2).1,
+      c.draw_task.auto.memory ∙ l.invariant.3,
     )
 
--- what the judgement is, and what is drawn, where the walk stands at this
-abbrev verdict-of : Validation → Verdict
-verdict-of j = j.verdict
-
-pub returns-in-Faulty : goal.returns-in-Faulty
-returns-in-Faulty c =
+pub returns : goal.returns
+returns c =
     let l = c.loop-task in
-    let n = c.next_task in (
-      sym (ap verdict-of (l.invariant.1 ∙ step-faulty c.args.bounds (Ws (goal.at.returns-in-Faulty c).Start) l.current l.at n.result n.ensures l.count _ _ _ c.in-Faulty.is)),
-      sym (batch-tasks c.args.bounds c.args.bank (Ws (goal.at.returns-in-Faulty c).Start) c.args.memory.now ∙ l.invariant.0
-          ∙ step_stops c.args.bounds (Ws (goal.at.returns-in-Faulty c).Start) l.current l.at n.result n.ensures l.memory _ _ _ c.in-Faulty.is),
-    )
-
-pub returns-in-End : goal.returns-in-End
-returns-in-End c =
-    let l = c.loop-task in
-    let n = c.next_task in (
-      sym (ap verdict-of (l.invariant.1 ∙ step_end c.args.bounds (Ws (goal.at.returns-in-End c).Start) l.current l.at n.result n.ensures l.count c.in-End.is)),
-      sym (batch-tasks c.args.bounds c.args.bank (Ws (goal.at.returns-in-End c).Start) c.args.memory.now ∙ l.invariant.0
-          ∙ step-ends c.args.bounds (Ws (goal.at.returns-in-End c).Start) l.current l.at n.result n.ensures l.memory c.in-End.is),
+    let g = c.in_default.ensures.steps in (
+      sym (ap (λ (j : Validation). j.verdict) (l.invariant.1 ∙ none-given l.tasks c.next.new.self g)),
+      sym (batch-tasks c.args.bounds c.args.bank (words_in c.args.batch) c.args.memory.now ∙ l.invariant.0 ∙ draws-none l.tasks c.next.new.self l.memory g),
     )

@@ -1,4 +1,4 @@
 use Rattle.wenditsal.proofs.wenditsal_encode_shaded.Goals as goal
 
 pub returns : goal.returns
-returns c = (rw (c.number.ensures, c.encode_shaded-answer.ensures.0), c.encode_shaded-answer.ensures.1)
+returns c = (rw (c.refusal_number.ensures, c.encode_shaded.ensures.0), c.encode_shaded.ensures.1)

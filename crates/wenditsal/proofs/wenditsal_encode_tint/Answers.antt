@@ -1,4 +1,4 @@
 use Rattle.wenditsal.proofs.wenditsal_encode_tint.Goals as goal
 
 pub returns : goal.returns
-returns c = (rw (c.number.ensures, c.encode_tint-answer.ensures.0), c.encode_tint-answer.ensures.1)
+returns c = (rw (c.refusal_number.ensures, c.encode_tint.ensures.0), c.encode_tint.ensures.1)

@@ -2,4 +2,4 @@ use Rattle.wenditsal.proofs.wenditsal_play.Goals as goal
 
 pub returns : goal.returns
 returns c =
-    rw c.from_number.ensures at c.play.ensures
+    rw c.from.ensures at c.play.ensures

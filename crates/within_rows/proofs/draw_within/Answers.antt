@@ -1,28 +1,15 @@
-use Prim.Native.Nat.{◌-◌}
-use native.Mathlib.Omega.{arith}
-use Rattle.raster.proofs.Upto.{upto_none, upto_length, upto_row, upto_more, upto_all}
+use Rattle.std.proofs.Common.{◌≡◌, refl, rules}
+use Rattle.kinds.specs.Kinds.{kind_of}
+use Rattle.kinds.specs.declared.Kind.TheVariants.{Within}
+use Rattle.raster.specs.Row.{RowDrawable}
+use Rattle.raster.proofs.Steps.{draws_rows}
+use Rattle.raster.proofs.Upto.{row_drawable}
 use Rattle.within_rows.proofs.draw_within.Goals as goal
 
-pub loop-y-init : goal.loop-y-init
-loop-y-init c = upto_none _ _
-
-pub within_row-requires : goal.within_row-requires
-within_row-requires c =
-    let l = c.loop-y in
-    (upto_row l.invariant c.requires.0 c.loop-y-test.true, c.requires.1, c.plan_of-plan.ensures)
-
-pub overflow_add-y : goal.overflow_add-y
-overflow_add-y c =
-    omega (arith, c.loop-y-test.true, c.requires.0.clear.output.height_max)
-
-pub loop-y-preserved : goal.loop-y-preserved
-loop-y-preserved c =
-    let l = c.loop-y in
-    let f = c.within_row in
-    upto_more l.invariant c.requires.0 c.loop-y-test.true f.new.memory f.ensures
-
-pub shape_of-memory : goal.shape_of-memory
-shape_of-memory c = upto_length c.loop-y.invariant
-
-pub returns : goal.returns
-returns c = upto_all c.loop-y.invariant (omega arith)
+pub draw_rows-requires-clause-draws : goal.draw_rows-requires-clause-draws
+draw_rows-requires-clause-draws c =
+    draws_rows _ _ _ (λ f. (f.0 ≡ c.args.window) × (f.1 ≡ c.args.task) × (f.2.rule ≡ c.args.task.blending.rule))
+    (λ f h memory y s l p e.
+    let r : RowDrawable f.0 p.now f.1 y × (kind_of f.0 f.1 ≡ Within) × (f.2.rule ≡ f.1.blending.rule) = rw (h.0, h.1, e) (row_drawable memory y c.requires.0 s l, c.requires.1, h.2) in
+    search rules)
+    (λ f h memory y s l f' memory' e. search rules) _ (refl, refl, c.plan_of-plan.ensures)

@@ -2,7 +2,6 @@ use mathlib.Core.Path.{◌≡◌, refl}
 use Prim.Native.Nat.{◌+◌, ◌-◌}
 use native.Mathlib.Omega.{arith}
 use Rattle.surface.specs.Surface.{row_length, row_start}
-use Rattle.plan.proofs.Factors.{planned-is}
 use Rattle.raster.proofs.Place.{starts, ordered, room, window-fits, length-window, row-drawn}
 use Rattle.unblended_rows.proofs.Moved.{moved_down, moved_lies, lies_apart}
 use Rattle.raster.proofs.InPlace.{argb-length}
@@ -42,13 +41,10 @@ slice_bounds-blend_within-end c =
 pub blend_within-requires : goal.blend_within-requires
 blend_within-requires c =
     let w = of_kind c.args.window c.args.task Within c.requires.1 in (
-      (
-        lies_apart c.args.window _ c.row_start.result c.identity_row_start.result c.row_length-n.result
-            (moved_lies c.requires.0 w.moved w.inside c.row_start.result c.identity_row_start.result c.row_length-n.result c.row_start.ensures c.identity_row_start.ensures c.row_length-n.ensures)
-            (length-window c.requires.0),
-        omega (arith, c.row_length-n.ensures, argb-length c.args.task.output w.placed.to),
-      ),
-      (planned-is _ _ c.requires.2).0,
+      lies_apart c.args.window _ c.row_start.result c.identity_row_start.result c.row_length-n.result
+          (moved_lies c.requires.0 w.moved w.inside c.row_start.result c.identity_row_start.result c.row_length-n.result c.row_start.ensures c.identity_row_start.ensures c.row_length-n.ensures)
+          (length-window c.requires.0),
+      omega (arith, c.row_length-n.ensures, argb-length c.args.task.output w.placed.to),
     )
 
 pub returns : goal.returns
@@ -64,7 +60,7 @@ returns c =
     let from : w.start + (i - w.start) ≡ i = omega (arith, p.start_from) in
     let to : w.start + (c.row_start.result - w.start) ≡ row_start a.task.output a.y = omega (arith, p.start_to, c.row_start.ensures) in
     row-drawn r _ c.row_start.result c.blend_within.new.m c.row_start.ensures
-    (within-drawn a.task a.plan.rule _ c.blend_within.new.m (c.row_start.result - w.start) (i - w.start) n q (planned-is _ _ c.requires.2).1 c.row_length-n.ensures in-w
+    (within-drawn a.task a.plan.rule _ c.blend_within.new.m (c.row_start.result - w.start) (i - w.start) n q c.requires.2 c.row_length-n.ensures in-w
     (lies_apart w _ c.row_start.result i n p (length-window r)) c.blend_within.auto.m c.blend_within.ensures)
     (λ x u. within_pixel a.task a.memory.now w.start (w.end - w.start) (c.row_start.result - w.start) (i - w.start) i x a.y q in-w (window-fits r)
     c.identity_row_start.ensures from to (omega (arith, p.start_from, p.end_from, c.row_length-n.ensures)) (omega (arith, p.start_to, p.end_to, c.row_length-n.ensures)) u)

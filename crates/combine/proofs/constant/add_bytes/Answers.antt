@@ -3,18 +3,19 @@ use Rattle.pixel.specs.declared.blend.BlendMode.TheVariants.{Add}
 use Rattle.lanes.proofs.Passes.{none_done, to_end}
 use Rattle.plan.specs.Blend.{blend_at}
 use Rattle.plan.proofs.Blends.{byte_more}
-use Prim.Native.Nat.{◌-◌}
 use native.Mathlib.Omega.{arith}
 use borrow.Author.Rules.{rules}
 use Rattle.combine.proofs.constant.add_bytes.Goals as goal
 
 pub loop-j-init : goal.loop-j-init
-loop-j-init c = (search rules, none_done _ _ _)
+loop-j-init c = record { same_length = search rules; added = none_done _ _ _ }
 
 pub loop-j-preserved : goal.loop-j-preserved
 unfolding blend_at
-loop-j-preserved c =
-    (search rules, byte_more (blend_mode_factors Add) c.args.s.now _ c.loop-j.d _ c.loop-j.j _ (omega arith) (omega arith) c.held_sum.ensures c.loop-j.invariant.1)
+loop-j-preserved c = record {
+  same_length = search rules;
+  added = byte_more (blend_mode_factors Add) c.args.s.now _ c.loop-j.d _ c.loop-j.j _ (omega arith) (omega arith) c.held_sum.ensures c.loop-j.invariant.added;
+}
 
 pub returns : goal.returns
-returns c = to_end _ _ _ _ c.loop-j.j _ (omega arith) c.loop-j.invariant.1
+returns c = to_end _ _ _ _ c.loop-j.j _ (omega arith) c.loop-j.invariant.added

@@ -1,6 +1,6 @@
 use Rattle.pixel.specs.Blending.{blended_channel}
 use Rattle.lanes.specs.Lanes.{Done}
-use Prim.Native.Nat.{ℕ, ◌-◌, ◌≤◌}
+use Prim.Native.Nat.{ℕ}
 use mathlib.Core.List.{List}
 use mathlib.Core.Path.{◌≡◌}
 use lib.ListN.{length, get_or}
@@ -10,7 +10,4 @@ abbrev pub mixed : (fs fd : ℕ) → (s d : List ℕ) → ℕ → ℕ
 mixed fs fd s d j = blended_channel (get_or s j 0) fs (get_or d j 0) fd
 
 abbrev pub invariant-loop-j : goal.invariant-loop-j
-invariant-loop-j l = ((l.j ≤ l.n) × ((l.n ≡ length l.initial.d) × (length l.d ≡ length l.initial.d))) × Done (mixed l.fs l.fd l.s l.initial.d) l.initial.d l.d 0 l.j
-
-abbrev pub decreases-loop-j : goal.decreases-loop-j
-decreases-loop-j l = l.n - l.j
+invariant-loop-j l = record { same_length : length l.d ≡ length l.initial.d; mixed_so_far : Done (mixed l.fs l.fd l.s l.initial.d) l.initial.d l.d 0 l.j }

@@ -11,7 +11,7 @@ returns c =
     let row = c.args.row.now in
     let o = c.args.o in
     c.write_le32.ensures
-    ∙ (alpha_put row o c.read_le32-w.result c.nearest.result _ c.requires.0 (λ j. omega (arith, c.slice_known-1.given j)) c.read_le32-w.ensures c.nearest.ensures.1 refl
+    ∙ (alpha_put row o c.read_le32-w.result c.nearest.result _ c.requires (λ j. omega (arith, c.slice_known-1.given j)) c.read_le32-w.ensures c.nearest.ensures.1 refl
     ∙ ap (set row (o + 3))
     (c.nearest.ensures.0
     ∙ ap div255

@@ -1,12 +1,10 @@
 use Rattle.pixel.specs.declared.blend.AlphaMode.TheVariants.{Mixed}
 use Rattle.lanes.proofs.Passes.{none_done, to_end}
 use Rattle.composite.proofs.alpha_modes.Alphas.{pixel_more}
-use Prim.Native.Nat.{ℕ, ◌+◌, ◌*◌, ◌-◌}
-use mathlib.Core.Path.{ap}
+use Prim.Native.Nat.{◌*◌}
+use mathlib.Core.Path.{refl}
 use native.Mathlib.Omega.{arith}
 use borrow.Author.Rules.{rules}
-use lib.ListN.{get_or}
-use Rattle.division.specs.Division.{div255}
 use Rattle.composite.proofs.alpha_modes.mix_alphas.Goals as goal
 
 pub loop-x-init : goal.loop-x-init
@@ -15,8 +13,7 @@ loop-x-init c = (search rules, none_done _ _ _)
 pub loop-x-preserved : goal.loop-x-preserved
 loop-x-preserved c =
     let l = c.loop-x in
-    let w = c.wide-g in
-    (search rules, rw c.mix_alpha.ensures (pixel_more Mixed _ _ l.row l.x _ (omega arith) (ap (λ (n : ℕ). div255 (get_or l.row (l.x * 4 + 3) 0 * n)) w.ensures.0) l.invariant.1))
+    (search rules, rw c.mix_alpha.ensures (pixel_more Mixed _ _ l.row l.x _ (omega arith) refl l.invariant.1))
 
 pub returns : goal.returns
 returns c = to_end _ _ _ _ (c.loop-x.x * 4) _ (omega arith) c.loop-x.invariant.1

@@ -4,7 +4,7 @@ use Rattle.lanes.proofs.Passes.{none_done}
 use Rattle.row_pixels.proofs.RowColours.Colours.{Row}
 use Rattle.row_pixels.proofs.RowColours.Stored.{row_done, four-more}
 use Rattle.convert.proofs.rgb565.Pixels.{widen_is}
-use Prim.Native.Nat.{ℕ, ◌*◌, ◌-◌, ◌/◌, ◌%◌}
+use Prim.Native.Nat.{ℕ, ◌*◌, ◌/◌, ◌%◌}
 use mathlib.Core.Path.{ap, ◌∙◌}
 use native.Mathlib.Omega.{arith}
 use borrow.Author.Rules.{rules}
@@ -30,4 +30,4 @@ loop-x-preserved c =
     )
 
 pub returns : goal.returns
-returns c = row_done _ _ _ _ _ c.loop-x.invariant.0.1 (omega arith) c.loop-x.invariant.1
+returns c = row_done _ _ _ _ _ c.loop-x.invariant.0 (omega arith) c.loop-x.invariant.1

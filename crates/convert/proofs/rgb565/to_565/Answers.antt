@@ -2,7 +2,6 @@ use Rattle.row_pixels.specs.Row.{colour_in}
 use Rattle.row_pixels.proofs.RowColours.Colours.{Row}
 use Rattle.row_pixels.proofs.RowColours.Stored.{row_done}
 use Rattle.convert.proofs.rgb565.Pixels.{two-more, narrow_is}
-use Prim.Native.Nat.{◌-◌}
 use mathlib.Core.Path.{◌∙◌}
 use native.Mathlib.Omega.{arith}
 use borrow.Author.Rules.{rules}
@@ -19,4 +18,4 @@ loop-x-preserved c =
     )
 
 pub returns : goal.returns
-returns c = row_done _ _ _ _ _ c.loop-x.invariant.0.1 (omega arith) c.loop-x.invariant.1
+returns c = row_done _ _ _ _ _ c.loop-x.invariant.0 (omega arith) c.loop-x.invariant.1

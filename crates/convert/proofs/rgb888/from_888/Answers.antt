@@ -2,7 +2,6 @@ use Rattle.lanes.proofs.Passes.{none_done}
 use Rattle.row_pixels.proofs.RowColours.Colours.{Row}
 use Rattle.row_pixels.proofs.RowColours.Stored.{row_done}
 use Rattle.convert.proofs.rgb888.Pixels.{opaque-more}
-use Prim.Native.Nat.{◌-◌}
 use mathlib.Core.Path.{◌∙◌}
 use native.Mathlib.Omega.{arith}
 use borrow.Author.Rules.{rules}
@@ -16,7 +15,7 @@ pub loop-x-preserved : goal.loop-x-preserved
 loop-x-preserved c =
     let p = c.put_three in
     let in-s : Row c.args.s.now = λ j. omega (arith, c.shared_slice_known-1.given j) in
-    ((omega arith, simp length-set (p.auto.d ∙ c.loop-x.invariant.0.1)), opaque-more c.args.s.now c.args.d.now c.loop-x.d p.new.d c.loop-x.x in-s (omega arith) (omega (arith, p.auto.d, c.loop-x.invariant.0.1)) p.ensures c.loop-x.invariant.1)
+    (simp length-set (p.auto.d ∙ c.loop-x.invariant.0), opaque-more c.args.s.now c.args.d.now c.loop-x.d p.new.d c.loop-x.x in-s (omega arith) (omega (arith, p.auto.d, c.loop-x.invariant.0)) p.ensures c.loop-x.invariant.1)
 
 pub returns : goal.returns
-returns c = row_done _ _ _ _ _ c.loop-x.invariant.0.1 (omega arith) c.loop-x.invariant.1
+returns c = row_done _ _ _ _ _ c.loop-x.invariant.0 (omega arith) c.loop-x.invariant.1

@@ -2,7 +2,6 @@ use Rattle.lanes.proofs.Passes.{none_done}
 use Rattle.row_pixels.proofs.RowColours.Colours.{Row}
 use Rattle.row_pixels.proofs.RowColours.Stored.{row_done}
 use Rattle.convert.proofs.rgb888.Pixels.{three_more}
-use Prim.Native.Nat.{◌-◌}
 use native.Mathlib.Omega.{arith}
 use borrow.Author.Rules.{rules}
 use Rattle.convert.proofs.rgb888.to_888.Goals as goal
@@ -17,4 +16,4 @@ loop-x-preserved c =
     (search rules, three_more c.args.s.now c.args.d.now c.loop-x.d _ c.loop-x.x in-s (omega arith) p.ensures c.loop-x.invariant.1)
 
 pub returns : goal.returns
-returns c = row_done _ _ _ _ _ c.loop-x.invariant.0.1 (omega arith) c.loop-x.invariant.1
+returns c = row_done _ _ _ _ _ c.loop-x.invariant.0 (omega arith) c.loop-x.invariant.1

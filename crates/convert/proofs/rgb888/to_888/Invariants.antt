@@ -2,13 +2,10 @@ use Rattle.pixel.specs.declared.format.Format.TheVariants.{Rgb888}
 use Rattle.lanes.specs.Lanes.{Done}
 use Rattle.row_pixels.specs.Row.{colour_in}
 use Rattle.row_pixels.specs.Line.{pixel_byte}
-use Prim.Native.Nat.{◌*◌, ◌-◌, ◌≤◌}
+use Prim.Native.Nat.{◌*◌}
 use mathlib.Core.Path.{◌≡◌}
 use lib.ListN.{length}
 use Rattle.convert.proofs.rgb888.to_888.Given as goal
 
 abbrev pub invariant-loop-x : goal.invariant-loop-x
-invariant-loop-x l = ((l.x ≤ l.width) × (length l.d ≡ length l.initial.d)) × Done (pixel_byte Rgb888 (λ k. colour_in l.s k)) l.initial.d l.d 0 (l.x * 3)
-
-abbrev pub decreases-loop-x : goal.decreases-loop-x
-decreases-loop-x l = l.width - l.x
+invariant-loop-x l = (length l.d ≡ length l.initial.d) × Done (pixel_byte Rgb888 (λ k. colour_in l.s k)) l.initial.d l.d 0 (l.x * 3)

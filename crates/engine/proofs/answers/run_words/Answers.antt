@@ -6,14 +6,11 @@ use Rattle.engine.proofs.answers.Numbers.{completed-words, completed-small, word
 use Rattle.engine.proofs.answers.run_words.Goals.{After-offset-offset}
 use Rattle.engine.proofs.answers.run_words.Goals as goal
 
-small : (c : After-offset-offset) → (status_word_of c.in-Completed.done.verdict ≤ 4294967295) × (fault_offset_of c.in-Completed.done.verdict ≤ 4294967295)
-small c = completed-small _ _ c.in-Completed.is c.requires
+small : (c : After-offset-offset) → (status_word_of c.in-Ok.done.verdict ≤ 4294967295) × (fault_offset_of c.in-Ok.done.verdict ≤ 4294967295)
+small c = completed-small _ _ c.in-Ok.is c.requires
 
 pub overflow_cast-offset : goal.overflow_cast-offset
 overflow_cast-offset c = omega (arith, c.offset-offset.ensures, (small c).1)
 
-pub returns-in-Refused : goal.returns-in-Refused
-returns-in-Refused c = rw c.in-Refused.is
-
-pub returns-in-Completed : goal.returns-in-Completed
-returns-in-Completed c = completed-words _ _ _ _ _ c.in-Completed.is (c.status.ensures ∙ word-whole (status_word_of c.in-Completed.done.verdict) (small (goal.at.returns-in-Completed c).After-offset-offset).0) c.number.ensures c.offset-offset.ensures
+pub returns-in-Ok : goal.returns-in-Ok
+returns-in-Ok c = completed-words _ _ _ _ _ c.in-Ok.is (c.status.ensures ∙ word-whole (status_word_of c.in-Ok.done.verdict) (small (goal.at.returns-in-Ok c).After-offset-offset).0) c.number-in-Ok.ensures c.offset-offset.ensures

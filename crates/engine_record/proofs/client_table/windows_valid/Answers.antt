@@ -1,29 +1,18 @@
-use Rattle.std.proofs.Common.{◌-◌, sym, refl, ◌∙◌, arith}
-use Rattle.engine_record.proofs.Clients.{none_found, none-next, none_end}
+use Rattle.std.proofs.Common.{sym, ◌∙◌}
+use Rattle.engine_record.proofs.Clients.{valid_bad, valid_good, valid_closed, valid_none}
+use Rattle.engine_record.proofs.client_table.windows_valid.Goals.{else-client-via-then-client+else-bad_window, else-client-via-else-client}
 use Rattle.engine_record.proofs.client_table.windows_valid.Goals as goal
 
-pub loop-k-init : goal.loop-k-init
-loop-k-init c = refl
+pub returns-then-bad_window : goal.returns-then-bad_window
+returns-then-bad_window c =
+    valid_bad c.args.setup _ _ _ c.in-Some.ensures.cases.0 c.if-client.true (sym c.bad_window.ensures ∙ c.if-bad_window.true) ∙ c.loop-client.invariant
 
-pub is_misplaced-requires : goal.is_misplaced-requires
-is_misplaced-requires c = omega arith
-
-pub returns-then-is_misplaced : goal.returns-then-is_misplaced
-returns-then-is_misplaced c =
-    let g = c.well_formed.1.0.1.0.1 in
-    none_found c.args.clients c.loop-k.k (omega arith) c.args.setup c.is_misplaced.result c.is_misplaced.ensures c.if-is_misplaced.true ∙ c.loop-k.invariant
-
-pub overflow_add-k : goal.overflow_add-k
-overflow_add-k c = omega arith
-
-pub loop-k-smaller : goal.loop-k-smaller
-loop-k-smaller c = omega arith
-
-pub loop-k-preserved : goal.loop-k-preserved
-loop-k-preserved c =
-    let g = c.well_formed.1.0.1.0.1 in
-    none-next c.args.clients c.loop-k.k (omega arith) c.args.setup c.is_misplaced.result c.is_misplaced.ensures c.if-is_misplaced.false ∙ c.loop-k.invariant
+pub loop-client-preserved : goal.loop-client-preserved
+loop-client-preserved c = elim c.else-client.branch [
+  | else-client-via-then-client+else-bad_window w ↦
+      valid_good c.args.setup _ _ _ c.in-Some.ensures.cases.0 w.if-client.true (sym w.bad_window.ensures ∙ w.if-bad_window.false) ∙ c.loop-client.invariant
+  | else-client-via-else-client w ↦ valid_closed c.args.setup _ _ _ c.in-Some.ensures.cases.0 w.if-client.false ∙ c.loop-client.invariant
+]
 
 pub returns : goal.returns
-returns c = let g = c.well_formed.1.0.1.0.1 in
-    sym (none_end c.args.clients c.loop-k.k (omega arith) _) ∙ c.loop-k.invariant
+returns c = valid_none c.args.setup c.loop-client.rest.now c.in_default.ensures.cases ∙ c.loop-client.invariant

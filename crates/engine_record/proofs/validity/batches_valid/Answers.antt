@@ -1,5 +1,6 @@
-use Rattle.std.proofs.Common.{◌≡◌, ℕ, ◌+◌, ◌-◌, ◌<◌, ◌≤◌, true, sym, refl, ◌∙◌, arith, rules}
+use Rattle.std.proofs.Common.{◌≡◌, ℕ, ◌+◌, ◌-◌, ◌<◌, ◌≤◌, true, sym, ◌∙◌, arith}
 use borrow.Author.Tests.{not-true, not-false}
+use Rattle.engine_record.proofs.Slots.{ready_most}
 use Rattle.engine_record.proofs.Walk.{walk, walk-missing, walk_unfit, walk-next, walk-done, Fitting, fitting, fits_in, walk-rules}
 use Rattle.engine_record.specs.Clients.{is_open}
 use Rattle.engine_record.specs.Rules.{batch_rules}
@@ -34,52 +35,33 @@ offset-below ring offset size room next o f r e = rw e (wrapped_below ring (offs
 room_most : (ring size room : ℕ) → room ≤ ring → room - size ≤ ring
 room_most ring size room r = omega arith
 
-pub loop-k-init : goal.loop-k-init
-loop-k-init c = (c.requires.3, c.requires.1, omega arith, refl)
+pub slot_of_age-requires : goal.slot_of_age-requires
+slot_of_age-requires c = omega (arith, ready_most c.args.engine.slots, c.requires.2)
 
-pub slot_of_age-i-requires : goal.slot_of_age-i-requires
-slot_of_age-i-requires c = omega arith
-
-pub returns-then-i-ge8 : goal.returns-then-i-ge8
-returns-then-i-ge8 c =
-    let p = c.slot_of_age-i in
-    walk-missing _ _ _ _ _ _ _ c.loop-k-test.true p.result p.ensures (omega (arith, c.requires.4)) ∙ c.loop-k.invariant.3 ∙ decided (goal.at.returns-then-i-ge8 c).Start
-
-pub offset_bounds-slots-i : goal.offset_bounds-slots-i
-offset_bounds-slots-i c = omega arith
-
-pub bounds-slots-i : goal.bounds-slots-i
-bounds-slots-i c = omega arith
+pub returns-in_default : goal.returns-in_default
+returns-in_default c =
+    walk-missing _ _ _ _ _ _ _ c.loop-k-test.true _ (sym c.in_default.ensures) (omega arith) ∙ c.loop-k.invariant.2 ∙ decided (goal.at.returns-in_default c).Start
 
 pub returns-then-not-fits_in : goal.returns-then-not-fits_in
 returns-then-not-fits_in c =
-    let p = c.slot_of_age-i in
     let j = c.batch_of-b in
     let e = sym (fits-answer (goal.at.returns-then-not-fits_in c).After-fits_in) ∙ not-true _ c.if-not-fits_in.true-raw in
-    walk_unfit _ _ _ _ _ _ _ c.loop-k-test.true p.result p.ensures (omega (arith, c.requires.4)) j.result j.ensures e ∙ c.loop-k.invariant.3 ∙ decided (goal.at.returns-then-not-fits_in c).Start
+    walk_unfit _ _ _ _ _ _ _ c.loop-k-test.true c.in-Some.i c.in-Some.ensures.0 (omega (arith, c.in-Some.ensures.1)) j.result j.ensures e ∙ c.loop-k.invariant.2 ∙ decided (goal.at.returns-then-not-fits_in c).Start
 
 pub overflow_add-offset : goal.overflow_add-offset
-overflow_add-offset c = let f = (fits c).within in omega arith
+overflow_add-offset c = let f = (fits (goal.at.overflow_add-offset c).Else-not-fits_in).within in omega arith
 
 pub overflow_sub-room : goal.overflow_sub-room
 overflow_sub-room c = (fits (goal.at.overflow_sub-room c).Else-not-fits_in).within
 
-pub overflow_sub-k : goal.overflow_sub-k
-overflow_sub-k c = omega arith
-
-pub loop-k-smaller : goal.loop-k-smaller
-loop-k-smaller c = omega arith
-
 pub loop-k-preserved : goal.loop-k-preserved
 loop-k-preserved c =
     let l = c.loop-k in
-    let p = c.slot_of_age-i in
     let j = c.batch_of-b in (
-      omega arith,
-      offset-below _ l.offset j.result.length l.room _ l.invariant.1 (fits (goal.at.loop-k-preserved c).Else-not-fits_in).within l.invariant.2 c.wrap_offset-offset.ensures,
-      room_most _ j.result.length l.room l.invariant.2,
-      walk-next _ _ _ _ _ _ _ c.loop-k-test.true p.result p.ensures (omega (arith, c.requires.4, c.if-i-ge8.false)) j.result j.ensures (fit (goal.at.loop-k-preserved c).Else-not-fits_in) c.wrap_offset-offset.result c.wrap_offset-offset.ensures ∙ l.invariant.3,
+      offset-below _ l.offset j.result.length l.room _ l.invariant.0 (fits (goal.at.loop-k-preserved c).Else-not-fits_in).within l.invariant.1 c.wrap_offset-offset.ensures,
+      room_most _ j.result.length l.room l.invariant.1,
+      walk-next _ _ _ _ _ _ _ c.loop-k-test.true c.in-Some.i c.in-Some.ensures.0 (omega (arith, c.in-Some.ensures.1)) j.result j.ensures (fit (goal.at.loop-k-preserved c).Else-not-fits_in) c.wrap_offset-offset.result c.wrap_offset-offset.ensures ∙ l.invariant.2,
     )
 
 pub returns : goal.returns
-returns c = walk-done _ _ _ _ _ _ _ c.loop-k-test.false ∙ c.loop-k.invariant.3 ∙ decided (goal.at.returns c).Start
+returns c = walk-done _ _ _ _ _ _ _ (omega arith) ∙ c.loop-k.invariant.2 ∙ decided (goal.at.returns c).Start

@@ -16,8 +16,7 @@ returns-then-not-numbers_valid c = valid-not c.args.engine (sym c.numbers_valid.
 pub batches_valid-batches-requires : goal.batches_valid-batches-requires
 batches_valid-batches-requires c =
     let n = numbers c.args.engine (right (goal.at.batches_valid-batches-requires c).Else-not-numbers_valid) in
-    let p = c.requires in
-    (n.ring.small, n.below, p.0, p.1, p.2)
+    (n.ring.small, n.below, c.requires)
 
 -- the tests together
 tested : (c : After-pending_counts_match-counts) → (c.windows_valid-windows.result && c.batches_valid-batches.result && c.pending_counts_match-counts.result)

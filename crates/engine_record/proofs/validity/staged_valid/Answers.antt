@@ -10,14 +10,12 @@ returns-then-total-eq0 c =
 pub ready_bytes-requires : goal.ready_bytes-requires
 ready_bytes-requires c =
     let n = numbers c.args.engine c.requires.0 in
-    omega (arith, settled-bytes c.args.engine c.requires.1 c.slot_held-held.ensures.1, n.ring.small)
+    omega (arith, settled-bytes c.args.engine c.requires.1 (omega arith), n.ring.small)
 
 pub overflow_sub-room : goal.overflow_sub-room
-overflow_sub-room c =
-    rw c.ready_bytes.ensures (settled-bytes c.args.engine c.requires.1 c.slot_held-held.ensures.1)
+overflow_sub-room c = rw c.ready_bytes.ensures (settled-bytes c.args.engine c.requires.1 (omega arith))
 
 pub returns : goal.returns
 returns c =
-    let held = c.slot_held-held.ensures in
-    rw (c.is_open-owned.ensures, c.bad_length.ensures, c.ready_bytes.ensures, held.0)
-    (unfinished_test c.args.engine c.if-total-eq0.false (settled-bytes c.args.engine c.requires.1 held.1))
+    rw (c.is_open-owned.ensures, c.bad_length.ensures, c.ready_bytes.ensures, c.slot_held-held.ensures)
+    (unfinished_test c.args.engine c.if-total-eq0.false (settled-bytes c.args.engine c.requires.1 (omega arith)))

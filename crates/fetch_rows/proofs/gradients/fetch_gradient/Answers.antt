@@ -1,8 +1,7 @@
 use mathlib.Core.Path.{refl, ap, ◌∙◌}
-use Prim.Native.Nat.{ℕ, ◌-◌, ◌<◌}
+use Prim.Native.Nat.{ℕ, ◌<◌}
 use native.Mathlib.Omega.{arith}
 use borrow.Author.Count.{below_none}
-use borrow.Author.Rules.{rules}
 use Rattle.transform.proofs.Inside.{mirrored-below}
 use Rattle.pixel.specs.Gradient.{gradient_colour}
 use Rattle.fetch_rows.proofs.words.Words.{holds-step}
@@ -10,7 +9,7 @@ use Rattle.fetch_rows.proofs.gradients.fetch_gradient.Goals.{After-mirror-i}
 use Rattle.fetch_rows.proofs.gradients.fetch_gradient.Goals as goal
 
 pub loop-x-init : goal.loop-x-init
-loop-x-init c = (search rules, below_none _, refl)
+loop-x-init c = (below_none _, refl)
 
 -- the place is one of the row's
 below : (c : After-mirror-i) → c.mirror-i.result < c.args.n
@@ -26,11 +25,10 @@ pub loop-x-preserved : goal.loop-x-preserved
 loop-x-preserved c =
     let l = c.loop-x in
     let a = c.args in (
-      search rules,
-      holds-step _ l.buffer c.store_word.new.row l.x c.word_of.result (omega (arith, c.loop-x-test.true, l.invariant.2, c.requires.0)) (omega arith) l.invariant.1 c.store_word.ensures
+      holds-step _ l.buffer c.store_word.new.row l.x c.word_of.result (omega (arith, c.loop-x-test.true, l.invariant.1, c.requires.0)) (omega arith) l.invariant.0 c.store_word.ensures
           (c.word_of.ensures ∙ (c.colour_at.ensures ∙ ap (λ (i : ℕ). gradient_colour a.start a.steps i) c.mirror-i.ensures)),
-      c.store_word.auto.row ∙ l.invariant.2,
+      c.store_word.auto.row ∙ l.invariant.1,
     )
 
 pub returns : goal.returns
-returns c = λ x z. c.loop-x.invariant.1 x (omega arith)
+returns c = λ x z. c.loop-x.invariant.0 x (omega arith)

@@ -1,5 +1,4 @@
 use mathlib.Core.Path.{◌≡◌}
-use Prim.Native.Nat.{◌-◌, ◌≤◌}
 use lib.ListN.{length}
 use Rattle.transform.specs.Transform.{mirrored}
 use Rattle.pixel.specs.Gradient.{gradient_colour}
@@ -8,7 +7,4 @@ use Rattle.fetch_rows.proofs.gradients.fetch_gradient.Given as goal
 
 abbrev pub invariant-loop-x : goal.invariant-loop-x
 invariant-loop-x l =
-    (l.x ≤ l.width) × HoldsColours l.buffer l.x (λ x. gradient_colour l.start l.steps (mirrored l.flipped l.n x)) × (length l.buffer ≡ length l.initial.buffer)
-
-abbrev pub decreases-loop-x : goal.decreases-loop-x
-decreases-loop-x l = l.width - l.x
+    HoldsColours l.buffer l.x (λ x. gradient_colour l.start l.steps (mirrored l.flipped l.n x)) × (length l.buffer ≡ length l.initial.buffer)

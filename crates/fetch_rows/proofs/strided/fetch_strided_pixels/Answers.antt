@@ -1,15 +1,12 @@
 use mathlib.Core.Path.{refl, ap, ◌∙◌}
-use Prim.Native.Nat.{◌-◌}
 use native.Mathlib.Omega.{arith}
 use borrow.Author.Count.{below_none}
-use borrow.Author.Rules.{rules}
 use Rattle.surface.specs.Drawn.{load_pixel}
-use Rattle.row_pixels.specs.Strided.{strided_address}
 use Rattle.fetch_rows.proofs.words.Words.{holds-step}
 use Rattle.fetch_rows.proofs.strided.fetch_strided_pixels.Goals as goal
 
 pub loop-x-init : goal.loop-x-init
-loop-x-init c = (search rules, below_none _, refl)
+loop-x-init c = (below_none _, refl)
 
 pub strided_address-requires : goal.strided_address-requires
 strided_address-requires c =
@@ -23,17 +20,16 @@ load_as_word-requires c =
 
 pub store_word-requires : goal.store_word-requires
 store_word-requires c =
-    omega (arith, c.loop-x-test.true, c.loop-x.invariant.2, c.requires.room)
+    omega (arith, c.loop-x-test.true, c.loop-x.invariant.1, c.requires.room)
 
 pub loop-x-preserved : goal.loop-x-preserved
 loop-x-preserved c =
     let l = c.loop-x in
     let a = c.args in (
-      search rules,
-      holds-step _ l.buffer c.store_word.new.row l.x c.load_as_word.result (omega (arith, c.loop-x-test.true, l.invariant.2, c.requires.room)) (omega arith) l.invariant.1 c.store_word.ensures
+      holds-step _ l.buffer c.store_word.new.row l.x c.load_as_word.result (omega (arith, c.loop-x-test.true, l.invariant.1, c.requires.room)) (omega arith) l.invariant.0 c.store_word.ensures
           (c.load_as_word.ensures ∙ ap (load_pixel a.format a.memory.now) c.strided_address.ensures),
-      c.store_word.auto.row ∙ l.invariant.2,
+      c.store_word.auto.row ∙ l.invariant.1,
     )
 
 pub returns : goal.returns
-returns c = λ x z. c.loop-x.invariant.1 x (omega arith)
+returns c = λ x z. c.loop-x.invariant.0 x (omega arith)

@@ -1,5 +1,4 @@
 use mathlib.Core.Path.{◌≡◌}
-use Prim.Native.Nat.{◌-◌, ◌≤◌}
 use lib.ListN.{length}
 use Rattle.surface.specs.Drawn.{load_pixel}
 use Rattle.row_pixels.specs.Row.{HoldsColours}
@@ -8,7 +7,4 @@ use Rattle.fetch_rows.proofs.strided.fetch_strided_pixels.Given as goal
 
 abbrev pub invariant-loop-x : goal.invariant-loop-x
 invariant-loop-x l =
-    (l.x ≤ l.width) × HoldsColours l.buffer l.x (λ x. load_pixel l.format l.memory (strided_address l.start l.step l.back x)) × (length l.buffer ≡ length l.initial.buffer)
-
-abbrev pub decreases-loop-x : goal.decreases-loop-x
-decreases-loop-x l = l.width - l.x
+    HoldsColours l.buffer l.x (λ x. load_pixel l.format l.memory (strided_address l.start l.step l.back x)) × (length l.buffer ≡ length l.initial.buffer)

@@ -1,5 +1,4 @@
 use mathlib.Core.Path.{◌≡◌}
-use Prim.Native.Nat.{◌-◌, ◌*◌, ◌≤◌}
 use lib.ListN.{length}
 use Rattle.pixel.specs.declared.format.Format.TheVariants.{Argb8888}
 use Rattle.row_pixels.specs.Row.{word_colour}
@@ -8,7 +7,4 @@ use Rattle.fetch_rows.proofs.words.fill_words.Given as goal
 
 abbrev pub invariant-loop-x : goal.invariant-loop-x
 invariant-loop-x l =
-    (l.x ≤ l.width) × (l.at ≡ l.x * 4) × (l.row ≡ prefix Argb8888 (λ x. word_colour l.word) l.x l.initial.row) × (length l.row ≡ length l.initial.row)
-
-abbrev pub decreases-loop-x : goal.decreases-loop-x
-decreases-loop-x l = l.width - l.x
+    (l.row ≡ prefix Argb8888 (λ x. word_colour l.word) l.x l.initial.row) × (length l.row ≡ length l.initial.row)

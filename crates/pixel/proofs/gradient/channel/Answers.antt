@@ -1,4 +1,4 @@
-use mathlib.Core.Path.{◌≡◌, sym, ap, ◌∙◌, subst}
+use mathlib.Core.Path.{◌≡◌, ap, ◌∙◌}
 use Prim.Native.Nat.{ℕ, ◌*◌, ◌≤◌, ◌<◌}
 use native.Mathlib.Omega.{arith}
 use lib.IntN.{ℤ, pos, ◌+ℤ◌, ◌*ℤ◌}
@@ -56,15 +56,6 @@ sum_is c =
     let l = ap (λ (z : ℤ). to_z w64 (of_z w64 z)) (left_is c) ∙ to_z-of_z w64 (pos (St c * 65536)) (left-fits c) in
     let r = ap (λ (z : ℤ). to_z w64 (of_z w64 z)) (right_is c) ∙ to_z-of_z w64 (Step c *ℤ pos (Ix c)) (right-fits c) in
     ap (λ (z : ℤ). z +ℤ to_z w64 (of_z w64 (to_z w64 (of_z w64 c.signed-s.result) *ℤ to_z w64 (Ix c)))) l ∙ ap (λ (z : ℤ). pos (St c * 65536) +ℤ z) r
-
-pub overflow_mul-v : goal.overflow_mul-v
-overflow_mul-v c = subst (λ (z : ℤ). SFits w64 z) (sym (left_is c)) (left-fits c)
-
-pub overflow_mul-v-2 : goal.overflow_mul-v-2
-overflow_mul-v-2 c = subst (λ (z : ℤ). SFits w64 z) (sym (right_is c)) (right-fits c)
-
-pub overflow_add-v : goal.overflow_add-v
-overflow_add-v c = subst (λ (z : ℤ). SFits w64 z) (sym (sum_is c)) (sum_fits c)
 
 pub returns : goal.returns
 unfolding gradient_channel

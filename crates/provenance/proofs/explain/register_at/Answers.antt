@@ -4,7 +4,8 @@ use mathlib.Core.List.{List}
 use native.Mathlib.Nat.{sub-zero}
 use native.Mathlib.Omega.{arith}
 use lib.ListN.{drop}
-use Rattle.ring.specs.Segment.{batch_words}
+use borrow.Author.Tests.{eq-eqb, ne_eqb}
+use Rattle.batch.specs.Walk.{words_in}
 use Rattle.provenance.specs.declared.Group.{Group}
 use Rattle.provenance.specs.Faulted.{group_after, register_from}
 use Rattle.provenance.proofs.explain.Batch.{register_past, register_next, register_here}
@@ -13,7 +14,7 @@ use Rattle.provenance.proofs.explain.register_at.Goals as goal
 
 -- the words of the batch
 abbrev Ws : Start → List ℕ
-Ws c = batch_words c.args.ring.now c.args.offset c.args.size
+Ws c = words_in c.args.batch
 
 pub returns-then-word_count-k : goal.returns-then-word_count-k
 returns-then-word_count-k c =
@@ -26,25 +27,24 @@ loop-at-init c =
 pub onward-group-requires : goal.onward-group-requires
 onward-group-requires c = c.loop-at.invariant.2
 
-pub overflow_add-at : goal.overflow_add-at
-overflow_add-at c =
-    omega (arith, c.loop-at-test.true, c.ranges.k)
-
-pub loop-at-smaller : goal.loop-at-smaller
-loop-at-smaller c = omega arith
-
 pub loop-at-preserved : goal.loop-at-preserved
 loop-at-preserved c =
     let l = c.loop-at in (
-      omega arith,
+      omega (arith, c.loop-at-test.true),
       l.invariant.1,
       c.onward-group.ensures.1,
       l.invariant.3 ∙ register_next l.group c.args.k l.at (Ws (goal.at.loop-at-preserved c).Start) c.loop-at-test.true l.invariant.1
           ∙ ap (λ (g : Group). register_from g (c.args.k - (l.at + 1)) (drop (l.at + 1) (Ws (goal.at.loop-at-preserved c).Start))) (ap (group_after l.group) (sym c.word_at.ensures) ∙ sym c.onward-group.ensures.0),
     )
 
-pub returns : goal.returns
-returns c =
+pub returns-then-group-eq0 : goal.returns-then-group-eq0
+returns-then-group-eq0 c =
     let l = c.loop-at in
     let done : l.at ≡ c.args.k = omega (arith, l.invariant.0, c.loop-at-test.false) in
-    c.held_at.ensures ∙ sym (l.invariant.3 ∙ rw done (register_here l.group c.args.k (Ws (goal.at.returns c).Start) l.invariant.1))
+    sym (l.invariant.3 ∙ rw done (rw (eq-eqb l.group.left 0 c.if-group-eq0.true) at (register_here l.group c.args.k (Ws (goal.at.returns-then-group-eq0 c).Start) l.invariant.1)))
+
+pub returns-else-group-eq0 : goal.returns-else-group-eq0
+returns-else-group-eq0 c =
+    let l = c.loop-at in
+    let done : l.at ≡ c.args.k = omega (arith, l.invariant.0, c.loop-at-test.false) in
+    sym (l.invariant.3 ∙ rw done (rw (ne_eqb l.group.left 0 c.if-group-eq0.false) at (register_here l.group c.args.k (Ws (goal.at.returns-else-group-eq0 c).Start) l.invariant.1)))

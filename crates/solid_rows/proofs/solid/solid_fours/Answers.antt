@@ -1,9 +1,6 @@
-use mathlib.Core.Path.{sym}
-use Prim.Native.Nat.{◌+◌, ◌-◌}
-use native.Mathlib.Omega.{arith}
+use Rattle.std.proofs.Common.{arith, rules, sym, ◌+◌, ◌-◌}
 use Rattle.lanes.proofs.Passes.{none_done, to_end}
 use Rattle.solid_rows.proofs.solid.Over.{over-more}
-use borrow.Author.Rules.{rules}
 use Rattle.solid_rows.proofs.solid.solid_fours.Goals as goal
 
 pub loop-o-init : goal.loop-o-init

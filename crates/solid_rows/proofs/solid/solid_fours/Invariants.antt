@@ -1,6 +1,4 @@
-use mathlib.Core.Path.{◌≡◌}
-use Prim.Native.Nat.{◌-◌, ◌%◌, ◌≤◌}
-use lib.ListN.{length}
+use Rattle.std.proofs.Common.{◌≡◌, ◌-◌, ◌%◌, ◌≤◌, length}
 use Rattle.lanes.specs.Lanes.{Done}
 use Rattle.solid_rows.specs.Over.{over_at}
 use Rattle.solid_rows.proofs.solid.solid_fours.Given as goal

@@ -1,16 +1,16 @@
-use Prim.Native.Nat.{◌-◌}
-use native.Mathlib.Omega.{arith}
+use Rattle.std.proofs.Common.{arith, rules, ◌+◌, ◌*◌}
 use Rattle.lanes.proofs.Passes.{none_done, to_end}
 use Rattle.solid_rows.proofs.solid.Over.{over-more}
-use borrow.Author.Rules.{rules}
 use Rattle.solid_rows.proofs.solid.solid_words.Goals as goal
 
-pub loop-o-init : goal.loop-o-init
-loop-o-init c = (search rules, none_done _ _ _)
+pub loop-k-init : goal.loop-k-init
+loop-k-init c = record { same_length = search rules; laid = none_done _ _ _ }
 
-pub loop-o-preserved : goal.loop-o-preserved
-loop-o-preserved c =
-    (search rules, over-more c.args.s.colour _ c.loop-o.d _ _ c.loop-o.o _ (omega arith) (omega arith) c.loop-o.invariant.1 c.solid_word.ensures)
+pub loop-k-preserved : goal.loop-k-preserved
+loop-k-preserved c = record {
+  same_length = search rules;
+  laid = to_end _ _ _ _ (c.loop-k.k * 2 + 2) _ (omega arith) (over-more c.args.s.colour _ c.loop-k.d _ _ (c.loop-k.k * 2) _ (omega arith) (omega arith) c.loop-k.invariant.laid c.solid_word.ensures);
+}
 
 pub returns : goal.returns
-returns c = to_end _ _ _ _ c.loop-o.o _ (omega arith) c.loop-o.invariant.1
+returns c = to_end _ _ _ _ (c.loop-k.k * 2) _ (omega arith) c.loop-k.invariant.laid

@@ -1,12 +1,7 @@
-use mathlib.Core.Path.{◌≡◌}
-use Prim.Native.Nat.{◌-◌, ◌%◌, ◌≤◌}
-use lib.ListN.{length}
+use Rattle.std.proofs.Common.{◌≡◌, ◌*◌, length}
 use Rattle.lanes.specs.Lanes.{Done}
 use Rattle.solid_rows.specs.Over.{over_at}
 use Rattle.solid_rows.proofs.solid.solid_words.Given as goal
 
-abbrev pub invariant-loop-o : goal.invariant-loop-o
-invariant-loop-o l = (((l.a ≤ l.o) × (l.o ≤ l.n)) × ((l.o % 2 ≡ 0) × (length l.d ≡ length l.initial.d))) × Done (over_at l.s.colour l.initial.d) l.initial.d l.d l.a l.o
-
-abbrev pub decreases-loop-o : goal.decreases-loop-o
-decreases-loop-o l = l.n - l.o
+abbrev pub invariant-loop-k : goal.invariant-loop-k
+invariant-loop-k l = record { same_length : length l.d ≡ length l.initial.d; laid : Done (over_at l.s.colour l.initial.d) l.initial.d l.d (l.a * 2) (l.k * 2) }

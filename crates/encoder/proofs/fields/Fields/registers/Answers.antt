@@ -23,9 +23,9 @@ pub registers-requires-2 : goal.registers-requires-2
 registers-requires-2 c =
     (destination_parts c.args.self.destination (held (goal.at.registers-requires-2 c).Start).destination).surface
 
-pub overflow_mul-output : goal.overflow_mul-output
-overflow_mul-output c =
-    omega (arith, surface_fits c.args.self.output (held (goal.at.overflow_mul-output c).Start).output)
+pub overflow_mul-self : goal.overflow_mul-self
+overflow_mul-self c =
+    omega (arith, surface_fits c.args.self.output (held (goal.at.overflow_mul-self c).Start).output)
 
 pub registers-requires-3 : goal.registers-requires-3
 registers-requires-3 c =

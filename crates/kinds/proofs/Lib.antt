@@ -1,0 +1,2 @@
+-- Equality of formats.
+pub mod Formats

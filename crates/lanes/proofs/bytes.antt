@@ -1,2 +1,0 @@
--- bytes copied inside one slice
-pub mod Moved

@@ -1,4 +1,0 @@
-use Rattle.lines.proofs.acceptance.bounds_of.Goals as goal
-
-pub returns : goal.returns
-returns c = rw c.new.ensures

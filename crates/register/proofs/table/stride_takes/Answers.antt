@@ -1,4 +1,0 @@
-use Rattle.register.proofs.table.stride_takes.Goals as goal
-
-pub returns : goal.returns
-returns c = simp c.bits.ensures

@@ -1,6 +1,0 @@
-use Rattle.std.proofs.Common.{replicate}
-use Rattle.replay_pieces.proofs.Reaching.{unread}
-use Rattle.replay_io.proofs.programs.replay_one.Goals as goal
-
-pub returns : goal.returns
-returns g c = record { memory = replicate 65536 0; replayed = unread _ _ _ }

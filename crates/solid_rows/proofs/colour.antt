@@ -1,2 +1,0 @@
--- what is made of a colour
-mod Made

@@ -1,7 +1,0 @@
-use Rattle.queue.specs.Refusals.{first_refusal}
-use Rattle.submission.proofs.cancel_refusal.Goals as goal
-
-pub returns : goal.returns
-unfolding first_refusal
-returns c =
-    rw (c.first_refusal.ensures, c.is_valid.ensures, c.first_refusal-no5.ensures, c.is_open.ensures, c.first_refusal-no14.ensures, c.staged_by.ensures)

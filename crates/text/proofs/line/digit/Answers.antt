@@ -1,8 +1,0 @@
-use borrow.Author.Tests.{lt-ltb, le-ltb}
-use Rattle.text.proofs.line.digit.Goals as goal
-
-pub returns-then-value-lt10 : goal.returns-then-value-lt10
-returns-then-value-lt10 c = simp (lt-ltb _ _ c.if-value-lt10.true)
-
-pub returns-else-value-lt10 : goal.returns-else-value-lt10
-returns-else-value-lt10 c = simp (le-ltb _ _ c.if-value-lt10.false)

@@ -1,2 +1,0 @@
--- four pixels inside one slice
-pub mod Fours
