@@ -84,7 +84,6 @@ fn read_text(
     ensures { IfOk result (λ count. count ≤ length text.new) }
 {
     let mut end = 0;
-    // Kept (no plainer): a turn takes as many bytes as came, so no `for` over the buffer fits
     while end < text.len() {
         let count = command::read_piece(rt, file, name, &mut text[end..])?.len();
         if count == 0 {
