@@ -9,7 +9,7 @@ use lib.Dec.{eqb, ltb}
 use lib.ListN.{length, drop}
 use borrow.Author.Tests.{eqb-false, ltb-false}
 use Rattle.word.specs.Field.{field}
-use Rattle.std.specs.Prelude.{Some, Result, ⊤}
+use Rattle.std.specs.Prelude.{Some, Result, Ok, ⊤}
 use Rattle.word.proofs.Tests.{or_false}
 use Rattle.ring.specs.Segment.{batch_words}
 use Rattle.register.specs.Bank.{write_register}
@@ -26,7 +26,9 @@ use Rattle.task_check.proofs.Passes.{passes}
 use Rattle.batch.specs.Batch.{DecodedBatch, BatchEnd, finished, faulty, stop_with, DecoderState, between_tasks, in_group, bad_group_length, decode_header, after_task_check, group_of, decode_from, decode_batch, without_fault, verdict_after, verdict_of, status_word_of, tasks_drawn}
 use Rattle.batch.specs.Marks.{task_end_count_from, task_end_count}
 use Rattle.batch.specs.declared.walk.BatchTasks.{BatchTasks}
-use Rattle.batch.specs.Walk.{tasks_left, GivesTask}
+use Rattle.batch.specs.declared.walk.TaskRead.{TaskRead}
+use Rattle.batch.specs.Walk.{WalkStep, decode_after_step, step_at, tasks_left, GivesTask}
+use Rattle.batch.proofs.Simulates.{simulates}
 use Rattle.batch.proofs.DecoderCases.{words_fit}
 use Rattle.batch.proofs.Steps.{faultless-finished}
 use Rattle.batch.proofs.Readings.{on_from, on_with, opened-all, wrote-all, judged-all}
@@ -59,6 +61,10 @@ module _ (bounds : Bounds) where
   -- before a fault too: each task that is drawn
   pub drawn-sound : (bank : Bank) (ws : List ℕ) → AllSound bounds (tasks_drawn (decode_batch bounds bank ws))
   drawn-sound bank ws = good-from bank 0 between_tasks ws
+
+  -- and so is the task that a step hands out
+  pub step-sound : (ws : List ℕ) (b : Bank) (k : ℕ) (s : WalkStep) → s ≡ step_at bounds ws b k → (read : TaskRead) → s ≡ Ok (Some read) → Sound bounds read.task
+  step-sound ws b k s is read e = (rw ((simulates bounds ws b k s is).same_decoding ∙ ap (decode_after_step bounds ws b) e) at (good-from b k between_tasks (drop k ws))).0
 
   -- and so are the task that is given and those that are left
   pub given-sound : (old new : BatchTasks) (task : Task) → GivesTask old (Some task) new → AllSound bounds (tasks_left old) → Sound bounds task × AllSound bounds (tasks_left new)

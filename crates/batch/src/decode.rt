@@ -60,27 +60,27 @@ fn step(batch: Reader, bounds: Bounds, bank: Bank, k: usize) -> Result<Option<Ta
     'groups: loop {
         let h = word_at(batch, head);
         if reserved_bits(h) {
-            return Err(stop(Fault::ReservedBits, head, held));
+            break 'groups Err(stop(Fault::ReservedBits, head, held));
         }
         let first = head + 1;
         let count = (h / 4 % 16384) as usize; // bits 15:2
         if (count == 0) | (n - first < count) {
-            return Err(stop(Fault::GroupLength, head, held));
+            break 'groups Err(stop(Fault::GroupLength, head, held));
         }
         let register = h / 65536 % 65536; // bits 31:16
         for i in 0..count {
             let at = first + i;
             match held.write(register + 4 * (i as u32), word_at(batch, at)) {
                 Ok(next) => held = next,
-                Err(fault) => return Err(stop(fault.into(), at, held)),
+                Err(fault) => break 'groups Err(stop(fault.into(), at, held)),
             }
         }
         let after = first + count;
         if h % 2 == 1 {
-            return judged(bounds, held, after, head);
+            break 'groups judged(bounds, held, after, head);
         }
         if n <= after {
-            return Err(stop(Fault::OpenTask, head, held));
+            break 'groups Err(stop(Fault::OpenTask, head, held));
         }
         head = after;
     }

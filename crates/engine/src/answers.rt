@@ -11,7 +11,7 @@ pub fn piece_words(answer: Result<Answer, Refusal>) -> [u32; 6]
     ensures { result ≡ piece_words answer }
 {
     match answer {
-        Err(refusal) => [refusal.number(), 0, 0, 0, 0, 0],
+        Err(refused) => [refused.number(), 0, 0, 0, 0, 0],
         Ok(Answer::Done) => [0, 0, 0, 0, 0, 0],
         Ok(Answer::Opened(client)) => [0, 0, client, 0, 0, 0],
         Ok(Answer::Accepted(ticket)) => [0, 1, ticket, 0, 0, 0],

@@ -82,6 +82,16 @@ module _ (cs : List Client) (k : ℕ) (h : k < length cs) where
     pub counts_closed : (get_or cs k no_client).opened ≡ false → pending_counts_match (k + 1) (drop (k + 1) cs) bs ≡ pending_counts_match k (drop k cs) bs
     counts_closed o = rw (counts_step bs, o)
 
+  closed_step : lowest_closed (drop k cs) ≡ cond (get_or cs k no_client).opened (suc (lowest_closed (drop (k + 1) cs))) 0
+  unfolding lowest_closed
+  closed_step = rw head_at
+
+  pub closed_here : (get_or cs k no_client).opened ≡ false → lowest_closed (drop k cs) ≡ 0
+  closed_here e = rw (closed_step, e)
+
+  pub closed_later : (get_or cs k no_client).opened ≡ true → lowest_closed (drop k cs) ≡ suc (lowest_closed (drop (k + 1) cs))
+  closed_later e = rw (closed_step, e)
+
 module _ (cs : List Client) (k : ℕ) (h : length cs ≤ k) where
   past : drop k cs ≡ []
   past = drop_of_length-le cs {i = k} h
@@ -93,6 +103,10 @@ module _ (cs : List Client) (k : ℕ) (h : length cs ≤ k) where
   pub counts_end : (bs : List Batch) → pending_counts_match k (drop k cs) bs ≡ true
   unfolding pending_counts_match
   counts_end bs = rw past
+
+  pub closed-end : lowest_closed (drop k cs) ≡ 0
+  unfolding lowest_closed
+  closed-end = rw past
 
 -- ---- places
 

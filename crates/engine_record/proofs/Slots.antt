@@ -2,7 +2,7 @@
 use Rattle.std.proofs.Common.{◌≡◌, ℕ, suc, ◌+◌, ◌<◌, ◌≤◌, Bool, true, false, cond, eqb, List, [], ◌∷◌, length, get_or, drop, sym, refl, add-one, arith, drop_of_length-le, drop-cons, ◌∙◌, is_some, count_by, Option, Some, None}
 use Rattle.std.proofs.lemmas.List.Recursion.{is_count_by}
 use Rattle.engine_record.specs.declared.Batch.{Batch}
-use Rattle.engine_record.specs.Slots.{free, cons_if_ready, ready_batches, sum_over, count_of}
+use Rattle.engine_record.specs.Slots.{free, cons_if_ready, ready_batches, sum_over, count_of, is_free_state, lowest_free}
 
 -- what one slot adds to a sum
 pub sum_added : (f : Batch → ℕ) (s : Option Batch) (bs : List Batch) → sum_over f (cons_if_ready s bs) ≡ sum_over f (cons_if_ready s []) + sum_over f bs
@@ -22,10 +22,25 @@ unfolding sum_over
 sum_most f h [] = omega arith
 sum_most f h (b ∷ bs) = omega (arith, h b, sum_most f h bs)
 
+-- a slot is free just where no batch is in it
+turned : (s : Option Batch) (n : ℕ) → cond (is_free_state s) 0 (suc n) ≡ cond (is_some s) (suc n) 0
+turned None n = refl
+turned (Some b) n = refl
+
 module _ (xs : List (Option Batch)) (i : ℕ) (h : i < length xs) where
   ready-step : ready_batches (drop i xs) ≡ cons_if_ready (get_or xs i free) (ready_batches (drop (i + 1) xs))
   unfolding ready_batches
   ready-step = rw (add-one, drop-cons xs i free)
+
+  lowest_step : lowest_free (drop i xs) ≡ cond (is_some (get_or xs i free)) (suc (lowest_free (drop (i + 1) xs))) 0
+  unfolding lowest_free
+  lowest_step = rw (add-one, drop-cons xs i free) (turned (get_or xs i free) _)
+
+  pub lowest_here : is_some (get_or xs i free) ≡ false → lowest_free (drop i xs) ≡ 0
+  lowest_here e = rw (lowest_step, e)
+
+  pub lowest_later : is_some (get_or xs i free) ≡ true → lowest_free (drop i xs) ≡ suc (lowest_free (drop (i + 1) xs))
+  lowest_later e = rw (lowest_step, e)
 
   pub sum_ready : (f : Batch → ℕ) (b : Batch) → get_or xs i free ≡ Some b → sum_over f (ready_batches (drop i xs)) ≡ f b + sum_over f (ready_batches (drop (i + 1) xs))
   unfolding sum_over
@@ -42,6 +57,10 @@ module _ (xs : List (Option Batch)) (i : ℕ) (h : length xs ≤ i) where
   pub sum-end : (f : Batch → ℕ) → sum_over f (ready_batches (drop i xs)) ≡ 0
   unfolding sum_over
   sum-end f = rw ready-end
+
+  pub lowest-end : lowest_free (drop i xs) ≡ 0
+  unfolding lowest_free
+  lowest-end = rw (drop_of_length-le xs h)
 
 -- the slot is ready with a batch of the client's
 abbrev pub is_owned : ℕ → Option Batch → Bool

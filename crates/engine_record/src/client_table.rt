@@ -54,7 +54,12 @@ pub fn lowest_closed(clients: &[Client; 4]) -> Option<usize>
     ensures lowest { MatchOption result (lowest_closed clients.now ≡ 4) (λ id. (id ≡ lowest_closed clients.now) × (id < 4)) }
     ensures full { is_none result ≡ nat_le 4 (length (windows_of clients.now)) }
 {
-    clients.iter().position(|client| !client.opened)
+    for id in 0..4 {
+        if !clients[id].opened {
+            return Some(id);
+        }
+    }
+    None
 }
 
 // Whether a client is open.

@@ -51,7 +51,12 @@ pub fn count_of(slots: &[Slot; 8], client: u32) -> usize
 pub fn lowest_free(slots: &[Slot; 8]) -> Option<usize>
     ensures { MatchOption result (lowest_free slots.now ≡ 8) (λ at. (at ≡ lowest_free slots.now) × (at < 8)) }
 {
-    slots.iter().position(|slot| slot.is_none())
+    for at in 0..8 {
+        if slots[at].is_none() {
+            return Some(at);
+        }
+    }
+    None
 }
 
 // The slot of the batch whose ticket was given k before the next one.

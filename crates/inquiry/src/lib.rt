@@ -61,14 +61,7 @@ fn after_why(
     ensures { result ≡ cond (eqb ticket asked) (explained (batch_words batch.now 0 (length batch.now)) (decode_batch bounds (file_reset First) (batch_words batch.now 0 (length batch.now)))) why }
 {
     if ticket == asked {
-        provenance::explain::explain(
-            ring::Reader {
-                ring: batch,
-                offset: 0,
-                size: batch.len(),
-            },
-            bounds,
-        )
+        provenance::explain::explain(ring::Reader::new(batch, 0, batch.len()), bounds)
     } else {
         why
     }
@@ -86,11 +79,7 @@ fn after_record(question: Question, finding: Finding, client: u32, batch: &[u8])
     match lines::acceptance::accept(client, batch) {
         None => Finding { records, ..finding },
         Some(bounds) => {
-            let whole = ring::Reader {
-                ring: batch,
-                offset: 0,
-                size: batch.len(),
-            };
+            let whole = ring::Reader::new(batch, 0, batch.len());
             let last = provenance::last_touch::after_batch(
                 whole,
                 bounds,

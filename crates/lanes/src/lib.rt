@@ -58,7 +58,7 @@ pub fn copy(d: &mut [u8], s: &[u8], o: usize)
     requires { (o + 16 ≤ length d.old) × (o + 16 ≤ length s.now) }
     ensures { Done (λ j. get_or s.now j 0) d.old d.new o (o + 16) }
 {
-    d[o..o + 16].copy_from_slice(&s[o..o + 16]);
+    bytes::copy_chunk::<16>(d, s, o);
 }
 
 // The next sixteen bytes, where there are more. In this form a loop is not taken for one to be made of vectors as a whole.

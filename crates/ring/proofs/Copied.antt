@@ -1,11 +1,12 @@
 -- Laws of a batch copied into the ring: the ring's length and each of its bytes.
-use mathlib.Core.Path.{◌≡◌, ap, ◌∙◌}
-use mathlib.Core.List.{List, ◌++◌}
+use mathlib.Core.Path.{◌≡◌, sym, ap, ◌∙◌}
+use mathlib.Core.List.{List, ◌++◌, append-nil}
 use mathlib.Core.Logic.{⊎_elim}
-use Prim.Native.Nat.{ℕ, ◌+◌, ◌-◌, ◌≤◌, ◌<◌}
+use Prim.Native.Nat.{ℕ, suc, ◌+◌, ◌-◌, ◌≤◌, ◌<◌}
+use native.Mathlib.Numerals.{add-one}
 use native.Mathlib.Omega.{arith}
-use lib.ListN.{length, take, drop, get_or, length-take, length-drop, drop_of_length-le}
-use lib.Seq.{ext_get_or, get_or-take, get_or-drop, drop-drop, take_all}
+use lib.ListN.{length, take, drop, get_or, set, length-take, length-drop, drop_of_length-le}
+use lib.Seq.{ext_get_or, get_or-take, get_or-drop, drop-drop, take-suc, drop-cons, set_at, append_snoc, take_all, length-take-le}
 use borrow.Rule.Slice.PartMut.{put_mid}
 use Rattle.word.specs.Splice.{spliced}
 use Rattle.word.proofs.Splice.{length-spliced, spliced-before, spliced_in, spliced-past}
@@ -14,6 +15,18 @@ use Rattle.ring.specs.Segment.{LiesInRing, segment, wrap_offset}
 use Rattle.ring.specs.Copied.{copied_in}
 use Rattle.ring.proofs.Wrapped.{wrapped_in, wrapped_over}
 use Rattle.ring.proofs.Segment.{length-segment, segment-byte}
+
+-- one element more of a copy from the front on
+pub copy_more : (to from : List ℕ) (i : ℕ) → i < length to → i < length from
+    → set (take i from ++ drop i to) i (get_or from i 0) ≡ take (i + 1) from ++ drop (i + 1) to
+copy_more to from i h k =
+    ap (λ (l : List ℕ). set (take i from ++ l) i (get_or from i 0)) (drop-cons to i 0 h)
+    ∙ set_at (take i from) (get_or to i 0) (drop (suc i) to) (get_or from i 0) i (length-take-le i from (omega arith))
+    ∙ sym (rw (add-one, take-suc from i 0 k) (append_snoc (take i from) (get_or from i 0) (drop (suc i) to)))
+
+-- all of them
+pub copy-all : (to from : List ℕ) (i : ℕ) → length to ≤ i → length from ≤ i → take i from ++ drop i to ≡ from
+copy-all to from i h k = rw (take_all i from k, drop_of_length-le to h) (append-nil from)
 
 -- a part that was lent from `at` on and holds ys when it comes back
 pub put_spliced : (at : ℕ) (ys xs : List ℕ) → put_mid at (at + length ys - at) xs ys ≡ spliced at ys xs

@@ -80,6 +80,16 @@ impl<'a> Reader<'a> {
     }
 }
 
+// Copies bytes one by one: the library's `copy_from_slice` makes a call of `memmove`.
+fn copy(to: &mut [u8], from: &[u8])
+    requires { length to.old ≡ length from.now }
+    ensures { to.new ≡ from.now }
+{
+    for i in 0..from.len() {
+        to[i] = from[i];
+    }
+}
+
 // Copies bytes over those from `at` on.
 #[tactic(auto, using(crate::proofs::Copied::put_spliced))]
 fn copy_at(to: &mut [u8], at: usize, from: &[u8])
@@ -87,7 +97,7 @@ fn copy_at(to: &mut [u8], at: usize, from: &[u8])
     ensures { to.new ≡ spliced at from.now to.old }
 {
     let end = at + from.len();
-    to[at..end].copy_from_slice(from);
+    copy(&mut to[at..end], from);
 }
 
 // Copies a batch into the ring from `offset` on, in one part or two.

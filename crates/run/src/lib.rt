@@ -28,11 +28,7 @@ pub fn run_by(engine: EngineRecord, ring: &[u8], memory: &mut [u8], renderer: Re
     let bounds = dequeue::bounds_for(engine, batch.client);
     let verdict = walk::run_batch(
         memory,
-        Reader {
-            ring,
-            offset: batch.offset,
-            size: batch.length,
-        },
+        Reader::new(ring, batch.offset, batch.length),
         bounds,
         dequeue::bank_for(engine),
         renderer,

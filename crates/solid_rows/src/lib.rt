@@ -55,7 +55,8 @@ fn covered_row(memory: &mut [u8], window: Range, task: Task, solid: Solid, y: u1
     solid_at(&mut memory[start..end], at, output, solid);
 }
 
-// Draws such a task.
+// Draws such a task. A function of its own, so that its loop has the registers to itself.
+#[inline(never)]
 pub fn draw_solid(memory: &mut [u8], window: Range, task: Task)
     requires { Drawable window (length memory.old) task × (kind_of window task ≡ Kind.Solid) }
     ensures { memory.new ≡ draw_task task memory.old }

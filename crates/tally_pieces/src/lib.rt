@@ -80,11 +80,7 @@ fn add_fault(running: Running, fault: Fault) -> Running
 fn add_batch(running: Running, batch: &[u8], bounds: Bounds, rule: ResetRule) -> Running
     ensures { result ≡ ran_plus (decode_batch bounds (reset_bank rule) (batch_words batch.now 0 (length batch.now))) running }
 {
-    let whole = Reader {
-        ring: batch,
-        offset: 0,
-        size: batch.len(),
-    };
+    let whole = Reader::new(batch, 0, batch.len());
     let mut tasks = BatchTasks::new(whole, bounds, Bank::reset(rule));
     let mut so_far = add(running, 0, 1);
     while let Some(task) = tasks.next() {

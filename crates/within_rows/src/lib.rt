@@ -3,6 +3,7 @@
 #![tactic(auto)]
 
 pub mod blend;
+pub mod bytes;
 
 ghost use Rattle.std.specs.Prelude.{◌≡◌, length};
 ghost use Rattle.kinds.specs.Kinds.{kind_of};

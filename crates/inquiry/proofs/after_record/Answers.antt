@@ -1,8 +1,11 @@
+use mathlib.Core.Path.{◌≡◌}
 use Prim.Native.Nat.{◌≤◌}
+use lib.ListN.{length}
 use native.Mathlib.Omega.{arith}
 use lib.Dec.{ltb}
 use borrow.Author.Tests.{ltb-false}
 use Rattle.word.proofs.Tests.{or_false}
+use Rattle.ring.specs.Segment.{batch_words}
 use Rattle.records.specs.Records.{Entry}
 use Rattle.lines.proofs.acceptance.Taken.{refused_none, within-taken}
 use Rattle.inquiry.proofs.Answering.{after-refused, after-accepted}
@@ -37,4 +40,6 @@ returns-in-Some c =
     let a = c.args in
     let entry : Entry = record { client = a.client; batch = a.batch.now } in
     let took = within-taken entry _ c.accept.ensures _ c.in-Some.is in
-    rw c.if-finding.false (after-accepted a.question a.finding entry _ _ _ took.0 (few (goal.at.returns-in-Some c).Else-finding).1 took.1 c.after_batch-last.ensures c.after_why-reason.ensures)
+    let r = c.new-whole in
+    let w : batch_words r.result.ring.now r.result.offset r.result.size ≡ batch_words a.batch.now 0 (length a.batch.now) = rw (r.ensures.0, r.ensures.1, r.ensures.2) in
+    rw c.if-finding.false (after-accepted a.question a.finding entry _ _ _ took.0 (few (goal.at.returns-in-Some c).Else-finding).1 took.1 (rw w at c.after_batch-last.ensures) c.after_why-reason.ensures)

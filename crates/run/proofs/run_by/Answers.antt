@@ -1,7 +1,8 @@
 use mathlib.Core.Path.{◌≡◌, sym, ap, ◌∙◌}
 use native.Mathlib.Omega.{arith}
 use lib.ListN.{length}
-use Prim.Native.Nat.{ℕ, ◌<◌}
+use Prim.Native.Nat.{◌<◌}
+use Rattle.ring.specs.Segment.{batch_words}
 use Rattle.engine_record.specs.declared.Batch.{Batch}
 use Rattle.engine_record.proofs.Checking.{checked_there, counted_ready}
 use Rattle.engine_record.proofs.First.{first_some, place_is}
@@ -67,8 +68,10 @@ without_oldest-requires c =
 pub returns : goal.returns
 returns c =
     let f = c.bounds_for-bounds in
-    let d = c.run_batch-verdict in
+    let b = c.batch_of-batch.result in
+    let w : batch_words c.new.result.ring.now c.new.result.offset c.new.result.size ≡ batch_words c.args.ring.now b.offset b.length = rw (c.new.ensures.0, c.new.ensures.1, c.new.ensures.2) in
+    let d = rw w at c.run_batch-verdict.ensures in
     let r = c.bank_for in
     run-made c.args.engine c.args.ring.now c.args.memory.now (sym c.in_default.ensures)
-    c.batch_of-batch.result (taken (goal.at.returns c).After-batch_of-batch) f.result f.ensures.0 r.result r.ensures
-    d.result d.ensures.0 c.without_oldest.result c.without_oldest.ensures _ d.ensures.1
+    b (taken (goal.at.returns c).After-batch_of-batch) f.result f.ensures.0 r.result r.ensures
+    c.run_batch-verdict.result d.0 c.without_oldest.result c.without_oldest.ensures _ d.1

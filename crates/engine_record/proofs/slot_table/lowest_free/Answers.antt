@@ -1,11 +1,17 @@
-use Rattle.std.proofs.Common.{rules, arith, is_none}
-use Rattle.std.proofs.lemmas.Iterator.{YieldsList-from_slice}
-use Rattle.std.proofs.lemmas.Iterator.Search.{position_from_yields_List}
-use borrow.Author.Tests.{tests}
-use Rattle.engine_record.proofs.First.{free_first}
+use Rattle.std.proofs.Common.{arith}
+use Rattle.engine_record.proofs.Slots.{lowest_here, lowest_later, lowest-end}
 use Rattle.engine_record.proofs.slot_table.lowest_free.Goals as goal
 
+pub loop-at-init : goal.loop-at-init
+loop-at-init c = omega arith
+
+pub returns-then-is_none : goal.returns-then-is_none
+returns-then-is_none c =
+    let here = lowest_here c.args.slots.now c.loop-at.at (omega (arith, c.told-slots)) c.if-is_none.ensures in
+    (omega (arith, c.loop-at.invariant, here), omega arith)
+
+pub loop-at-preserved : goal.loop-at-preserved
+loop-at-preserved c = omega (arith, c.loop-at.invariant, lowest_later c.args.slots.now c.loop-at.at (omega (arith, c.told-slots)) c.if-is_none.ensures)
+
 pub returns : goal.returns
-returns c =
-    free_first c.args.slots.now c.position.result (omega (arith, c.told-slots))
-    (position_from_yields_List (is_none) _ _ c.position.result c.position.ensures.ran (YieldsList-from_slice _ c.iter.ensures.rest) (λ x b q k. search (rules, tests)))
+returns c = omega (arith, c.loop-at.invariant, lowest-end c.args.slots.now c.loop-at.at (omega (arith, c.told-slots)))

@@ -1,0 +1,2 @@
+-- bytes copied inside one slice
+pub mod Moved

@@ -1,0 +1,2 @@
+-- four pixels inside one slice
+pub mod Fours
