@@ -11,7 +11,7 @@ pub fn close(engine: EngineRecord, memory: &mut [u8], client: u32) -> Reply
     ensures { (result ≡ close_result engine (length memory.old) client)
         × (memory.new ≡ close_memory engine memory.old client) }
 {
-    if let Err(refusal) = queue::clients::close_refusal(engine, memory.len(), client) {
+    if let Err(refusal) = queue::clients::close_refusal(&engine, memory.len(), client) {
         return Reply {
             answer: Err(refusal),
             engine: engine,

@@ -22,13 +22,13 @@ use task_check::Bounds;
 
 // Whether run is refused; `found` is what the check of the record found, `ring` and `memory` are the lengths of what is lent.
 pub fn run_refusal(
-    engine: EngineRecord,
+    engine: &EngineRecord,
     found: Option<Counted>,
     ring: usize,
     memory: usize,
 ) -> Result<(), Refusal>
-    requires { found ≡ checked_of engine }
-    ensures { refusal_number_of result ≡ first_refusal (run_table engine ring memory) }
+    requires { found ≡ checked_of engine.now }
+    ensures { refusal_number_of result ≡ first_refusal (run_table engine.now ring memory) }
 {
     let Some(counted) = found else {
         return Err(Refusal::BadRecord);

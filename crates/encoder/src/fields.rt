@@ -301,7 +301,8 @@ impl Fields {
             & self.blending.is_allowed()
     }
 
-    // The registers with these fields and steps, if each fits its bits, and each code is one.
+    // The registers with these fields and steps, if each fits its bits, and each code is one. In place: a call would copy the fields, 120 bytes.
+    #[inline(always)]
     pub(crate) fn bank(self, steps: Steps) -> Result<Bank, EncodeError>
         ensures { result ≡ cond (allowed self && steps_allowed steps) (Ok (bank_of steps self)) (Err Forbidden) }
     {

@@ -63,8 +63,8 @@ pub fn lowest_closed(clients: &[Client; 4]) -> Option<usize>
 }
 
 // Whether a client is open.
-pub fn is_open(engine: EngineRecord, client: u32) -> bool
-    ensures { result ≡ is_open engine client }
+pub fn is_open(engine: &EngineRecord, client: u32) -> bool
+    ensures { result ≡ is_open engine.now client }
 {
     client < 4 && engine.clients[client as usize].opened
 }

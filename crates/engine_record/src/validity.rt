@@ -35,9 +35,9 @@ fn fits_in(ring: usize, offset: usize, room: usize, owned: bool, b: Batch) -> bo
 }
 
 // Whether the ready batches, so many, from the oldest on lie end to end from the read offset and keep their other rules.
-fn batches_valid(engine: EngineRecord, ready: usize) -> bool
-    requires { (engine.setup.ring ≤ 32768) × (engine.read_offset < engine.setup.ring) × (ready ≡ ready_slots engine) }
-    ensures { result ≡ batch_rules engine }
+fn batches_valid(engine: &EngineRecord, ready: usize) -> bool
+    requires { (engine.now.setup.ring ≤ 32768) × (engine.now.read_offset < engine.now.setup.ring) × (ready ≡ ready_slots engine.now) }
+    ensures { result ≡ batch_rules engine.now }
 {
     let ring = engine.setup.ring;
     let mut offset = engine.read_offset;
@@ -57,8 +57,8 @@ fn batches_valid(engine: EngineRecord, ready: usize) -> bool
     true
 }
 
-fn numbers_valid(engine: EngineRecord) -> bool
-    ensures { result ≡ number_rules engine }
+fn numbers_valid(engine: &EngineRecord) -> bool
+    ensures { result ≡ number_rules engine.now }
 {
     let read = engine.read_offset;
     !bad_ring(engine.setup)
@@ -74,9 +74,9 @@ fn slot_held(slots: &[Slot; 8], at: usize) -> bool
 }
 
 // Whether the unfinished batch keeps its rules, or there is none.
-fn staged_valid(engine: EngineRecord) -> bool
-    requires { (number_rules engine ≡ true) × (batch_rules engine ≡ true) }
-    ensures { result ≡ staged_rule engine }
+fn staged_valid(engine: &EngineRecord) -> bool
+    requires { (number_rules engine.now ≡ true) × (batch_rules engine.now ≡ true) }
+    ensures { result ≡ staged_rule engine.now }
 {
     let staged = engine.staged;
     let total = staged.total;
@@ -91,9 +91,9 @@ fn staged_valid(engine: EngineRecord) -> bool
 }
 
 // Whether the record, with so many ready slots, keeps every rule.
-fn rules_kept(engine: EngineRecord, ready: usize) -> bool
-    requires { ready ≡ ready_slots engine }
-    ensures { result ≡ valid engine }
+fn rules_kept(engine: &EngineRecord, ready: usize) -> bool
+    requires { ready ≡ ready_slots engine.now }
+    ensures { result ≡ valid engine.now }
 {
     if !numbers_valid(engine) {
         return false;
@@ -107,10 +107,11 @@ fn rules_kept(engine: EngineRecord, ready: usize) -> bool
     staged_valid(engine)
 }
 
-// Checks a record. A call does so once and hands on what was found: a pass over the slots costs more than the rest of the call.
-pub fn check(engine: EngineRecord) -> Option<Counted>
-    ensures found { result ≡ checked_of engine }
-    ensures few { ready_slots engine ≤ 8 }
+// Checks a record. A call does so once and hands on what was found: a pass over the slots costs more than the rest of the call. The record is lent,
+// and not copied for each function that looks at it.
+pub fn check(engine: &EngineRecord) -> Option<Counted>
+    ensures found { result ≡ checked_of engine.now }
+    ensures few { ready_slots engine.now ≤ 8 }
 {
     let ready = ready_slots(&engine.slots);
     if !rules_kept(engine, ready) {
@@ -123,8 +124,8 @@ pub fn check(engine: EngineRecord) -> Option<Counted>
 }
 
 // Whether the record keeps every rule.
-pub fn is_valid(engine: EngineRecord) -> bool
-    ensures { result ≡ valid engine }
+pub fn is_valid(engine: &EngineRecord) -> bool
+    ensures { result ≡ valid engine.now }
 {
     check(engine).is_some()
 }

@@ -77,8 +77,8 @@ pub fn set_up(ring: usize, memory: usize, common: usize, reset: ResetRule) -> Re
 }
 
 #[tactic(auto, unfolding(crate::specs::Refusals::first_refusal))]
-fn open_refusal(engine: EngineRecord, w: Window) -> Result<(), Refusal>
-    ensures { refusal_number_of result ≡ first_refusal (open_table engine w) }
+fn open_refusal(engine: &EngineRecord, w: Window) -> Result<(), Refusal>
+    ensures { refusal_number_of result ≡ first_refusal (open_table engine.now w) }
 {
     crate::refuse(
         !engine_record::validity::is_valid(engine),
@@ -114,7 +114,7 @@ pub fn open(engine: EngineRecord, start: u32, size: u32) -> Reply
         start: start,
         length: size,
     };
-    if let Err(refusal) = open_refusal(engine, w) {
+    if let Err(refusal) = open_refusal(&engine, w) {
         return Reply {
             answer: Err(refusal),
             engine: engine,
@@ -129,8 +129,8 @@ pub fn open(engine: EngineRecord, start: u32, size: u32) -> Reply
 
 // Whether close is refused; `given` is the length of the memory that is lent.
 #[tactic(auto, unfolding(crate::specs::Refusals::first_refusal))]
-pub fn close_refusal(engine: EngineRecord, given: usize, client: u32) -> Result<(), Refusal>
-    ensures { refusal_number_of result ≡ first_refusal (close_table engine given client) }
+pub fn close_refusal(engine: &EngineRecord, given: usize, client: u32) -> Result<(), Refusal>
+    ensures { refusal_number_of result ≡ first_refusal (close_table engine.now given client) }
 {
     let setup = engine.setup;
     let staged = engine.staged;
@@ -182,8 +182,8 @@ fn pending_at(clients: [Client; 4], client: u32) -> u32
 }
 
 #[tactic(auto, unfolding(crate::specs::Refusals::first_refusal))]
-fn pending_refusal(engine: EngineRecord, client: u32) -> Result<(), Refusal>
-    ensures { refusal_number_of result ≡ first_refusal (pending_table engine client) }
+fn pending_refusal(engine: &EngineRecord, client: u32) -> Result<(), Refusal>
+    ensures { refusal_number_of result ≡ first_refusal (pending_table engine.now client) }
 {
     crate::refuse(
         !engine_record::validity::is_valid(engine),
@@ -199,7 +199,7 @@ fn pending_refusal(engine: EngineRecord, client: u32) -> Result<(), Refusal>
 pub fn pending(engine: EngineRecord, client: u32) -> Result<Answer, Refusal>
     ensures { result ≡ pending_answer engine client }
 {
-    pending_refusal(engine, client)?;
+    pending_refusal(&engine, client)?;
     let clients = engine.clients;
     Ok(Answer::Ready(pending_at(clients, client)))
 }

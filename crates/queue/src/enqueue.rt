@@ -71,7 +71,7 @@ pub fn submit_refusal(
     let staged = engine.staged;
     crate::refuse(!(given == ring), Refusal::OtherLength)?;
     crate::refuse(
-        !engine_record::client_table::is_open(engine, client),
+        !engine_record::client_table::is_open(&engine, client),
         Refusal::NotOpen,
     )?;
     crate::refuse(!(staged.total == 0), Refusal::OneStaged)?;

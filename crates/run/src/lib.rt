@@ -16,8 +16,8 @@ use ring::Reader;
 pub fn run_by(engine: EngineRecord, ring: &[u8], memory: &mut [u8], renderer: Renderer) -> RunResult
     ensures { RunBy renderer engine ring.now memory.old result memory.new }
 {
-    let found = engine_record::validity::check(engine);
-    if let Err(refusal) = dequeue::run_refusal(engine, found, ring.len(), memory.len()) {
+    let found = engine_record::validity::check(&engine);
+    if let Err(refusal) = dequeue::run_refusal(&engine, found, ring.len(), memory.len()) {
         return RunResult {
             outcome: Err(refusal),
             engine: engine,

@@ -19,7 +19,7 @@ pub fn submit(engine: EngineRecord, ring: &mut [u8], client: u32, batch: &[u8]) 
         × (ring.new ≡ submit_ring engine ring.old client batch.now) }
 {
     let size = batch.len();
-    let found = engine_record::validity::check(engine);
+    let found = engine_record::validity::check(&engine);
     if let Err(refused) = queue::enqueue::submit_refusal(engine, found, ring.len(), client, size) {
         return Reply {
             answer: Err(refused),
@@ -55,7 +55,7 @@ fn with_staged(engine: EngineRecord, staged: Staged) -> EngineRecord
 pub fn begin(engine: EngineRecord, ring: &[u8], client: u32, total: usize) -> Reply
     ensures { result ≡ begin_result engine (length ring.now) client total }
 {
-    let found = engine_record::validity::check(engine);
+    let found = engine_record::validity::check(&engine);
     if let Err(refusal) = queue::enqueue::submit_refusal(engine, found, ring.len(), client, total) {
         return Reply {
             answer: Err(refusal),
@@ -84,14 +84,14 @@ fn missing_bytes(staged: Staged) -> usize
 
 #[tactic(auto, using(engine_record::proofs::Checking::checked_none), unfolding(queue::specs::Refusals::first_refusal))]
 fn piece_refusal(
-    engine: EngineRecord,
+    engine: &EngineRecord,
     found: Option<Counted>,
     given: usize,
     client: u32,
     size: usize,
 ) -> Result<(), Refusal>
-    requires { found ≡ checked_of engine }
-    ensures { refusal_number_of result ≡ first_refusal (piece_table engine given client size) }
+    requires { found ≡ checked_of engine.now }
+    ensures { refusal_number_of result ≡ first_refusal (piece_table engine.now given client size) }
 {
     let setup = engine.setup;
     let staged = engine.staged;
@@ -135,8 +135,8 @@ pub fn piece(engine: EngineRecord, ring: &mut [u8], client: u32, piece: &[u8]) -
         × (ring.new ≡ piece_ring engine ring.old client piece.now) }
 {
     let size = piece.len();
-    let found = engine_record::validity::check(engine);
-    if let Err(refusal) = piece_refusal(engine, found, ring.len(), client, size) {
+    let found = engine_record::validity::check(&engine);
+    if let Err(refusal) = piece_refusal(&engine, found, ring.len(), client, size) {
         return Reply {
             answer: Err(refusal),
             engine: engine,
@@ -163,8 +163,8 @@ pub fn piece(engine: EngineRecord, ring: &mut [u8], client: u32, piece: &[u8]) -
 }
 
 #[tactic(auto, unfolding(queue::specs::Refusals::first_refusal))]
-fn cancel_refusal(engine: EngineRecord, client: u32) -> Result<(), Refusal>
-    ensures { refusal_number_of result ≡ first_refusal (cancel_table engine client) }
+fn cancel_refusal(engine: &EngineRecord, client: u32) -> Result<(), Refusal>
+    ensures { refusal_number_of result ≡ first_refusal (cancel_table engine.now client) }
 {
     queue::refuse(
         !engine_record::validity::is_valid(engine),
@@ -182,7 +182,7 @@ fn cancel_refusal(engine: EngineRecord, client: u32) -> Result<(), Refusal>
 pub fn cancel(engine: EngineRecord, client: u32) -> Reply
     ensures { result ≡ cancel_result engine client }
 {
-    if let Err(refusal) = cancel_refusal(engine, client) {
+    if let Err(refusal) = cancel_refusal(&engine, client) {
         return Reply {
             answer: Err(refusal),
             engine: engine,

@@ -11,20 +11,23 @@ use Rattle.engine_record.proofs.validity.batches_valid.Goals as goal
 
 -- the walk from the start on decides the rules
 decided : (c : Start) →
-    walk c.args.engine.setup.ring (is_open c.args.engine) c.args.ready c.args.engine.next_ticket c.args.engine.slots c.args.engine.read_offset c.args.engine.setup.ring
-    ≡ batch_rules c.args.engine
-decided c = rw c.requires.2 (walk-rules c.args.engine _ _ _ _ _ _)
+    walk c.args.engine.now.setup.ring (is_open c.args.engine.now) c.args.ready c.args.engine.now.next_ticket c.args.engine.now.slots c.args.engine.now.read_offset c.args.engine.now.setup.ring
+    ≡ batch_rules c.args.engine.now
+decided c = rw c.requires.2 (walk-rules c.args.engine.now _ _ _ _ _ _)
 
 -- what the test of a batch gives
-fits-answer : (c : After-fits_in) → let engine = c.args.engine in
+fits-answer : (c : After-fits_in) → let engine = c.args.engine.now in
     c.fits_in.result ≡ fits_in engine.setup.ring (is_open engine) c.loop-k.offset c.loop-k.room c.batch_of-b.result
 fits-answer c = c.fits_in.ensures ∙ rw c.is_open-owned.ensures
 
-fit : (c : Else-not-fits_in) → let engine = c.args.engine in
+fit : (c : Else-not-fits_in) → let engine = c.args.engine.now in
     fits_in engine.setup.ring (is_open engine) c.loop-k.offset c.loop-k.room c.batch_of-b.result ≡ true
-fit c = sym (fits-answer c.before) ∙ not-false _ c.if-not-fits_in.false-raw
+fit c =
+    let engine = c.args.engine.now in
+    let e : c.fits_in.result ≡ fits_in engine.setup.ring (is_open engine) c.loop-k.offset c.loop-k.room c.batch_of-b.result = c.fits_in.ensures ∙ rw c.is_open-owned.ensures in
+    sym e ∙ not-false _ c.if-not-fits_in.false-raw
 
-fits : (c : Else-not-fits_in) → let engine = c.args.engine in
+fits : (c : Else-not-fits_in) → let engine = c.args.engine.now in
     Fitting engine.setup.ring (is_open engine) c.loop-k.offset c.loop-k.room c.batch_of-b.result
 fits c = fitting _ _ _ _ _ (fit c)
 
@@ -36,7 +39,7 @@ room_most : (ring size room : ℕ) → room ≤ ring → room - size ≤ ring
 room_most ring size room r = omega arith
 
 pub slot_of_age-requires : goal.slot_of_age-requires
-slot_of_age-requires c = omega (arith, ready_most c.args.engine.slots, c.requires.2)
+slot_of_age-requires c = omega (arith, ready_most c.args.engine.now.slots, c.requires.2)
 
 pub returns-in_default : goal.returns-in_default
 returns-in_default c =

@@ -1,10 +1,12 @@
 use Prim.Native.Nat.{◌*◌, ◌/◌}
 use native.Mathlib.Omega.{arith}
 use Rattle.lanes.proofs.bytes.Moved.{more_moved, shorter}
+use borrow.Author.Rules.{rules}
 use Rattle.lanes.proofs.bytes.copy_within.Goals as goal
 
 pub copy_blocks-requires : goal.copy_blocks-requires
-copy_blocks-requires c = shorter _ c.args.to c.args.from c.args.n _ (omega arith) c.requires
+copy_blocks-requires c =
+    (shorter _ c.args.to c.args.from c.args.n _ (omega arith) c.requires, search rules)
 
 pub returns : goal.returns
 returns c =
