@@ -1,12 +1,15 @@
-use Rattle.std.proofs.Common.{◌≡◌, ℕ, ◌+◌, ◌-◌, ◌<◌, ◌≤◌, true, sym, ◌∙◌, arith}
+use Rattle.std.proofs.Common.{◌≡◌, ℕ, Bool, ◌+◌, ◌-◌, ◌<◌, ◌≤◌, true, not, ◌&&◌, ◌==◌, nat_le, sym, ◌∙◌, arith}
 use borrow.Author.Tests.{not-true, not-false}
 use Rattle.engine_record.proofs.Slots.{ready_most}
 use Rattle.engine_record.proofs.Walk.{walk, walk-missing, walk_unfit, walk-next, walk-done, Fitting, fitting, fits_in, walk-rules}
 use Rattle.engine_record.specs.Clients.{is_open}
 use Rattle.engine_record.specs.Rules.{batch_rules}
+use Rattle.engine_record.specs.Setup.{bad_length}
+use Rattle.engine_record.specs.declared.Batch.{Batch}
+use Rattle.engine_record.specs.declared.EngineRecord.{EngineRecord}
 use Rattle.ring.specs.Segment.{wrap_offset}
 use Rattle.ring.proofs.Wrapped.{wrapped_below}
-use Rattle.engine_record.proofs.validity.batches_valid.Goals.{After-fits_in, Else-not-fits_in, Start}
+use Rattle.engine_record.proofs.validity.batches_valid.Goals.{Else-not-fits_in, Start}
 use Rattle.engine_record.proofs.validity.batches_valid.Goals as goal
 
 -- the walk from the start on decides the rules
@@ -15,17 +18,14 @@ decided : (c : Start) →
     ≡ batch_rules c.args.engine.now
 decided c = rw c.requires.2 (walk-rules c.args.engine.now _ _ _ _ _ _)
 
--- what the test of a batch gives
-fits-answer : (c : After-fits_in) → let engine = c.args.engine.now in
-    c.fits_in.result ≡ fits_in engine.setup.ring (is_open engine) c.loop-k.offset c.loop-k.room c.batch_of-b.result
-fits-answer c = c.fits_in.ensures ∙ rw c.is_open-owned.ensures
+-- what the test of a batch gives, where `owned` says whether its client is open
+fits-answer : (engine : EngineRecord) (offset room : ℕ) (b : Batch) (owned answer : Bool) → owned ≡ is_open engine b.client
+    → answer ≡ (b.offset == offset && not (bad_length engine.setup.ring b.length) && nat_le b.length room && owned) → answer ≡ fits_in engine.setup.ring (is_open engine) offset room b
+fits-answer engine offset room b owned answer o f = f ∙ rw o
 
 fit : (c : Else-not-fits_in) → let engine = c.args.engine.now in
     fits_in engine.setup.ring (is_open engine) c.loop-k.offset c.loop-k.room c.batch_of-b.result ≡ true
-fit c =
-    let engine = c.args.engine.now in
-    let e : c.fits_in.result ≡ fits_in engine.setup.ring (is_open engine) c.loop-k.offset c.loop-k.room c.batch_of-b.result = c.fits_in.ensures ∙ rw c.is_open-owned.ensures in
-    sym e ∙ not-false _ c.if-not-fits_in.false-raw
+fit c = sym (fits-answer c.args.engine.now c.loop-k.offset c.loop-k.room c.batch_of-b.result _ _ c.is_open-owned.ensures c.fits_in.ensures) ∙ not-false _ c.if-not-fits_in.false-raw
 
 fits : (c : Else-not-fits_in) → let engine = c.args.engine.now in
     Fitting engine.setup.ring (is_open engine) c.loop-k.offset c.loop-k.room c.batch_of-b.result
@@ -48,7 +48,7 @@ returns-in_default c =
 pub returns-then-not-fits_in : goal.returns-then-not-fits_in
 returns-then-not-fits_in c =
     let j = c.batch_of-b in
-    let e = sym (fits-answer (goal.at.returns-then-not-fits_in c).After-fits_in) ∙ not-true _ c.if-not-fits_in.true-raw in
+    let e = sym (fits-answer c.args.engine.now c.loop-k.offset c.loop-k.room c.batch_of-b.result _ _ c.is_open-owned.ensures c.fits_in.ensures) ∙ not-true _ c.if-not-fits_in.true-raw in
     walk_unfit _ _ _ _ _ _ _ c.loop-k-test.true c.in-Some.i c.in-Some.ensures.0 (omega (arith, c.in-Some.ensures.1)) j.result j.ensures e ∙ c.loop-k.invariant.2 ∙ decided (goal.at.returns-then-not-fits_in c).Start
 
 pub overflow_add-offset : goal.overflow_add-offset
